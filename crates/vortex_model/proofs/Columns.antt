@@ -1,0 +1,95 @@
+-- What stands in a column of rows of a type.
+use Rattle.std.proofs.Common.{◌≡◌, refl, sym, ap, subst, ℕ, zero, suc, List, [], ◌∷◌, Bool, true, false, Option, Some, None, option_map, option_and_then, map, if◌then◌else◌}
+use Rattle.std.specs.List.{AllByRecursion}
+use Rattle.vortex_model.specs.Kind.{Kind, boolean, integer, struct, extension, Fields, no_fields, field, Nullability, non_nullable, nullable, stored, within, with_nullability}
+use Rattle.vortex_model.specs.Content.{Content, null, tuple, Contents, nothing, first, nth}
+use Rattle.vortex_model.specs.Valid.{IsContent, Holds, FieldsHold}
+use Rattle.vortex_model.specs.Path.{Positions, field_at, type_at, at}
+use Rattle.vortex_model.specs.Kept.{kept_fault, first_unkept, names_distinct, is_leaf}
+use Rattle.vortex_model.specs.Refusal.{repeated_name}
+use Rattle.vortex_model.specs.Pruning.{is_never_shortened}
+use Rattle.vortex_model.proofs.Kept.{loosened}
+
+some_same : {X : Type 0} (x y : X) → Some x ≡ Some y → x ≡ y
+some_same {X} x y e = ap (value_or x) e
+  where
+    value_or : X → Option X → X
+    value_or d None = d
+    value_or d (Some z) = z
+
+null_loose : (k : Kind) → Holds (stored (with_nullability nullable k)) null
+null_loose (extension id meta k) = null_loose k
+null_loose k = tt
+
+null_within : (is : Positions) → at null is ≡ null
+null_within [] = refl
+null_within (i ∷ is) = null_within is
+
+field_content : (fs : Fields) (cs : Contents) (i : ℕ) (part : Kind) → FieldsHold fs cs → field_at fs i ≡ Some part → Holds (stored part) (nth cs i)
+field_content (field x k fs) (first c cs) zero part h e = subst (λ l. Holds (stored l) c) (some_same k part e) h.0
+field_content (field x k fs) (first c cs) (suc i) part h e = field_content fs cs i part h.1 e
+field_content no_fields cs i part h e = absurd (cc (e))
+field_content (field x k fs) nothing i part h e = absurd h
+
+-- of a type at positions behind a first step: the part and the type within it
+record Stepped (n : Nullability) (o : Option Kind) (is : Positions) (t : Kind) : Type 0 where
+  part : Kind
+  inner : Kind
+  there : o ≡ Some part
+  type : type_at part is ≡ Some inner
+  result : within n inner ≡ t
+
+stepped_within : (n : Nullability) (part : Kind) (is : Positions) (t : Kind) (p : Option Kind) → type_at part is ≡ p → option_map (within n) p ≡ Some t → Stepped n (Some part) is t
+stepped_within n part is t None e h = absurd (cc (h))
+stepped_within n part is t (Some inner) e h = record { part = part; inner = inner; there = refl; type = e; result = some_same (within n inner) t h }
+
+stepped : (n : Nullability) (o : Option Kind) (is : Positions) (t : Kind) → option_map (within n) (option_and_then (λ part. type_at part is) o) ≡ Some t → Stepped n o is t
+stepped n None is t e = absurd (cc (e))
+stepped n (Some part) is t e = stepped_within n part is t (type_at part is) refl e
+
+loosened_within : (n : Nullability) (k t : Kind) (c : Content) → within n k ≡ t → Holds (stored k) c → Holds (stored t) c
+loosened_within non_nullable k t c e h = subst (λ l. Holds (stored l) c) e h
+loosened_within nullable k t c e h = subst (λ l. Holds (stored l) c) e (loosened k c h)
+
+-- what stands in a row of a type, at positions of the type, is of the type there
+pub at_type : (k : Kind) (is : Positions) (t : Kind) (row : Content) → type_at k is ≡ Some t → Holds (stored k) row → Holds (stored t) (at row is)
+at_type k [] t row e h = subst (λ l. Holds (stored l) row) (some_same k t e) h
+at_type (struct fs n) (i ∷ is) t (tuple cs) e h =
+    let s = stepped n (field_at fs i) is t e in
+    loosened_within n s.inner t (at (nth cs i) is) s.result (at_type s.part is s.inner (nth cs i) s.type (field_content fs cs i s.part h s.there))
+at_type (struct fs nullable) (i ∷ is) t null e h =
+    let s = stepped nullable (field_at fs i) is t e in
+    subst (λ c. Holds (stored t) c) (sym (null_within is)) (subst (λ l. Holds (stored l) null) s.result (null_loose s.inner))
+at_type (struct fs n) (i ∷ is) t row e h = absurd h
+at_type k (i ∷ is) t row e h = absurd (cc (e))
+
+pub all_at_type : (k : Kind) (is : Positions) (t : Kind) (rows : List Content) → type_at k is ≡ Some t →
+    AllByRecursion (IsContent k) rows → AllByRecursion (IsContent t) (map (λ row. at row is) rows)
+all_at_type k is t [] e h = tt
+all_at_type k is t (row ∷ rows) e h = (at_type k is t row e h.0, all_at_type k is t rows e h.1)
+
+-- ---- the columns of what tables hold so far
+
+none_so : (b : Bool) (fs : Fields) → (if b then first_unkept fs else Some repeated_name) ≡ None → first_unkept fs ≡ None
+none_so true fs e = e
+none_so false fs e = absurd (cc (e))
+
+field_kept : (fs : Fields) (i : ℕ) (part : Kind) → first_unkept fs ≡ None → field_at fs i ≡ Some part → is_never_shortened part ≡ true
+field_kept (field x (integer j n) fs) zero part h e = ap is_never_shortened (sym (some_same (integer j n) part e))
+field_kept (field x (integer j n) fs) (suc i) part h e = field_kept fs i part h e
+field_kept (field x k fs) i part h e = absurd (cc (h))
+field_kept no_fields i part h e = absurd (cc (e))
+
+leaf_kept : (part : Kind) (is : Positions) (inner : Kind) → is_never_shortened part ≡ true → type_at part is ≡ Some inner → is_never_shortened inner ≡ true
+leaf_kept part [] inner w e = subst (λ l. is_never_shortened l ≡ true) (some_same part inner e) w
+leaf_kept (integer j n) (i ∷ is) inner w e = absurd (cc (e))
+leaf_kept (boolean n) (i ∷ is) inner w e = absurd (cc (e))
+leaf_kept part (i ∷ is) inner w e = absurd (cc (w))
+
+-- a leaf of a table is of integers so far
+pub kept_leaf : (k : Kind) (is : Positions) (t : Kind) → kept_fault k ≡ None → type_at k is ≡ Some t → is_leaf t ≡ true → is_never_shortened t ≡ true
+kept_leaf (struct fs non_nullable) [] t h e w = absurd (let f : is_leaf t ≡ false = ap is_leaf (sym (some_same (struct fs non_nullable) t e)) in cc (f, w))
+kept_leaf (struct fs non_nullable) (i ∷ is) t h e w =
+    let s = stepped non_nullable (field_at fs i) is t e in
+    subst (λ l. is_never_shortened l ≡ true) s.result (leaf_kept s.part is s.inner (field_kept fs i s.part (none_so (names_distinct fs) fs h) s.there) s.type)
+kept_leaf k is t h e w = absurd (cc (h))

@@ -1,0 +1,186 @@
+-- The zone map of a column whose values are their own bounds is honest.
+use Rattle.std.proofs.Common.{◌≡◌, refl, sym, ◌∙◌, ap, subst, ℕ, suc, ℤ, List, [], ◌∷◌, Bool, true, false, not, if◌then◌else◌, Option, Some, None, arith, Contains}
+use Rattle.std.specs.List.{AllByRecursion}
+use Rattle.std.specs.Ordering.{int_cmp, bool_cmp, is_le, ordering_reverse}
+use Rattle.std.specs.declared.cmp.Ordering.{Ordering}
+use Rattle.std.specs.declared.cmp.Ordering.TheVariants.{Less, Equal, Greater}
+use Rattle.std.specs.Cmp.{bool_cmp_total}
+use Rattle.std.proofs.lemmas.Cmp.{int_cmp_total, nat_list_cmp_total}
+use Rattle.vortex_model.specs.Kind.{Kind, IntKind, boolean, integer}
+use Rattle.vortex_model.specs.Content.{Content, null, truth, whole, text, blob, is_null}
+use Rattle.vortex_model.specs.Valid.{IsContent, in_range}
+use Rattle.vortex_model.specs.Order.{at_most, IsAtMost}
+use Rattle.vortex_model.specs.Bounds.{low, high, is_longer}
+use Rattle.vortex_model.specs.Typing.{sum_kind}
+use Rattle.vortex_model.specs.Statistics.{Precision, exact, absent, non_null, lesser, greater, least_of, greatest_of, sum_of, IsLeast, IsGreatest, IsHonest, IsHonestLeast, IsHonestGreatest, IsHonestValue}
+use Rattle.vortex_model.specs.ZoneMap.{bound_of, sum_in, zone_of, statistics_of}
+use Rattle.vortex_model.specs.Pruning.{is_never_shortened}
+use Rattle.vortex_model.proofs.ContentOrder.{le_trans}
+
+-- ---- the order of leaves
+
+pub at_most_trans : (a b c : Content) → IsAtMost a b → IsAtMost b c → IsAtMost a c
+at_most_trans (truth a) (truth b) (truth c) h g = le_trans bool_cmp_total a b c h g
+at_most_trans (whole a) (whole b) (whole c) h g = le_trans int_cmp_total a b c h g
+at_most_trans (text a) (text b) (text c) h g = le_trans nat_list_cmp_total a b c h g
+at_most_trans (blob a) (blob b) (blob c) h g = le_trans nat_list_cmp_total a b c h g
+at_most_trans (truth a) (truth b) c h g = absurd (cc (g))
+at_most_trans (whole a) (whole b) c h g = absurd (cc (g))
+at_most_trans (text a) (text b) c h g = absurd (cc (g))
+at_most_trans (blob a) (blob b) c h g = absurd (cc (g))
+at_most_trans a b c h g = absurd (cc (h))
+
+reversed_le : (o : Ordering) → is_le o ≡ false → is_le (ordering_reverse o) ≡ true
+reversed_le Less h = absurd (cc (h))
+reversed_le Equal h = absurd (cc (h))
+reversed_le Greater h = refl
+
+-- a value of the type that is not null, where the type is integers or truth values
+abbrev pub IsValueOf : Kind → Content → Type 0
+IsValueOf (integer i n) (whole z) = Unit {0}
+IsValueOf (boolean n) (truth b) = Unit {0}
+IsValueOf k c = ⊥
+
+its_value : (k : Kind) (c : Content) → is_never_shortened k ≡ true → IsContent k c → is_null c ≡ false → IsValueOf k c
+its_value (integer i n) (whole z) w h e = tt
+its_value (integer i n) null w h e = absurd (cc (e))
+its_value (integer i n) c w h e = absurd h
+its_value (boolean n) (truth b) w h e = tt
+its_value (boolean n) null w h e = absurd (cc (e))
+its_value (boolean n) c w h e = absurd h
+its_value k c w h e = absurd (cc (w))
+
+total : (k : Kind) (c d : Content) → IsValueOf k c → IsValueOf k d → at_most c d ≡ false → IsAtMost d c
+total (integer i n) (whole a) (whole b) p q h = ap is_le (int_cmp_total.antisymm b a) ∙ reversed_le (int_cmp a b) h
+total (boolean n) (truth a) (truth b) p q h = ap is_le (bool_cmp_total.antisymm b a) ∙ reversed_le (bool_cmp a b) h
+total (integer i n) (whole a) d p q h = absurd q
+total (integer i n) c d p q h = absurd p
+total (boolean n) (truth a) d p q h = absurd q
+total (boolean n) c d p q h = absurd p
+total k c d p q h = absurd p
+
+its_own_reverse : (o : Ordering) → o ≡ ordering_reverse o → o ≡ Equal
+its_own_reverse Less e = absurd (cc (e))
+its_own_reverse Equal e = refl
+its_own_reverse Greater e = absurd (cc (e))
+
+at_most_itself : (k : Kind) (c : Content) → IsValueOf k c → IsAtMost c c
+at_most_itself (integer i n) (whole a) p = ap is_le (its_own_reverse (int_cmp a a) (int_cmp_total.antisymm a a))
+at_most_itself (boolean n) (truth a) p = ap is_le (its_own_reverse (bool_cmp a a) (bool_cmp_total.antisymm a a))
+at_most_itself (integer i n) c p = absurd p
+at_most_itself (boolean n) c p = absurd p
+at_most_itself k c p = absurd p
+
+own_low : (k : Kind) (L : ℕ) (c : Content) → IsValueOf k c → bound_of (is_longer L c) (low L c) ≡ exact c
+own_low (integer i n) L (whole a) p = refl
+own_low (boolean n) L (truth a) p = refl
+own_low (integer i n) L c p = absurd p
+own_low (boolean n) L c p = absurd p
+own_low k L c p = absurd p
+
+abbrev high_bound : ℕ → Content → Precision Content
+high_bound L v = elim (high L v) [ None ↦ absent | Some h ↦ bound_of (is_longer L v) h ]
+
+own_high : (k : Kind) (L : ℕ) (c : Content) → IsValueOf k c → high_bound L c ≡ exact c
+own_high (integer i n) L (whole a) p = refl
+own_high (boolean n) L (truth a) p = refl
+own_high (integer i n) L c p = absurd p
+own_high (boolean n) L c p = absurd p
+own_high k L c p = absurd p
+
+-- ---- the least and the greatest
+
+all_mapped : {X : Type 0} (P Q : X → Type 0) → ((x : X) → P x → Q x) → (xs : List X) → AllByRecursion P xs → AllByRecursion Q xs
+all_mapped P Q f [] h = tt
+all_mapped P Q f (x ∷ xs) h = (f x h.0, all_mapped P Q f xs h.1)
+
+contains_more : (c v : Content) (cs : List Content) → Contains cs v → Contains (c ∷ cs) v
+contains_more c v cs h = (suc h.0, (let p = h.1 in omega (arith, p)), h.2)
+
+contains_first : (c : Content) (cs : List Content) → Contains (c ∷ cs) c
+contains_first c cs = (0, omega arith, refl)
+
+module _ (k : Kind) where
+  abbrev FoundLeast : Option Content → List Content → Type 0
+  FoundLeast None cs = cs ≡ []
+  FoundLeast (Some v) cs = IsValueOf k v × IsLeast v cs
+
+  abbrev FoundGreatest : Option Content → List Content → Type 0
+  FoundGreatest None cs = cs ≡ []
+  FoundGreatest (Some v) cs = IsValueOf k v × IsGreatest v cs
+
+  lesser_found : (c d : Content) (cs : List Content) (b : Bool) → at_most c d ≡ b → IsValueOf k c → FoundLeast (Some d) cs → FoundLeast (Some (if b then c else d)) (c ∷ cs)
+  lesser_found c d cs true e p h = (
+    p,
+    record {
+      among = contains_first c cs;
+      least = (at_most_itself k c p, all_mapped (IsAtMost d) (IsAtMost c) (λ x g. at_most_trans c d x e g) cs (h.1).least);
+    },
+  )
+  lesser_found c d cs false e p h = (h.0, record { among = contains_more c d cs (h.1).among; least = (total k c d p h.0 e, (h.1).least) })
+
+  least_step : (c : Content) (cs : List Content) (o : Option Content) → IsValueOf k c → FoundLeast o cs → FoundLeast (elim o [ None ↦ Some c | Some d ↦ Some (lesser c d) ]) (c ∷ cs)
+  least_step c cs None p h = (p, record { among = contains_first c cs; least = (at_most_itself k c p, subst (AllByRecursion (IsAtMost c)) (sym h) tt) })
+  least_step c cs (Some d) p h = lesser_found c d cs (at_most c d) refl p h
+
+  least_found : (cs : List Content) → AllByRecursion (IsValueOf k) cs → FoundLeast (least_of cs) cs
+  least_found [] h = refl
+  least_found (c ∷ cs) h = least_step c cs (least_of cs) h.0 (least_found cs h.1)
+
+  greater_found : (c d : Content) (cs : List Content) (b : Bool) → at_most c d ≡ b → IsValueOf k c → FoundGreatest (Some d) cs → FoundGreatest (Some (if b then d else c)) (c ∷ cs)
+  greater_found c d cs true e p h = (h.0, record { among = contains_more c d cs (h.1).among; greatest = (e, (h.1).greatest) })
+  greater_found c d cs false e p h = (
+    p,
+    record {
+      among = contains_first c cs;
+      greatest = (at_most_itself k c p, all_mapped (λ x. IsAtMost x d) (λ x. IsAtMost x c) (λ x g. at_most_trans x d c g (total k c d p h.0 e)) cs (h.1).greatest);
+    },
+  )
+
+  greatest_step : (c : Content) (cs : List Content) (o : Option Content) → IsValueOf k c → FoundGreatest o cs → FoundGreatest (elim o [ None ↦ Some c | Some d ↦ Some (greater c d) ]) (c ∷ cs)
+  greatest_step c cs None p h = (p, record { among = contains_first c cs; greatest = (at_most_itself k c p, subst (AllByRecursion (λ x. IsAtMost x c)) (sym h) tt) })
+  greatest_step c cs (Some d) p h = greater_found c d cs (at_most c d) refl p h
+
+  greatest_found : (cs : List Content) → AllByRecursion (IsValueOf k) cs → FoundGreatest (greatest_of cs) cs
+  greatest_found [] h = refl
+  greatest_found (c ∷ cs) h = greatest_step c cs (greatest_of cs) h.0 (greatest_found cs h.1)
+
+  -- ---- the zone map
+
+  low_honest : (L : ℕ) (cs : List Content) (o : Option Content) → FoundLeast o (non_null cs) → IsHonestLeast (elim o [ None ↦ absent | Some v ↦ bound_of (is_longer L v) (low L v) ]) cs
+  low_honest L cs None h = tt
+  low_honest L cs (Some v) h = subst (λ p. IsHonestLeast p cs) (sym (own_low k L v h.0)) h.1
+
+  high_honest : (L : ℕ) (cs : List Content) (o : Option Content) → FoundGreatest o (non_null cs) → IsHonestGreatest (elim o [ None ↦ absent | Some v ↦ high_bound L v ]) cs
+  high_honest L cs None h = tt
+  high_honest L cs (Some v) h = subst (λ p. IsHonestGreatest p cs) (sym (own_high k L v h.0)) h.1
+
+  values_kept : (w : is_never_shortened k ≡ true) (c : Content) (cs : List Content) (b : Bool) → is_null c ≡ b → IsContent k c →
+      AllByRecursion (IsValueOf k) (non_null cs) → AllByRecursion (IsValueOf k) (if not b then c ∷ non_null cs else non_null cs)
+  values_kept w c cs true e h g = g
+  values_kept w c cs false e h g = (its_value k c w h e, g)
+
+  values_of : (w : is_never_shortened k ≡ true) (cs : List Content) → AllByRecursion (IsContent k) cs → AllByRecursion (IsValueOf k) (non_null cs)
+  values_of w [] h = tt
+  values_of w (c ∷ cs) h = values_kept w c cs (is_null c) refl h.0 (values_of w cs h.1)
+
+  total_honest : (o : Option IntKind) (z : ℤ) → IsHonestValue (sum_in o z) z
+  total_honest None z = tt
+  total_honest (Some i) z = by_test (in_range i z)
+    where
+      by_test : (b : Bool) → IsHonestValue (if b then exact z else absent) z
+      by_test true = refl
+      by_test false = tt
+
+  -- the type may also be another than k, since only the sum's type depends on it
+  pub honest_zone : (l : Kind) (L : ℕ) (cs : List Content) → is_never_shortened k ≡ true → AllByRecursion (IsContent k) cs → IsHonest (statistics_of (zone_of l L cs)) cs
+  honest_zone l L cs w h = record {
+    least = low_honest L cs (least_of (non_null cs)) (least_found (non_null cs) (values_of w cs h));
+    greatest = high_honest L cs (greatest_of (non_null cs)) (greatest_found (non_null cs) (values_of w cs h));
+    total = total_honest (sum_kind l) (sum_of cs);
+    nulls = refl;
+    nans = tt;
+    constant = refl;
+    sorted = tt;
+    strictly_sorted = tt;
+  }

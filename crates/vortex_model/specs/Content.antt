@@ -1,0 +1,75 @@
+-- What a value says, whatever its type.
+use Rattle.std.specs.Prelude.{ℕ, zero, suc, ℤ, List, [], ◌∷◌, Bool, true, false}
+use Rattle.vortex_model.specs.Kind.{Kind, IntKind}
+
+-- A text is its UTF-8. `tagged` is a union's value, and `scalar` a variant's: a type and its value.
+mutual
+  pub data Content : Type 0 where
+    null : Content
+    truth : Bool → Content
+    whole : ℤ → Content
+    text : List ℕ → Content
+    blob : List ℕ → Content
+    tuple : Contents → Content
+    tagged : ℤ → Content → Content
+    scalar : Kind → Content → Content
+
+  pub data Contents : Type 0 where
+    nothing : Contents
+    first : Content → Contents → Contents
+
+-- A raw value is a content whose numbers carry an integer kind.
+mutual
+  pub data Raw : Type 0 where
+    raw_null : Raw
+    raw_truth : Bool → Raw
+    raw_number : IntKind → ℤ → Raw
+    raw_text : List ℕ → Raw
+    raw_blob : List ℕ → Raw
+    raw_tuple : Raws → Raw
+    raw_tagged : ℤ → Raw → Raw
+    raw_scalar : Kind → Raw → Raw
+
+  pub data Raws : Type 0 where
+    no_raws : Raws
+    raw_first : Raw → Raws → Raws
+
+-- what a raw value says
+abbrev mutual
+  pub content_of : Raw → Content
+  content_of raw_null = null
+  content_of (raw_truth b) = truth b
+  content_of (raw_number i z) = whole z
+  content_of (raw_text bs) = text bs
+  content_of (raw_blob bs) = blob bs
+  content_of (raw_tuple rs) = tuple (contents_of rs)
+  content_of (raw_tagged t r) = tagged t (content_of r)
+  content_of (raw_scalar k r) = scalar k (content_of r)
+
+  pub contents_of : Raws → Contents
+  contents_of no_raws = nothing
+  contents_of (raw_first r rs) = first (content_of r) (contents_of rs)
+
+-- how many they are
+abbrev pub count : Contents → ℕ
+count nothing = 0
+count (first c cs) = suc (count cs)
+
+abbrev pub raw_count : Raws → ℕ
+raw_count no_raws = 0
+raw_count (raw_first r rs) = suc (raw_count rs)
+
+-- the content at this place, and null past the end
+abbrev pub nth : Contents → ℕ → Content
+nth nothing i = null
+nth (first c cs) zero = c
+nth (first c cs) (suc i) = nth cs i
+
+-- the contents of a list
+abbrev pub contents_from : List Content → Contents
+contents_from [] = nothing
+contents_from (c ∷ cs) = first c (contents_from cs)
+
+abbrev pub is_null : Content → Bool
+is_null null = true
+is_null c = false

@@ -1,0 +1,40 @@
+-- A type and a row, cut by a list of paths.
+use Rattle.std.specs.Prelude.{List, [], ◌∷◌, ◌++◌, ◌||◌, Bool, if◌then◌else◌}
+use Rattle.std.specs.List.{list_any}
+use Rattle.vortex_model.specs.Kind.{Kind, struct, Fields, no_fields, field}
+use Rattle.vortex_model.specs.Content.{Content, tuple, Contents, nothing, first}
+use Rattle.vortex_model.specs.Path.{Names, begins}
+
+-- a path of the list covers this one or begins with it
+abbrev pub is_kept : List Names → Names → Bool
+is_kept paths here = list_any (λ path. begins path here || begins here path) paths
+
+-- Of the record at `here`, the fields that are kept, each cut in turn. What is no record is whole.
+abbrev mutual
+  pub cut_kind : List Names → Names → Kind → Kind
+  cut_kind paths here (struct fs n) = struct (cut_fields paths here fs) n
+  cut_kind paths here k = k
+
+  pub cut_fields : List Names → Names → Fields → Fields
+  cut_fields paths here no_fields = no_fields
+  cut_fields paths here (field x k fs) =
+      if is_kept paths (here ++ x ∷ []) then field x (cut_kind paths (here ++ x ∷ []) k) (cut_fields paths here fs) else cut_fields paths here fs
+
+-- the same of a row, where null stays null
+abbrev mutual
+  pub cut_content : List Names → Names → Kind → Content → Content
+  cut_content paths here (struct fs n) (tuple cs) = tuple (cut_contents paths here fs cs)
+  cut_content paths here k c = c
+
+  pub cut_contents : List Names → Names → Fields → Contents → Contents
+  cut_contents paths here (field x k fs) (first c cs) =
+      if is_kept paths (here ++ x ∷ []) then first (cut_content paths (here ++ x ∷ []) k c) (cut_contents paths here fs cs) else cut_contents paths here fs cs
+  cut_contents paths here fs cs = nothing
+
+-- the type of an answer's rows
+abbrev pub cut_type : List Names → Kind → Kind
+cut_type paths k = cut_kind paths [] k
+
+-- a row as it is answered
+abbrev pub cut_row : List Names → Kind → Content → Content
+cut_row paths k row = cut_content paths [] k row

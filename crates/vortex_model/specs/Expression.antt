@@ -1,0 +1,45 @@
+-- Predicates, and the proofs that are made of them, as trees.
+use Rattle.std.specs.Prelude.{Bool, true, false, ◌||◌}
+use Rattle.vortex_model.specs.Kind.{Kind}
+use Rattle.vortex_model.specs.Content.{Content}
+use Rattle.vortex_model.specs.Path.{Names}
+
+-- the six comparisons
+pub data Comparison : Type 0 where
+  equal not_equal greater at_least less at_most : Comparison
+
+-- what a placeholder asks of the values of an expression
+pub data Aggregate : Type 0 where
+  min max sum null_count nan_count size min_max all_null all_non_null all_nan all_non_nan : Aggregate
+
+-- A column is a path of names, and none is the row itself. `between` has its flags for strict ends, lower first; `like` says whether it is negated and whether case is ignored. `row_count` and the placeholder `statistic` stand in proofs.
+pub data Expression : Type 0 where
+  literal : Kind → Content → Expression
+  column : Names → Expression
+  compare : Comparison → Expression → Expression → Expression
+  both : Expression → Expression → Expression
+  either : Expression → Expression → Expression
+  negation : Expression → Expression
+  is_null : Expression → Expression
+  is_not_null : Expression → Expression
+  is_nan : Expression → Expression
+  between : Expression → Expression → Expression → Bool → Bool → Expression
+  like : Expression → Expression → Bool → Bool → Expression
+  row_count : Expression
+  statistic : Expression → Aggregate → Expression
+
+-- it reads a column other than in a placeholder
+abbrev pub reads_columns : Expression → Bool
+reads_columns (literal k c) = false
+reads_columns (column xs) = true
+reads_columns (compare op x y) = reads_columns x || reads_columns y
+reads_columns (both x y) = reads_columns x || reads_columns y
+reads_columns (either x y) = reads_columns x || reads_columns y
+reads_columns (negation x) = reads_columns x
+reads_columns (is_null x) = reads_columns x
+reads_columns (is_not_null x) = reads_columns x
+reads_columns (is_nan x) = reads_columns x
+reads_columns (between x lo hi lower_strict upper_strict) = reads_columns x || reads_columns lo || reads_columns hi
+reads_columns (like x form negated ignores_case) = reads_columns x || reads_columns form
+reads_columns row_count = false
+reads_columns (statistic x a) = false

@@ -1,0 +1,64 @@
+-- The types that a table can hold, and their leaves.
+use Rattle.std.specs.Prelude.{◌≡◌, ℕ, List, Option, Some, None, Bool, true, false, not, ◌&&◌, ◌||◌, if◌then◌else◌}
+use Rattle.std.specs.Str.{bytes_eq}
+use Rattle.vortex_model.specs.Kind.{Kind, boolean, integer, utf8, binary, list, fixed_list, struct, Fields, no_fields, field, non_nullable}
+use Rattle.vortex_model.specs.Path.{Positions, type_at}
+use Rattle.vortex_model.specs.Refusal.{Refusal, not_a_record, unkept_type, repeated_name, or_else}
+
+-- a field has the name
+abbrev pub has_name : List ℕ → Fields → Bool
+has_name x no_fields = false
+has_name x (field y k fs) = bytes_eq x y || has_name x fs
+
+-- no name stands twice
+abbrev pub names_distinct : Fields → Bool
+names_distinct no_fields = true
+names_distinct (field x k fs) = not (has_name x fs) && names_distinct fs
+
+-- The first fault of a part: a record's names go before its parts, and these from left to right.
+abbrev mutual
+  pub part_fault : Kind → Option Refusal
+  part_fault (boolean n) = None
+  part_fault (integer i n) = None
+  part_fault (utf8 n) = None
+  part_fault (binary n) = None
+  part_fault (list k n) = part_fault k
+  part_fault (fixed_list k m n) = part_fault k
+  part_fault (struct fs n) = if names_distinct fs then fields_fault fs else Some repeated_name
+  part_fault k = Some unkept_type
+
+  pub fields_fault : Fields → Option Refusal
+  fields_fault no_fields = None
+  fields_fault (field x k fs) = or_else (part_fault k) (fields_fault fs)
+
+-- why a table can't hold the type: the root is to be a non-nullable record
+abbrev pub type_fault : Kind → Option Refusal
+type_fault (struct fs non_nullable) = part_fault (struct fs non_nullable)
+type_fault k = Some not_a_record
+
+-- a table can hold the type
+abbrev pub CanHold : Kind → Type 0
+CanHold k = type_fault k ≡ None
+
+-- the first part that is no integer
+abbrev pub first_unkept : Fields → Option Refusal
+first_unkept no_fields = None
+first_unkept (field x (integer i n) fs) = first_unkept fs
+first_unkept (field x k fs) = Some unkept_type
+
+-- Why a table can't hold the type so far: tables hold a record of integers. Names go before parts.
+abbrev pub kept_fault : Kind → Option Refusal
+kept_fault (struct fs non_nullable) = if names_distinct fs then first_unkept fs else Some repeated_name
+kept_fault k = Some not_a_record
+
+-- a Bool, an integer, a text or bytes
+abbrev pub is_leaf : Kind → Bool
+is_leaf (boolean n) = true
+is_leaf (integer i n) = true
+is_leaf (utf8 n) = true
+is_leaf (binary n) = true
+is_leaf k = false
+
+-- these positions lead, through records alone, to a leaf
+abbrev pub is_leaf_at : Kind → Positions → Bool
+is_leaf_at k is = elim (type_at k is) [ None ↦ false | Some leaf ↦ is_leaf leaf ]

@@ -1,0 +1,80 @@
+-- Laws of skipping: what a true proof says of the rows.
+use Rattle.std.specs.Prelude.{◌≡◌, ℕ, List, [], ◌++◌, length, map, filter, flat_map, Some, None, Bool, true, false, ◌&&◌}
+use Rattle.std.specs.List.{AllByRecursion}
+use Rattle.vortex_model.specs.Kind.{Kind, boolean, integer}
+use Rattle.vortex_model.specs.Content.{Content}
+use Rattle.vortex_model.specs.Valid.{IsContent}
+use Rattle.vortex_model.specs.Path.{Names}
+use Rattle.vortex_model.specs.Kept.{kept_fault}
+use Rattle.vortex_model.specs.Expression.{Expression, both, either, like}
+use Rattle.vortex_model.specs.Truth.{selects}
+use Rattle.vortex_model.specs.Cut.{cut_row}
+use Rattle.vortex_model.specs.Table.{Table, rows_of, answer}
+use Rattle.vortex_model.specs.Statistics.{IsHonest}
+use Rattle.vortex_model.specs.ZoneMap.{zone_of, statistics_of}
+use Rattle.vortex_model.specs.Rewrite.{falsifier, satisfier}
+use Rattle.vortex_model.specs.Sound.{IsSoundFalsifier, IsSoundSatisfier}
+use Rattle.vortex_model.specs.Scan.{Outcome, skipped_in_group, skipped, whole, tested, chunk_outcome, chunk_zone, proves}
+use Rattle.vortex_model.specs.Command.{predicate_fault, appended}
+
+-- no condition of the predicate is a LIKE
+abbrev pub has_no_like : Expression → Bool
+has_no_like (both x y) = has_no_like x && has_no_like y
+has_no_like (either x y) = has_no_like x && has_no_like y
+has_no_like (like x form negated ignores_case) = false
+has_no_like e = true
+
+-- the bounds of such a column are its least and its greatest value, never shortened
+abbrev pub is_never_shortened : Kind → Bool
+is_never_shortened (integer i n) = true
+is_never_shortened (boolean n) = true
+is_never_shortened k = false
+
+-- what a scan takes of a chunk with this outcome: nothing, all, or what passes the test
+abbrev pub found_in : (Content → Bool) → Outcome → List Content → List Content
+found_in p skipped_in_group chunk = []
+found_in p skipped chunk = []
+found_in p whole chunk = chunk
+found_in p tested chunk = filter p chunk
+
+-- the built-in proof that no row satisfies a predicate may be believed, of any rows
+abbrev pub FalsifiersAreSound : Type 0
+FalsifiersAreSound = (k : Kind) (e proof : Expression) → has_no_like e ≡ true → falsifier k e ≡ Some proof → IsSoundFalsifier k e proof
+
+-- and the one that each row does
+abbrev pub SatisfiersAreSound : Type 0
+SatisfiersAreSound = (k : Kind) (e proof : Expression) → satisfier k e ≡ Some proof → IsSoundSatisfier k e proof
+
+-- the zone map of a column of integers or of truth values is honest
+abbrev pub ZoneMapsAreHonest : Type 0
+ZoneMapsAreHonest = (k : Kind) (L : ℕ) (cs : List Content) → is_never_shortened k ≡ true → AllByRecursion (IsContent k) cs → IsHonest (statistics_of (zone_of k L cs)) cs
+
+-- A predicate that may be asked of a table of what tables hold so far.
+pub record IsAsked (t : Table) (e : Expression) : Type 0 where
+  pub kept : kept_fault t.kind ≡ None
+  pub faultless : predicate_fault t.kind e ≡ None
+  pub no_like : has_no_like e ≡ true
+
+-- a chunk whose zone maps falsify the predicate has no row that it selects
+abbrev pub SkippedChunksHoldNone : Type 0
+SkippedChunksHoldNone = (t : Table) (e : Expression) (chunk : List Content) → IsAsked t e → AllByRecursion (IsContent t.kind) chunk →
+    proves (chunk_zone t chunk) (length chunk) (falsifier t.kind e) ≡ true → filter (selects t.kind e) chunk ≡ []
+
+-- one whose zone maps satisfy it has no other
+abbrev pub WholeChunksHoldAll : Type 0
+WholeChunksHoldAll = (t : Table) (e : Expression) (chunk : List Content) → IsAsked t e → AllByRecursion (IsContent t.kind) chunk →
+    proves (chunk_zone t chunk) (length chunk) (satisfier t.kind e) ≡ true → filter (selects t.kind e) chunk ≡ chunk
+
+-- so a scan that skips chunks, or takes them whole, finds the rows that one without zone maps does
+abbrev pub SkippingLosesNone : Type 0
+SkippingLosesNone = (t : Table) (e : Expression) → IsAsked t e → AllByRecursion (λ chunk. AllByRecursion (IsContent t.kind) chunk) t.chunks →
+    filter (selects t.kind e) (rows_of t) ≡ flat_map (λ chunk. found_in (selects t.kind e) (chunk_outcome t e chunk) chunk) t.chunks
+
+-- tables of one type with the same rows in order answer each scan with the same rows, whatever their chunks
+abbrev pub ChunksDoNotShow : Type 0
+ChunksDoNotShow = (t u : Table) (paths : List Names) (e : Expression) → t.kind ≡ u.kind → rows_of t ≡ rows_of u → answer t paths e ≡ answer u paths e
+
+-- behind an append a scan answers the earlier rows as before, and then those of the batch that it selects
+abbrev pub AppendsAnswerBehind : Type 0
+AppendsAnswerBehind = (t : Table) (rows : List Content) (paths : List Names) (e : Expression) →
+    answer (appended t rows) paths e ≡ answer t paths e ++ map (cut_row paths t.kind) (filter (selects t.kind e) rows)

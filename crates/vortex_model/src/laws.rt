@@ -1,0 +1,179 @@
+//! Laws over the definitions alone. Each function's clause is a law.
+ghost use Rattle.vortex_model.specs.Laws.{
+  ConversionsCompose,
+  LowsOfBytes,
+  HighsOfBytes,
+  ConversionsAreValid,
+  ValidValuesAreContents,
+  ContentsAreSaid,
+  TrueSelectsAll,
+  FalseSelectsNone,
+  RootIsWhole,
+  RootTypeIsWhole,
+  AnswersAreOfTheirType,
+  HopelessBoxesHoldNone,
+  LowsAreBelow,
+  HighsAreAbove,
+  HopelessChunksHoldNone,
+  TestsOfValidityAreRight,
+  TestsOfConversionAreRight,
+  TestsOfEqualityAreRight,
+  KeptTypesCanBeHeld,
+  BuiltInProofsReadNoColumns,
+  StepsKeepTables,
+};
+ghost use Rattle.vortex_model.specs.Pruning.{
+  FalsifiersAreSound,
+  SatisfiersAreSound,
+  ZoneMapsAreHonest,
+  SkippedChunksHoldNone,
+  WholeChunksHoldAll,
+  SkippingLosesNone,
+  ChunksDoNotShow,
+  AppendsAnswerBehind,
+};
+
+/// Two conversions that succeed succeed as one.
+pub fn conversions_compose()
+    ensures { ConversionsCompose }
+{}
+
+/// What a content of one type is converted to is one of the other.
+pub fn conversions_are_valid()
+    ensures { ConversionsAreValid }
+{}
+
+/// A valid raw value says a content of its type.
+pub fn valid_values_are_contents()
+    ensures { ValidValuesAreContents }
+{}
+
+/// Each content of a type is what some valid raw value says.
+pub fn contents_are_said()
+    ensures { ContentsAreSaid }
+{}
+
+/// A scan by literal true answers every row.
+pub fn true_selects_all()
+    ensures { TrueSelectsAll }
+{}
+
+/// A scan by literal false answers none.
+pub fn false_selects_none()
+    ensures { FalseSelectsNone }
+{}
+
+/// The root path asks for the whole row.
+pub fn root_is_whole()
+    ensures { RootIsWhole }
+{}
+
+/// The root path asks for the whole type.
+pub fn root_type_is_whole()
+    ensures { RootTypeIsWhole }
+{}
+
+/// The rows of an answer are of its type.
+pub fn answers_are_of_their_type()
+    ensures { AnswersAreOfTheirType }
+{}
+
+/// No row whose columns lie in a hopeless box satisfies the predicate.
+pub fn hopeless_boxes_hold_none()
+    ensures { HopelessBoxesHoldNone }
+{}
+
+/// A value is not below its low.
+pub fn lows_are_below()
+    ensures { LowsAreBelow }
+{}
+
+/// A value that is no text is not above its high.
+pub fn highs_are_above()
+    ensures { HighsAreAbove }
+{}
+
+/// No row of a chunk with a hopeless box satisfies a predicate of the wide class.
+pub fn hopeless_chunks_hold_none()
+    ensures { HopelessChunksHoldNone }
+{}
+
+/// Exactly what is valid passes the test for it.
+pub fn tests_of_validity_are_right()
+    ensures { TestsOfValidityAreRight }
+{}
+
+/// Exactly what converts passes the test for it.
+pub fn tests_of_conversion_are_right()
+    ensures { TestsOfConversionAreRight }
+{}
+
+/// Exactly equal types pass the test for equality.
+pub fn tests_of_equality_are_right()
+    ensures { TestsOfEqualityAreRight }
+{}
+
+/// What is kept so far is what a table of the whole product can hold.
+pub fn kept_types_can_be_held()
+    ensures { KeptTypesCanBeHeld }
+{}
+
+/// The built-in proofs read placeholders alone, and no column.
+pub fn built_in_proofs_read_no_columns()
+    ensures { BuiltInProofsReadNoColumns }
+{}
+
+/// A command, accepted or refused, leaves a table.
+pub fn steps_keep_tables()
+    ensures { StepsKeepTables }
+{}
+
+/// The low of bytes is their longest beginning of that length.
+pub fn lows_of_bytes()
+    ensures { LowsOfBytes }
+{}
+
+/// The high of longer bytes is the least string of that length above.
+pub fn highs_of_bytes()
+    ensures { HighsOfBytes }
+{}
+
+/// Where the built-in proof that no row satisfies a predicate is true, no row does.
+pub fn falsifiers_are_sound()
+    ensures { FalsifiersAreSound }
+{}
+
+/// Where the built-in proof that each row does is true, each row does.
+pub fn satisfiers_are_sound()
+    ensures { SatisfiersAreSound }
+{}
+
+/// The zone map of a column of integers or of truth values is honest.
+pub fn zone_maps_are_honest()
+    ensures { ZoneMapsAreHonest }
+{}
+
+/// A chunk that a scan skips has no row that the predicate selects.
+pub fn skipped_chunks_hold_none()
+    ensures { SkippedChunksHoldNone }
+{}
+
+/// A chunk that a scan takes whole has no other.
+pub fn whole_chunks_hold_all()
+    ensures { WholeChunksHoldAll }
+{}
+
+/// A scan that skips chunks finds the rows that one without zone maps does.
+pub fn skipping_loses_none()
+    ensures { SkippingLosesNone }
+{}
+
+/// Tables of one type with the same rows in order answer each scan with the same rows.
+pub fn chunks_do_not_show()
+    ensures { ChunksDoNotShow }
+{}
+
+/// Behind an append a scan answers the earlier rows, and then those of the batch.
+pub fn appends_answer_behind()
+    ensures { AppendsAnswerBehind }
+{}
