@@ -1,0 +1,4 @@
+pub mod Equal
+pub mod Fault
+pub mod Parts
+pub mod View
