@@ -1,0 +1,125 @@
+//! Integers of the eight kinds.
+ghost use Rattle.std.specs.Prelude.{◌≡◌, ◌&&◌, true, is_some, IfSome};
+ghost use Rattle.std.specs.Ordering.{int_cmp};
+ghost use Rattle.vortex_model.specs.Kind.{same_int_kind};
+ghost use Rattle.vortex_model.specs.Valid.{in_range};
+ghost use Rattle.vortex_dtype.specs.View.{int_kind_of};
+ghost use Rattle.vortex_scalar.specs.View.{kind_of_number, integer_of};
+
+use std::cmp::Ordering;
+use vortex_dtype::ptype::PType;
+
+/// An integer of a kind, as Vortex's `PValue`.
+#[derive(Clone, Copy, Debug, PartialEq, Eq)]
+pub enum PValue {
+    U8(u8),
+    U16(u16),
+    U32(u32),
+    U64(u64),
+    I8(i8),
+    I16(i16),
+    I32(i32),
+    I64(i64),
+}
+
+impl PValue {
+    /// The kind.
+    pub fn ptype(self) -> PType
+        ensures { int_kind_of result ≡ kind_of_number self }
+    {
+        match self {
+            PValue::U8(_) => PType::U8,
+            PValue::U16(_) => PType::U16,
+            PValue::U32(_) => PType::U32,
+            PValue::U64(_) => PType::U64,
+            PValue::I8(_) => PType::I8,
+            PValue::I16(_) => PType::I16,
+            PValue::I32(_) => PType::I32,
+            PValue::I64(_) => PType::I64,
+        }
+    }
+
+    /// The number.
+    pub fn get(self) -> i128
+        ensures number { result ≡ integer_of self }
+        ensures in_range { in_range (kind_of_number self) (integer_of self) ≡ true }
+    {
+        match self {
+            PValue::U8(number) => i128::from(number),
+            PValue::U16(number) => i128::from(number),
+            PValue::U32(number) => i128::from(number),
+            PValue::U64(number) => i128::from(number),
+            PValue::I8(number) => i128::from(number),
+            PValue::I16(number) => i128::from(number),
+            PValue::I32(number) => i128::from(number),
+            PValue::I64(number) => i128::from(number),
+        }
+    }
+
+    /// The number as one of the kind, and `None` where it is out of range.
+    pub fn of(ptype: PType, number: i128) -> Option<PValue>
+        ensures when { is_some result ≡ in_range (int_kind_of ptype) number }
+        ensures kind { IfSome result (λ value. kind_of_number value ≡ int_kind_of ptype) }
+        ensures number { IfSome result (λ value. integer_of value ≡ number) }
+    {
+        match ptype {
+            PType::U8 => match u8::try_from(number) {
+                Ok(number) => Some(PValue::U8(number)),
+                Err(_) => None,
+            },
+            PType::U16 => match u16::try_from(number) {
+                Ok(number) => Some(PValue::U16(number)),
+                Err(_) => None,
+            },
+            PType::U32 => match u32::try_from(number) {
+                Ok(number) => Some(PValue::U32(number)),
+                Err(_) => None,
+            },
+            PType::U64 => match u64::try_from(number) {
+                Ok(number) => Some(PValue::U64(number)),
+                Err(_) => None,
+            },
+            PType::I8 => match i8::try_from(number) {
+                Ok(number) => Some(PValue::I8(number)),
+                Err(_) => None,
+            },
+            PType::I16 => match i16::try_from(number) {
+                Ok(number) => Some(PValue::I16(number)),
+                Err(_) => None,
+            },
+            PType::I32 => match i32::try_from(number) {
+                Ok(number) => Some(PValue::I32(number)),
+                Err(_) => None,
+            },
+            PType::I64 => match i64::try_from(number) {
+                Ok(number) => Some(PValue::I64(number)),
+                Err(_) => None,
+            },
+        }
+    }
+
+    /// The same number as one of the kind, and `None` where it is out of range.
+    pub fn cast(self, ptype: PType) -> Option<PValue>
+        ensures when { is_some result ≡ in_range (int_kind_of ptype) (integer_of self) }
+        ensures kind { IfSome result (λ value. kind_of_number value ≡ int_kind_of ptype) }
+        ensures number { IfSome result (λ value. integer_of value ≡ integer_of self) }
+    {
+        PValue::of(ptype, self.get())
+    }
+
+    /// Whether the number is of the kind.
+    pub fn is_of(self, ptype: PType) -> bool
+        ensures { result ≡ (same_int_kind (kind_of_number self) (int_kind_of ptype) && in_range (int_kind_of ptype) (integer_of self)) }
+    {
+        // Tells the proof that the number is in the range of its own kind.
+        let _ = self.get();
+        self.ptype() == ptype
+    }
+
+    /// The order of the whole numbers, whatever their kinds.
+    pub fn compare(self, other: PValue) -> Ordering
+        ensures { result ≡ int_cmp (integer_of self) (integer_of other) }
+    {
+        self.get().cmp(&other.get())
+    }
+}
