@@ -1,0 +1,62 @@
+-- What proofs are made, by cases.
+use Rattle.std.proofs.Common.{◌≡◌, List, [], ◌∷◌, Some, None, Bool, true, false, not, ◌&&◌, ◌||◌, refl, if◌then◌else◌}
+use Rattle.vortex_model.specs.Kind.{Kind}
+use Rattle.vortex_model.specs.Content.{Content, null, truth, whole, text, blob, tuple, tagged, scalar}
+use Rattle.vortex_model.specs.Expression.{Expression, literal, Comparison}
+use Rattle.vortex_model.specs.Rewrite.{is_bounded, is_float_placeholder, comparison_falsifier, comparison_falsifiers, guarded, no_nan_by_count, no_nan_by_flag, joined_proofs, falsifier, satisfier}
+use Rattle.vortex_expr.specs.Literals.{literal_falsifier, literal_satisfier}
+
+joined_if : (a b f g : Bool) (guards : List Expression) (p : Expression) → a ≡ true → b ≡ true → f ≡ false → g ≡ false →
+    joined_proofs (if not (a && b) then [] else (if f || g then guards else p ∷ [])) ≡ Some p
+joined_if true true false false guards p h i j k = refl
+joined_if a b f g guards p h i j k = cc
+
+left_open : (a b f g : Bool) (guards : List Expression) (p : Expression) → a ≡ false →
+    joined_proofs (if not (a && b) then [] else (if f || g then guards else p ∷ [])) ≡ None
+left_open false b f g guards p h = refl
+left_open true b f g guards p h = cc
+
+right_open : (a b f g : Bool) (guards : List Expression) (p : Expression) → b ≡ false →
+    joined_proofs (if not (a && b) then [] else (if f || g then guards else p ∷ [])) ≡ None
+right_open true false f g guards p h = refl
+right_open false b f g guards p h = refl
+right_open true true f g guards p h = cc
+
+module _ (k : Kind) (op : Comparison) (l r : Expression) where
+  abbrev guards : List Expression
+  guards = guarded no_nan_by_count (is_float_placeholder k l) (is_float_placeholder k r) l r (comparison_falsifier op l r)
+      ∷ guarded no_nan_by_flag (is_float_placeholder k l) (is_float_placeholder k r) l r (comparison_falsifier op l r) ∷ []
+
+  pub one_proof : is_bounded k l ≡ true → is_bounded k r ≡ true → is_float_placeholder k l ≡ false → is_float_placeholder k r ≡ false →
+      joined_proofs (comparison_falsifiers k op l r) ≡ Some (comparison_falsifier op l r)
+  one_proof = joined_if (is_bounded k l) (is_bounded k r) (is_float_placeholder k l) (is_float_placeholder k r) guards (comparison_falsifier op l r)
+
+  pub unbounded_left : is_bounded k l ≡ false → joined_proofs (comparison_falsifiers k op l r) ≡ None
+  unbounded_left = left_open (is_bounded k l) (is_bounded k r) (is_float_placeholder k l) (is_float_placeholder k r) guards (comparison_falsifier op l r)
+
+  pub unbounded_right : is_bounded k r ≡ false → joined_proofs (comparison_falsifiers k op l r) ≡ None
+  unbounded_right = right_open (is_bounded k l) (is_bounded k r) (is_float_placeholder k l) (is_float_placeholder k r) guards (comparison_falsifier op l r)
+
+pub falsifier-literal : (k l : Kind) (c : Content) → falsifier k (literal l c) ≡ literal_falsifier c
+falsifier-literal k l null = refl
+falsifier-literal k l (truth b) = refl
+falsifier-literal k l (whole z) = refl
+falsifier-literal k l (text bs) = refl
+falsifier-literal k l (blob bs) = refl
+falsifier-literal k l (tuple cs) = refl
+falsifier-literal k l (tagged t c) = refl
+falsifier-literal k l (scalar j c) = refl
+
+pub satisfier-literal : (k l : Kind) (c : Content) → satisfier k (literal l c) ≡ literal_satisfier c
+satisfier-literal k l null = refl
+satisfier-literal k l (truth b) = refl
+satisfier-literal k l (whole z) = refl
+satisfier-literal k l (text bs) = refl
+satisfier-literal k l (blob bs) = refl
+satisfier-literal k l (tuple cs) = refl
+satisfier-literal k l (tagged t c) = refl
+satisfier-literal k l (scalar j c) = refl
+
+pub ruleset of_comparison = (one_proof, unbounded_left, unbounded_right)
+
+pub ruleset of_literal = (falsifier-literal, satisfier-literal)

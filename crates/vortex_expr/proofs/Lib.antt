@@ -1,0 +1,4 @@
+pub mod Items
+pub mod Classes
+pub mod Falsifiers
+pub mod Checks

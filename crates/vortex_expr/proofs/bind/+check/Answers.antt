@@ -1,0 +1,16 @@
+use Rattle.vortex_dtype.specs.View.{kind_of}
+use Rattle.vortex_scalar.specs.Scalar.{scalar_content}
+use Rattle.vortex_expr.specs.Tree.{comparison_of}
+use Rattle.vortex_expr.proofs.Checks.{compare_checked}
+use Rattle.vortex_expr.proofs.bind.+check.Goals as goal
+
+pub returns-in-Literal : goal.returns-in-Literal
+returns-in-Literal t c =
+    rw (← c.e.view_is, c.in-Literal.is) (c.check_literal.ensures (kind_of c.args.dtype.now) (scalar_content c.in-Literal.value))
+
+pub returns-in_ok-right-in-Compare : goal.returns-in_ok-right-in-Compare
+returns-in_ok-right-in-Compare t c =
+    rw (← c.e.view_is, c.in-Compare.is, ← c.deref.ensures, ← c.deref-in-Compare.ensures)
+    (compare_checked (kind_of c.args.dtype.now) (comparison_of c.in-Compare.field-0) c.deref.result.now c.deref-in-Compare.result.now
+    c.in_ok-left-in-Compare.left c.in_ok-right-in-Compare.right c.check_same.result
+    c.in_ok-left-in-Compare.ensures c.in_ok-right-in-Compare.ensures c.check_same.ensures)

@@ -1,0 +1,15 @@
+pub mod KindCode
+pub mod ContentCode
+pub mod TreeCode
+pub mod Tree
+pub mod TreeOf
+pub mod TreeFalls
+pub mod Bound
+pub mod BoundCode
+pub mod BoundTree
+pub mod BoundFalls
+pub mod Seen
+pub mod Types
+pub mod Literals
+pub mod Faults
+pub mod Stats

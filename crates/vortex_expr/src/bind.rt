@@ -1,0 +1,254 @@
+//! What is wrong with a predicate over rows of a type, and its columns as positions.
+ghost use Rattle.std.specs.Prelude.{◌≡◌, IfOk, IfErr, OnOk, option_map, None, true};
+ghost use Rattle.vortex_model.specs.Kind.{Kind};
+ghost use Rattle.vortex_model.specs.Content.{Content};
+ghost use Rattle.vortex_model.specs.Expression.{literal, column};
+ghost use Rattle.vortex_model.specs.Path.{positions};
+ghost use Rattle.vortex_model.specs.Truth.{value_at};
+ghost use Rattle.vortex_model.specs.Command.{predicate_fault};
+ghost use Rattle.vortex_model.specs.Pruning.{has_no_like};
+ghost use Rattle.vortex_dtype.specs.View.{kind_of};
+ghost use Rattle.vortex_scalar.specs.Scalar.{scalar_kind, scalar_content};
+ghost use Rattle.vortex_expr.specs.Bound.{fixed, bound_value, bound_of, bound_place};
+ghost use Rattle.vortex_expr.specs.Faults.{IsReason, IsChecked, IsSameOf, truths_of};
+
+use crate::bound::{BoundExpression, BoundNode};
+use crate::expression::{Expression, Node};
+use crate::types::{Leaf, TypeClass, class_of, column_class, field_named};
+use std::alloc::{AllocError, AllocFailed, Global};
+use thiserror::Error;
+use vortex_dtype::dtype::DType;
+use vortex_dtype::field_names::FieldNames;
+use vortex_scalar::clone::copy_value;
+use vortex_scalar::scalar::Scalar;
+
+/// Why a predicate is refused.
+#[derive(Clone, Copy, Debug, PartialEq, Eq, Drop, Error)]
+pub enum PredicateError {
+    /// There is no memory for the bound predicate.
+    #[error("out of memory")]
+    Memory,
+    /// A placeholder for a statistic stands in it.
+    #[error("a placeholder in a predicate")]
+    Placeholder,
+    /// The rows have no such column.
+    #[error("no such column")]
+    UnknownColumn,
+    /// A column is a record.
+    #[error("a column is no leaf")]
+    NotALeaf,
+    /// A comparison is of two types, nullability aside.
+    #[error("a comparison of two types")]
+    UnequalTypes,
+    /// What is joined, or the predicate itself, is of no truth type.
+    #[error("not of truth type")]
+    NotBoolean,
+    /// A literal is of a type that predicates do not take.
+    #[error("an unsupported predicate")]
+    UnsupportedPredicate,
+}
+
+impl From<AllocError> for PredicateError {
+    ghost use Rattle.vortex_expr.specs.declared.bind.PredicateError.TheVariants.{Memory};
+
+    ghost from_gives = { λ _ e. e ≡ Memory };
+
+    fn from(_error: AllocError) -> PredicateError {
+        PredicateError::Memory
+    }
+}
+
+impl<T: Drop> From<AllocFailed<T>> for PredicateError {
+    ghost use Rattle.vortex_expr.specs.declared.bind.PredicateError.TheVariants.{Memory};
+
+    ghost from_gives = { λ _ e. e ≡ Memory };
+
+    fn from(_error: AllocFailed<T>) -> PredicateError {
+        PredicateError::Memory
+    }
+}
+
+/// Resolves the columns of a predicate over rows of this type, as Vortex's `bind`. It is refused by its first fault: children before their parent, left before right.
+#[tactic(auto, using(crate::proofs::Checks::binding))]
+pub fn bind(alloc: Global, e: &Expression, dtype: &DType) -> Result<BoundExpression, PredicateError>
+    ensures faultless { IfOk result (λ _. predicate_fault (kind_of dtype.now) e.now ≡ None) }
+    ensures refused { IfErr result (λ error. IsReason error (predicate_fault (kind_of dtype.now) e.now)) }
+    ensures value { IfOk result (λ bound. (row : Content) → bound_value bound row ≡ value_at (kind_of dtype.now) e.now row) }
+    // A predicate of these makers has no LIKE.
+    ensures no_like { OnOk result (has_no_like e.now ≡ true) }
+{
+    match check(dtype, e)? {
+        Leaf::Bool => Ok(resolve(alloc, dtype, e)?),
+        Leaf::Primitive(_) => Err(PredicateError::NotBoolean),
+    }
+}
+
+/// The type of an expression without a fault, nullability aside, or its first fault.
+#[tactic(auto, using(crate::proofs::Checks::arms))]
+fn check(dtype: &DType, e: &Expression) -> Result<Leaf, PredicateError>
+    ensures { IsChecked (kind_of dtype.now) e.now result }
+{
+    match &e.node {
+        Node::Literal(value) => check_literal(value),
+        Node::Column(path) => check_column(dtype, path),
+        Node::Compare(_, x, y) => {
+            let left = check(dtype, x)?;
+            let right = check(dtype, y)?;
+            check_same(left, right)
+        }
+        Node::And(x, y) => {
+            let left = check(dtype, x)?;
+            let right = check(dtype, y)?;
+            check_truths(left, right)
+        }
+        Node::Or(x, y) => {
+            let left = check(dtype, x)?;
+            let right = check(dtype, y)?;
+            check_truths(left, right)
+        }
+        Node::Stat(_, x) => {
+            check(dtype, x)?;
+            Err(PredicateError::Placeholder)
+        }
+    }
+}
+
+/// The type of a literal, which is to be a leaf.
+#[tactic(auto, using(crate::proofs::Checks::of_leaves))]
+fn check_literal(value: &Scalar) -> Result<Leaf, PredicateError>
+    ensures { (k : Kind) (c : Content) → IsChecked k (literal (scalar_kind value.now) c) result }
+{
+    match class_of(value.dtype()) {
+        TypeClass::Leaf(leaf) => Ok(leaf),
+        TypeClass::Record => Err(PredicateError::UnsupportedPredicate),
+    }
+}
+
+/// The type of a column, which is to be there and a leaf.
+#[tactic(auto, using(crate::proofs::Checks::of_leaves))]
+fn check_column(dtype: &DType, path: &FieldNames) -> Result<Leaf, PredicateError>
+    ensures { IsChecked (kind_of dtype.now) (column path.now) result }
+{
+    match column_class(dtype, path) {
+        Some(TypeClass::Leaf(leaf)) => Ok(leaf),
+        Some(TypeClass::Record) => Err(PredicateError::NotALeaf),
+        None => Err(PredicateError::UnknownColumn),
+    }
+}
+
+/// The type of a comparison of two types, which are to be the same.
+fn check_same(left: Leaf, right: Leaf) -> Result<Leaf, PredicateError>
+    ensures { IsSameOf left right result }
+{
+    if left == right {
+        Ok(Leaf::Bool)
+    } else {
+        Err(PredicateError::UnequalTypes)
+    }
+}
+
+/// The type of a connective, whose sides are to be of truth type.
+fn check_truths(left: Leaf, right: Leaf) -> Result<Leaf, PredicateError>
+    ensures { result ≡ truths_of left right }
+{
+    match (left, right) {
+        (Leaf::Bool, Leaf::Bool) => Ok(Leaf::Bool),
+        (Leaf::Primitive(_), _) => Err(PredicateError::NotBoolean),
+        (_, Leaf::Primitive(_)) => Err(PredicateError::NotBoolean),
+    }
+}
+
+/// The predicate with its columns resolved. A column that is nowhere reads null.
+#[tactic(auto, using(crate::proofs::Checks::both_hold))]
+fn resolve(alloc: Global, dtype: &DType, e: &Expression) -> Result<BoundExpression, AllocError>
+    ensures tree { IfOk result (λ bound. bound ≡ bound_of (kind_of dtype.now) e.now) }
+    ensures no_like { OnOk result (has_no_like e.now ≡ true) }
+{
+    match &e.node {
+        Node::Literal(value) => {
+            let literal = literal_of(value)?;
+            Ok(literal)
+        }
+        Node::Column(path) => {
+            let column = resolve_column(alloc, dtype, path)?;
+            Ok(column)
+        }
+        Node::Compare(comparison, x, y) => {
+            let left = resolve(alloc, dtype, x)?;
+            let right = resolve(alloc, dtype, y)?;
+            Ok(BoundExpression {
+                node: BoundNode::Compare(
+                    *comparison,
+                    Box::new(alloc, left)?,
+                    Box::new(alloc, right)?,
+                ),
+            })
+        }
+        Node::And(x, y) => {
+            let left = resolve(alloc, dtype, x)?;
+            let right = resolve(alloc, dtype, y)?;
+            Ok(BoundExpression {
+                node: BoundNode::And(Box::new(alloc, left)?, Box::new(alloc, right)?),
+            })
+        }
+        Node::Or(x, y) => {
+            let left = resolve(alloc, dtype, x)?;
+            let right = resolve(alloc, dtype, y)?;
+            Ok(BoundExpression {
+                node: BoundNode::Or(Box::new(alloc, left)?, Box::new(alloc, right)?),
+            })
+        }
+        Node::Stat(_, _) => Ok(BoundExpression {
+            node: BoundNode::Literal(None),
+        }),
+    }
+}
+
+/// A literal's value.
+fn literal_of(value: &Scalar) -> Result<BoundExpression, AllocError>
+    ensures { IfOk result (λ bound. bound ≡ fixed (scalar_content value.now)) }
+{
+    let value = copy_value(value.value())?;
+    Ok(BoundExpression {
+        node: BoundNode::Literal(value),
+    })
+}
+
+/// A column by its position.
+fn resolve_column(
+    alloc: Global,
+    dtype: &DType,
+    path: &FieldNames,
+) -> Result<BoundExpression, AllocError>
+    ensures { IfOk result (λ bound. bound ≡ bound_place (positions (kind_of dtype.now) path.now)) }
+{
+    match column_positions(alloc, dtype, path)? {
+        Some(positions) => Ok(BoundExpression {
+            node: BoundNode::Column(positions),
+        }),
+        None => Ok(BoundExpression {
+            node: BoundNode::Literal(None),
+        }),
+    }
+}
+
+/// The positions that a path of names stands for, where it is in the type.
+#[tactic(auto, using(crate::proofs::Checks::along_path))]
+fn column_positions(
+    alloc: Global,
+    dtype: &DType,
+    path: &FieldNames,
+) -> Result<Option<Vec<usize>>, AllocError>
+    ensures { IfOk result (λ found. option_map (λ is. is.items) found ≡ positions (kind_of dtype.now) path.now) }
+{
+    let mut found = Vec::with_capacity(alloc, path.len())?;
+    let mut current = dtype;
+    for name in path.as_slice() {
+        let Some((position, part)) = field_named(current, name) else {
+            return Ok(None);
+        };
+        found.push(position)?;
+        current = part;
+    }
+    Ok(Some(found))
+}

@@ -1,0 +1,111 @@
+//! Predicates whose columns are resolved to positions.
+ghost use Rattle.std.specs.Prelude.{◌≡◌};
+ghost use Rattle.vortex_model.specs.Content.{content_of, contents_of, nth};
+ghost use Rattle.vortex_model.specs.Path.{at, part_of};
+ghost use Rattle.vortex_model.specs.Truth.{is_true};
+ghost use Rattle.vortex_scalar.specs.View.{raw_of, raws_in, content_at};
+ghost use Rattle.vortex_expr.specs.Bound.{bound_value};
+ghost use Rattle.vortex_expr.specs.Seen.{seen};
+
+use crate::operator::Comparison;
+use crate::value::{Value, both_hold, compare_values, one_holds, read, truth_value};
+use std::marker::Model;
+use vortex_scalar::scalar_value::ScalarValue;
+
+/// A predicate over rows of a type, as Vortex's `BoundExpression`, made by `bind`. A clause sees the tree, with positions in place of names.
+#[cycle(bound)]
+#[derive(Drop)]
+pub struct BoundExpression {
+    pub(crate) node: BoundNode,
+}
+
+#[cycle(bound)]
+#[derive(Drop)]
+pub(crate) enum BoundNode {
+    Literal(Option<ScalarValue>),
+    Column(Vec<usize>),
+    Compare(Comparison, Box<BoundExpression>, Box<BoundExpression>),
+    And(Box<BoundExpression>, Box<BoundExpression>),
+    Or(Box<BoundExpression>, Box<BoundExpression>),
+}
+
+impl Model for BoundExpression {
+    ghost use Rattle.vortex_expr.specs.Bound.{Bound, bound_size};
+    ghost use Rattle.vortex_expr.specs.BoundCode.{bound_code};
+
+    ghost Value = { Bound };
+
+    ghost coded = { bound_code };
+
+    ghost use Rattle.vortex_expr.specs.BoundTree.{bound_tree};
+
+    ghost view = { λ a. bound_tree a.node };
+
+    ghost size = { bound_size };
+
+    ghost use Rattle.vortex_expr.specs.BoundFalls.{depth_le-size};
+
+    ghost size_decreases = { λ a h. depth_le-size a.node };
+}
+
+impl BoundExpression {
+    /// Whether the predicate is true of a row. It allocates nothing.
+    pub fn selects(&self, row: &ScalarValue) -> bool
+        ensures { result ≡ is_true (bound_value self.now (content_of (raw_of row.now))) }
+    {
+        match value_at_row(self, row) {
+            Value::Truth(b) => b,
+            _ => false,
+        }
+    }
+}
+
+/// The value of a predicate at a row.
+fn value_at_row<'a>(e: &'a BoundExpression, row: &'a ScalarValue) -> Value<'a>
+    ensures { seen result ≡ bound_value e.now (content_of (raw_of row.now)) }
+{
+    match &e.node {
+        BoundNode::Literal(value) => read(value.as_ref()),
+        BoundNode::Column(path) => read(part_at(row, path)),
+        BoundNode::Compare(comparison, x, y) => truth_value(compare_values(
+            *comparison,
+            value_at_row(x, row),
+            value_at_row(y, row),
+        )),
+        BoundNode::And(x, y) => truth_value(both_hold(value_at_row(x, row), value_at_row(y, row))),
+        BoundNode::Or(x, y) => truth_value(one_holds(value_at_row(x, row), value_at_row(y, row))),
+    }
+}
+
+/// What a row has at these positions.
+fn part_at<'a>(row: &'a ScalarValue, path: &[usize]) -> Option<&'a ScalarValue>
+    ensures { content_at result ≡ at (content_of (raw_of row.now)) path.now }
+{
+    let mut current = Some(row);
+    for index in path {
+        current = member(current, *index);
+    }
+    current
+}
+
+/// What a record has at a position.
+#[tactic(auto, using(vortex_scalar::proofs::Views::one_level))]
+fn member<'a>(value: Option<&'a ScalarValue>, index: usize) -> Option<&'a ScalarValue>
+    ensures { content_at result ≡ part_of (content_at value.entry) index }
+{
+    match value {
+        Some(ScalarValue::Tuple(items)) => item_at(items, index),
+        _ => None,
+    }
+}
+
+/// The value at a position among a record's values.
+#[tactic(auto, using(crate::proofs::Items::by_item))]
+fn item_at(items: &Vec<Option<ScalarValue>>, index: usize) -> Option<&ScalarValue>
+    ensures { content_at result ≡ nth (contents_of (raws_in items.now.items)) index }
+{
+    match items.get(index) {
+        Some(item) => item.as_ref(),
+        None => None,
+    }
+}

@@ -1,0 +1,251 @@
+//! Proofs over statistics: that no row satisfies a predicate, and that every row does.
+ghost use Rattle.std.specs.Prelude.{◌≡◌, IfOk, Some, None, false, not};
+ghost use Rattle.std.specs.Option.{option_map_or};
+ghost use Rattle.vortex_model.specs.Typing.{type_of, has_bounds, is_float};
+ghost use Rattle.vortex_model.specs.Rewrite.{truth_literal, bound_of, is_bounded, is_float_placeholder, comparison_falsifier, comparison_falsifiers, joined_proofs, either_there, both_there, falsifier, satisfier};
+ghost use Rattle.vortex_dtype.specs.View.{kind_of};
+ghost use Rattle.vortex_scalar.specs.Scalar.{scalar_content};
+ghost use Rattle.vortex_expr.specs.Tree.{comparison_of, aggregate_of};
+ghost use Rattle.vortex_expr.specs.Literals.{literal_falsifier, literal_satisfier};
+
+use crate::aggregate::AggregateFn;
+use crate::expression::{Expression, Node, and, eq, gt, gt_eq, lit, lt, lt_eq, or, stat};
+use crate::operator::Comparison;
+use crate::types::{TypeClass, type_class};
+use std::alloc::{AllocError, Global};
+use vortex_dtype::dtype::DType;
+use vortex_dtype::nullability::Nullability;
+use vortex_scalar::scalar::Scalar;
+use vortex_scalar::scalar_value::ScalarValue;
+
+/// A proof, over statistics, that no row satisfies a predicate over rows of this type, as Vortex's `falsify`. There may be none.
+#[tactic(auto, using(crate::proofs::Falsifiers::of_literal))]
+pub fn falsify(
+    alloc: Global,
+    dtype: &DType,
+    e: &Expression,
+) -> Result<Option<Expression>, AllocError>
+    ensures { IfOk result (λ proof. proof ≡ falsifier (kind_of dtype.now) e.now) }
+{
+    match &e.node {
+        Node::Literal(value) => Ok(falsify_literal(value)),
+        Node::Column(_) => Ok(None),
+        Node::Compare(comparison, x, y) => falsify_comparison(alloc, dtype, *comparison, x, y),
+        Node::And(x, y) => {
+            let left = falsify(alloc, dtype, x)?;
+            let right = falsify(alloc, dtype, y)?;
+            either_proof(alloc, left, right)
+        }
+        Node::Or(x, y) => {
+            let left = falsify(alloc, dtype, x)?;
+            let right = falsify(alloc, dtype, y)?;
+            both_proofs(alloc, left, right)
+        }
+        Node::Stat(_, _) => Ok(None),
+    }
+}
+
+/// A proof, over statistics, that every row satisfies a predicate over rows of this type, as Vortex's `satisfy`. There may be none.
+#[tactic(auto, using(crate::proofs::Falsifiers::of_literal))]
+pub fn satisfy(
+    _alloc: Global,
+    _dtype: &DType,
+    e: &Expression,
+) -> Result<Option<Expression>, AllocError>
+    ensures { IfOk result (λ proof. proof ≡ satisfier (kind_of _dtype.now) e.now) }
+{
+    match &e.node {
+        Node::Literal(value) => Ok(satisfy_literal(value)),
+        Node::Column(_) => Ok(None),
+        Node::Compare(_, _, _) => Ok(None),
+        Node::And(_, _) => Ok(None),
+        Node::Or(_, _) => Ok(None),
+        Node::Stat(_, _) => Ok(None),
+    }
+}
+
+/// A truth value, the same for each row.
+#[tactic(auto, using(vortex_dtype::proofs::Views::one_level, vortex_scalar::proofs::Views::one_level))]
+fn truth(value: bool) -> Expression
+    ensures { result ≡ truth_literal value }
+{
+    lit(Scalar::new_unchecked(
+        DType::Bool(Nullability::NonNullable),
+        Some(ScalarValue::Bool(value)),
+    ))
+}
+
+/// The proof that a literal is false.
+#[tactic(auto, using(vortex_scalar::proofs::Views::one_level))]
+fn falsify_literal(value: &Scalar) -> Option<Expression>
+    ensures { result ≡ literal_falsifier (scalar_content value.now) }
+{
+    match value.value() {
+        Some(ScalarValue::Bool(b)) => Some(truth(!*b)),
+        _ => None,
+    }
+}
+
+/// The proof that a literal is true.
+#[tactic(auto, using(vortex_scalar::proofs::Views::one_level))]
+fn satisfy_literal(value: &Scalar) -> Option<Expression>
+    ensures { result ≡ literal_satisfier (scalar_content value.now) }
+{
+    match value.value() {
+        Some(ScalarValue::Bool(b)) => Some(truth(*b)),
+        _ => None,
+    }
+}
+
+/// The proof that a comparison is true of no row.
+#[tactic(auto, using(crate::proofs::Falsifiers::of_comparison))]
+fn falsify_comparison(
+    alloc: Global,
+    dtype: &DType,
+    comparison: Comparison,
+    x: &Expression,
+    y: &Expression,
+) -> Result<Option<Expression>, AllocError>
+    ensures { IfOk result (λ proof. proof
+        ≡ joined_proofs (comparison_falsifiers (kind_of dtype.now) (comparison_of comparison) x.now y.now)) }
+{
+    if !is_bounded(dtype, x) {
+        return Ok(None);
+    }
+    if !is_bounded(dtype, y) {
+        return Ok(None);
+    }
+    let proof = compare_bounds(alloc, comparison, x, y)?;
+    Ok(Some(proof))
+}
+
+/// Whether an expression is a literal or has a least and a greatest value.
+fn is_bounded(dtype: &DType, e: &Expression) -> bool
+    ensures bounded { result ≡ is_bounded (kind_of dtype.now) e.now }
+    ensures whole { is_float_placeholder (kind_of dtype.now) e.now ≡ false }
+{
+    match &e.node {
+        Node::Literal(_) => true,
+        Node::Column(_) => has_bounds(dtype, e),
+        Node::Compare(_, _, _) => has_bounds(dtype, e),
+        Node::And(_, _) => has_bounds(dtype, e),
+        Node::Or(_, _) => has_bounds(dtype, e),
+        Node::Stat(_, _) => has_bounds(dtype, e),
+    }
+}
+
+/// Whether the values of an expression have a least and a greatest one.
+#[tactic(auto, using(crate::proofs::Classes::by_class))]
+fn has_bounds(dtype: &DType, e: &Expression) -> bool
+    ensures bounded { result ≡ option_map_or has_bounds (type_of (kind_of dtype.now) e.now) false }
+    ensures whole { option_map_or is_float (type_of (kind_of dtype.now) e.now) false ≡ false }
+{
+    match type_class(dtype, e) {
+        Some(TypeClass::Leaf(_)) => true,
+        Some(TypeClass::Record) => false,
+        None => false,
+    }
+}
+
+/// The proof, by the bounds of the two sides, that a comparison is true of no row.
+fn compare_bounds(
+    alloc: Global,
+    comparison: Comparison,
+    x: &Expression,
+    y: &Expression,
+) -> Result<Expression, AllocError>
+    ensures { IfOk result (λ proof. proof ≡ comparison_falsifier (comparison_of comparison) x.now y.now) }
+{
+    match comparison {
+        Comparison::Eq => {
+            let above = gt(
+                alloc,
+                bound(alloc, AggregateFn::Min, x)?,
+                bound(alloc, AggregateFn::Max, y)?,
+            )?;
+            let below = gt(
+                alloc,
+                bound(alloc, AggregateFn::Min, y)?,
+                bound(alloc, AggregateFn::Max, x)?,
+            )?;
+            or(alloc, above, below)
+        }
+        Comparison::NotEq => {
+            let low = eq(
+                alloc,
+                bound(alloc, AggregateFn::Min, x)?,
+                bound(alloc, AggregateFn::Max, y)?,
+            )?;
+            let high = eq(
+                alloc,
+                bound(alloc, AggregateFn::Max, x)?,
+                bound(alloc, AggregateFn::Min, y)?,
+            )?;
+            and(alloc, low, high)
+        }
+        Comparison::Gt => lt_eq(
+            alloc,
+            bound(alloc, AggregateFn::Max, x)?,
+            bound(alloc, AggregateFn::Min, y)?,
+        ),
+        Comparison::Gte => lt(
+            alloc,
+            bound(alloc, AggregateFn::Max, x)?,
+            bound(alloc, AggregateFn::Min, y)?,
+        ),
+        Comparison::Lt => gt_eq(
+            alloc,
+            bound(alloc, AggregateFn::Min, x)?,
+            bound(alloc, AggregateFn::Max, y)?,
+        ),
+        Comparison::Lte => gt(
+            alloc,
+            bound(alloc, AggregateFn::Min, x)?,
+            bound(alloc, AggregateFn::Max, y)?,
+        ),
+    }
+}
+
+/// The least or the greatest value of an expression: a literal is its own.
+fn bound(alloc: Global, aggregate: AggregateFn, e: &Expression) -> Result<Expression, AllocError>
+    ensures { IfOk result (λ bound. bound ≡ bound_of (aggregate_of aggregate) e.now) }
+{
+    match &e.node {
+        Node::Literal(value) => Ok(lit(value.clone()?)),
+        Node::Column(_) => stat(alloc, aggregate, e.clone()?),
+        Node::Compare(_, _, _) => stat(alloc, aggregate, e.clone()?),
+        Node::And(_, _) => stat(alloc, aggregate, e.clone()?),
+        Node::Or(_, _) => stat(alloc, aggregate, e.clone()?),
+        Node::Stat(_, _) => stat(alloc, aggregate, e.clone()?),
+    }
+}
+
+/// One of the proofs, as far as they are there.
+fn either_proof(
+    alloc: Global,
+    left: Option<Expression>,
+    right: Option<Expression>,
+) -> Result<Option<Expression>, AllocError>
+    ensures { IfOk result (λ proof. proof ≡ either_there left right) }
+{
+    match (left, right) {
+        (Some(x), Some(y)) => Ok(Some(or(alloc, x, y)?)),
+        (Some(x), None) => Ok(Some(x)),
+        (None, y) => Ok(y),
+    }
+}
+
+/// Both proofs, where both are there.
+fn both_proofs(
+    alloc: Global,
+    left: Option<Expression>,
+    right: Option<Expression>,
+) -> Result<Option<Expression>, AllocError>
+    ensures { IfOk result (λ proof. proof ≡ both_there left right) }
+{
+    match (left, right) {
+        (Some(x), Some(y)) => Ok(Some(and(alloc, x, y)?)),
+        (Some(_), None) => Ok(None),
+        (None, _) => Ok(None),
+    }
+}

@@ -1,0 +1,173 @@
+//! Types of expressions, as far as predicates and proofs ask for them.
+ghost use Rattle.std.specs.Prelude.{◌≡◌, IfSome, IfNone, Some, None};
+ghost use Rattle.vortex_model.specs.Path.{position_in, part_at, type_of_column};
+ghost use Rattle.vortex_model.specs.Command.{part_named};
+ghost use Rattle.vortex_model.specs.Typing.{type_of};
+ghost use Rattle.vortex_dtype.specs.View.{kind_of};
+ghost use Rattle.vortex_expr.specs.Types.{IsOfClass, IsClass, kind_at, along, step_along, bound_class, bounds_class, sum_ptype, sum_class, aggregate_class};
+
+use crate::aggregate::AggregateFn;
+use crate::expression::{Expression, Node};
+use vortex_dtype::dtype::DType;
+use vortex_dtype::field_names::{FieldName, FieldNames};
+use vortex_dtype::ptype::PType;
+
+/// A type whose values compare, nullability aside.
+#[derive(Clone, Copy, Debug, PartialEq, Eq)]
+pub(crate) enum Leaf {
+    Bool,
+    Primitive(PType),
+}
+
+/// A type, nullability and fields aside.
+#[derive(Clone, Copy, Debug, PartialEq, Eq)]
+pub(crate) enum TypeClass {
+    Leaf(Leaf),
+    Record,
+}
+
+/// The class of a type.
+#[tactic(auto, using(vortex_dtype::proofs::Views::one_level))]
+pub(crate) fn class_of(dtype: &DType) -> TypeClass
+    ensures { IsOfClass result (kind_of dtype.now) }
+{
+    match dtype {
+        DType::Bool(_) => TypeClass::Leaf(Leaf::Bool),
+        DType::Primitive(ptype, _) => TypeClass::Leaf(Leaf::Primitive(*ptype)),
+        DType::Struct(_, _) => TypeClass::Record,
+    }
+}
+
+/// The position and the type of a record's first field of this name.
+#[tactic(auto, using(vortex_dtype::proofs::Views::one_level))]
+pub(crate) fn field_named<'a>(dtype: &'a DType, name: &FieldName) -> Option<(usize, &'a DType)>
+    ensures none { IfNone result (part_named (kind_of dtype.now) name.now ≡ None) }
+    ensures position { IfSome result (λ found. position_in (kind_of dtype.now) name.now ≡ Some found.0) }
+    ensures part { IfSome result (λ found. part_at (kind_of dtype.now) found.0 ≡ Some (kind_of found.1.now)) }
+{
+    let DType::Struct(fields, _) = dtype else {
+        return None;
+    };
+    let Some(position) = fields.find(name) else {
+        return None;
+    };
+    match fields.field_by_index(position) {
+        Some(part) => Some((position, part)),
+        None => None,
+    }
+}
+
+/// The part of this name.
+fn part_by_name<'a>(dtype: Option<&'a DType>, name: &FieldName) -> Option<&'a DType>
+    ensures { kind_at result ≡ step_along (kind_at dtype.entry) name.now }
+{
+    match dtype {
+        Some(dtype) => match field_named(dtype, name) {
+            Some((_, part)) => Some(part),
+            None => None,
+        },
+        None => None,
+    }
+}
+
+/// The part at a path of names, with the nullability that it has by itself.
+fn part_by_path<'a>(dtype: &'a DType, path: &FieldNames) -> Option<&'a DType>
+    ensures { kind_at result ≡ along (Some (kind_of dtype.now)) path.now }
+{
+    let mut current = Some(dtype);
+    for name in path.as_slice() {
+        current = part_by_name(current, name);
+    }
+    current
+}
+
+/// The class of a column, where the path leads to one.
+#[tactic(auto, using(crate::proofs::Classes::column_class))]
+pub(crate) fn column_class(dtype: &DType, path: &FieldNames) -> Option<TypeClass>
+    ensures { IsClass result (type_of_column (kind_of dtype.now) path.now) }
+{
+    match part_by_path(dtype, path) {
+        Some(part) => Some(class_of(part)),
+        None => None,
+    }
+}
+
+/// The class of an expression, where it has a type.
+#[tactic(auto, using(crate::proofs::Classes::placeholder_class, crate::proofs::Classes::no_placeholder))]
+pub(crate) fn type_class(dtype: &DType, e: &Expression) -> Option<TypeClass>
+    ensures { IsClass result (type_of (kind_of dtype.now) e.now) }
+{
+    match &e.node {
+        Node::Literal(value) => Some(class_of(value.dtype())),
+        Node::Column(path) => column_class(dtype, path),
+        Node::Compare(_, _, _) => Some(TypeClass::Leaf(Leaf::Bool)),
+        Node::And(_, _) => Some(TypeClass::Leaf(Leaf::Bool)),
+        Node::Or(_, _) => Some(TypeClass::Leaf(Leaf::Bool)),
+        Node::Stat(aggregate, input) => match type_class(dtype, input) {
+            Some(class) => placeholder_class(*aggregate, class),
+            None => None,
+        },
+    }
+}
+
+/// The class of a statistic over values of a class, where it takes them.
+fn placeholder_class(aggregate: AggregateFn, class: TypeClass) -> Option<TypeClass>
+    ensures { result ≡ aggregate_class aggregate class }
+{
+    match aggregate {
+        AggregateFn::Min => bound_class(class),
+        AggregateFn::Max => bound_class(class),
+        AggregateFn::MinMax => bounds_class(class),
+        AggregateFn::Sum => sum_class(class),
+        AggregateFn::NullCount => Some(TypeClass::Leaf(Leaf::Primitive(PType::U64))),
+        AggregateFn::UncompressedSizeInBytes => Some(TypeClass::Leaf(Leaf::Primitive(PType::U64))),
+        AggregateFn::AllNull => Some(TypeClass::Leaf(Leaf::Bool)),
+        AggregateFn::AllNonNull => Some(TypeClass::Leaf(Leaf::Bool)),
+        AggregateFn::NanCount => None,
+        AggregateFn::AllNan => None,
+        AggregateFn::AllNonNan => None,
+    }
+}
+
+/// The class of a least or a greatest value.
+fn bound_class(class: TypeClass) -> Option<TypeClass>
+    ensures { result ≡ bound_class class }
+{
+    match class {
+        TypeClass::Leaf(leaf) => Some(TypeClass::Leaf(leaf)),
+        TypeClass::Record => None,
+    }
+}
+
+/// The class of a record of the least and the greatest value.
+fn bounds_class(class: TypeClass) -> Option<TypeClass>
+    ensures { result ≡ bounds_class class }
+{
+    match class {
+        TypeClass::Leaf(_) => Some(TypeClass::Record),
+        TypeClass::Record => None,
+    }
+}
+
+/// The class of a sum.
+fn sum_class(class: TypeClass) -> Option<TypeClass>
+    ensures { result ≡ sum_class class }
+{
+    match class {
+        TypeClass::Leaf(Leaf::Bool) => Some(TypeClass::Leaf(Leaf::Primitive(PType::U64))),
+        TypeClass::Leaf(Leaf::Primitive(ptype)) => Some(TypeClass::Leaf(Leaf::Primitive(sum_ptype(
+            ptype,
+        )))),
+        TypeClass::Record => None,
+    }
+}
+
+/// The kind of a sum of integers.
+fn sum_ptype(ptype: PType) -> PType
+    ensures { result ≡ sum_ptype ptype }
+{
+    match ptype {
+        PType::U8 | PType::U16 | PType::U32 | PType::U64 => PType::U64,
+        PType::I8 | PType::I16 | PType::I32 | PType::I64 => PType::I64,
+    }
+}
