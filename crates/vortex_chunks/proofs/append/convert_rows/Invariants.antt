@@ -1,0 +1,17 @@
+use Rattle.std.proofs.Common.{◌≡◌, take, drop, map, IsTrue}
+use Rattle.std.specs.List.{list_all}
+use Rattle.vortex_model.specs.Content.{content_of}
+use Rattle.vortex_model.specs.Valid.{valid}
+use Rattle.vortex_model.specs.Command.{first_unconvertible}
+use Rattle.vortex_dtype.specs.View.{kind_of}
+use Rattle.vortex_scalar.specs.View.{raw_of, raw_in}
+use Rattle.vortex_chunks.specs.Bounds.{row_content}
+use Rattle.vortex_chunks.proofs.append.convert_rows.Given as goal
+
+abbrev pub invariant-loop-index : goal.invariant-loop-index
+invariant-loop-index l = record {
+  content : map row_content l.rows.items ≡ map content_of (map raw_in (take l.index l.values));
+  valid : IsTrue (list_all (λ row. valid (kind_of l.target) (raw_of row)) l.rows.items);
+  left : first_unconvertible l.index (kind_of l.source) (kind_of l.target) (map content_of (map raw_in (drop l.index l.values)))
+      ≡ first_unconvertible 0 (kind_of l.source) (kind_of l.target) (map content_of (map raw_in l.values));
+}

@@ -1,0 +1,11 @@
+use Rattle.vortex_dtype.specs.View.{kind_of}
+use Rattle.vortex_chunks.proofs.Taken.{taken_more, kinds_more}
+use Rattle.vortex_chunks.proofs.select.take_rows.Goals as goal
+
+pub loop-row-preserved : goal.loop-row-preserved
+loop-row-preserved c = record {
+  content =
+      taken_more c.args.cut.now c.args.rows.now c.loop-row.row-index c.row-item.result c.loop-row-test.true c.row-item.is
+      c.args.found.now.items c.loop-row.found.items c.push.new.self.items c.in_ok-row.row c.in_ok-push.ensures.items c.loop-row.invariant.content c.in_ok-row.ensures.content;
+  kind = kinds_more (kind_of c.args.cut.now.dtype) c.loop-row.found.items c.push.new.self.items c.in_ok-row.row c.in_ok-push.ensures.items c.loop-row.invariant.kind c.in_ok-row.ensures.kind;
+}

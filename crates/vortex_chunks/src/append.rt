@@ -1,0 +1,105 @@
+//! The rows of an append: judged, converted and put in a chunk.
+ghost use Rattle.std.specs.Prelude.{◌≡◌, true, None, length, map, option_map, IfOk, OnOk, IfErr, IsTrue};
+ghost use Rattle.std.specs.List.{list_all};
+ghost use Rattle.vortex_model.specs.Content.{content_of};
+ghost use Rattle.vortex_model.specs.Valid.{valid};
+ghost use Rattle.vortex_model.specs.Convert.{converts};
+ghost use Rattle.vortex_model.specs.Kept.{kept_fault};
+ghost use Rattle.vortex_model.specs.Refusal.{invalid_value, not_convertible};
+ghost use Rattle.vortex_model.specs.Command.{unless, first_invalid, first_unconvertible};
+ghost use Rattle.vortex_dtype.specs.View.{kind_of};
+ghost use Rattle.vortex_scalar.specs.View.{raw_of, raw_in, content_at};
+ghost use Rattle.vortex_chunks.specs.Bounds.{row_content};
+ghost use Rattle.vortex_chunks.specs.Error.{Explains};
+ghost use Rattle.vortex_chunks.specs.Table.{column_count};
+
+use crate::bounds::all_bounds;
+use crate::chunk::Chunk;
+use crate::error::TableError;
+use std::alloc::{AllocError, Global};
+use vortex_dtype::dtype::DType;
+use vortex_scalar::cast::cast_value;
+use vortex_scalar::error::ScalarError;
+use vortex_scalar::scalar_value::ScalarValue;
+use vortex_scalar::validate::validate;
+
+/// The first row, by its index, that isn't valid for the type.
+pub fn first_invalid(dtype: &DType, values: &[Option<ScalarValue>]) -> Option<usize>
+    ensures { option_map invalid_value result ≡ first_invalid 0 (kind_of dtype.now) (map raw_in values.now) }
+{
+    for (index, value) in values.iter().enumerate() {
+        if !validate(dtype, value.as_ref()) {
+            return Some(index);
+        }
+    }
+    None
+}
+
+// The row at this index, as one of the target type, which a table can hold.
+fn convert_row(
+    alloc: Global,
+    source: &DType,
+    target: &DType,
+    index: usize,
+    value: Option<&ScalarValue>,
+) -> Result<ScalarValue, TableError>
+    requires { kept_fault (kind_of target.now) ≡ None }
+    ensures converts { OnOk result (converts (kind_of source.now) (kind_of target.now) (content_at value.entry) ≡ true) }
+    ensures content { IfOk result (λ row. row_content row ≡ content_at value.entry) }
+    ensures valid { IfOk result (λ row. valid (kind_of target.now) (raw_of row) ≡ true) }
+    ensures refused { IfErr result (λ e. Explains ⊥
+        (unless (converts (kind_of source.now) (kind_of target.now) (content_at value.entry)) (not_convertible index)) e) }
+{
+    match cast_value(alloc, source, target, value) {
+        Ok(Some(row)) => Ok(row),
+        Ok(None) => Err(TableError::NotConvertible(index)),
+        Err(ScalarError::Memory) => Err(TableError::Memory),
+        Err(ScalarError::Invalid) => Err(TableError::NotConvertible(index)),
+        Err(ScalarError::NotConvertible) => Err(TableError::NotConvertible(index)),
+    }
+}
+
+/// The rows as those of the target type, which a table can hold. Each is looked at once, up to the first that it can't
+/// hold: `NotConvertible` with its index.
+pub fn convert_rows(
+    alloc: Global,
+    source: &DType,
+    target: &DType,
+    values: &[Option<ScalarValue>],
+) -> Result<Vec<ScalarValue>, TableError>
+    requires { kept_fault (kind_of target.now) ≡ None }
+    ensures converts { OnOk result (first_unconvertible 0 (kind_of source.now) (kind_of target.now)
+        (map content_of (map raw_in values.now)) ≡ None) }
+    ensures content { IfOk result (λ rows. map row_content rows.items ≡ map content_of (map raw_in values.now)) }
+    ensures valid { IfOk result (λ rows. IsTrue (list_all (λ row. valid (kind_of target.now) (raw_of row)) rows.items)) }
+    ensures refused { IfErr result (λ e. Explains ⊥ (first_unconvertible 0 (kind_of source.now) (kind_of target.now)
+        (map content_of (map raw_in values.now))) e) }
+{
+    let mut rows = Vec::with_capacity(alloc, values.len())?;
+    for (index, value) in values.iter().enumerate() {
+        let row = convert_row(alloc, source, target, index, value.as_ref())?;
+        rows.push(row)?;
+    }
+    Ok(rows)
+}
+
+// How many columns records of the type have.
+#[tactic(auto, using(vortex_dtype::proofs::Views::one_level))]
+fn columns_in(dtype: &DType) -> usize
+    ensures { result ≡ column_count (kind_of dtype.now) }
+{
+    match dtype {
+        DType::Struct(fields, _) => fields.nfields(),
+        DType::Bool(_) => 0,
+        DType::Primitive(_, _) => 0,
+    }
+}
+
+/// The rows, which are of the type, as a chunk.
+pub fn new_chunk(alloc: Global, dtype: &DType, rows: Vec<ScalarValue>) -> Result<Chunk, AllocError>
+    ensures rows { IfOk result (λ chunk. chunk.rows.items ≡ rows.items) }
+    ensures columns { IfOk result (λ chunk. length chunk.bounds.items ≡ column_count (kind_of dtype.now)) }
+{
+    let bounds = all_bounds(alloc, &rows, columns_in(dtype))?;
+    Ok(Chunk { rows, bounds })
+}

@@ -1,0 +1,119 @@
+//! What a chunk's bounds say of its columns.
+ghost use Rattle.std.specs.Prelude.{◌≡◌, Some};
+ghost use Rattle.vortex_model.specs.Content.{truth};
+ghost use Rattle.vortex_model.specs.Path.{positions};
+ghost use Rattle.vortex_dtype.specs.View.{kind_of};
+ghost use Rattle.vortex_expr.specs.Stats.{IsAnswer};
+ghost use Rattle.vortex_expr.specs.Tree.{aggregate_of};
+ghost use Rattle.vortex_chunks.specs.Given.{number_or_null, said_by, own_position};
+
+use crate::bounds::ColumnBounds;
+use crate::chunk::Chunk;
+use std::alloc::{AllocError, Global};
+use vortex_dtype::dtype::DType;
+use vortex_dtype::field_names::FieldNames;
+use vortex_dtype::nullability::Nullability;
+use vortex_dtype::ptype::PType;
+use vortex_expr::aggregate::AggregateFn;
+use vortex_expr::expression::{Expression, lit};
+use vortex_expr::stats::StatBinder;
+use vortex_scalar::pvalue::PValue;
+use vortex_scalar::scalar::Scalar;
+use vortex_scalar::scalar_value::ScalarValue;
+
+// A literal of the number.
+#[tactic(auto, using(vortex_dtype::proofs::Views::one_level, vortex_scalar::proofs::Views::one_level, crate::proofs::Literals::numbers))]
+fn number(value: PValue) -> Expression
+    ensures { IsAnswer (Some result) (number_or_null (Some value)) }
+{
+    let _number = value.get();
+    let dtype = DType::Primitive(value.ptype(), Nullability::NonNullable);
+    lit(Scalar::new_unchecked(dtype, Some(ScalarValue::Primitive(value))))
+}
+
+fn number_if_there(value: Option<PValue>) -> Option<Expression>
+    ensures { IsAnswer result (number_or_null value) }
+{
+    match value {
+        Some(value) => Some(number(value)),
+        None => None,
+    }
+}
+
+// A literal of the truth value.
+#[tactic(auto, using(vortex_dtype::proofs::Views::one_level, vortex_scalar::proofs::Views::one_level))]
+fn truth(value: bool) -> Expression
+    ensures { IsAnswer (Some result) (truth value) }
+{
+    let dtype = DType::Bool(Nullability::NonNullable);
+    lit(Scalar::new_unchecked(dtype, Some(ScalarValue::Bool(value))))
+}
+
+// What the bounds of so many rows say.
+fn statistic(bounds: ColumnBounds, rows: usize, aggregate: AggregateFn) -> Option<Expression>
+    ensures { IsAnswer result (said_by bounds rows (aggregate_of aggregate)) }
+{
+    match aggregate {
+        AggregateFn::Min => number_if_there(bounds.least),
+        AggregateFn::Max => number_if_there(bounds.greatest),
+        AggregateFn::NullCount => Some(number(PValue::U64(bounds.null_count as u64))),
+        AggregateFn::AllNull => Some(truth(bounds.null_count == rows)),
+        AggregateFn::AllNonNull => Some(truth(bounds.null_count == 0)),
+        AggregateFn::Sum => None,
+        AggregateFn::NanCount => None,
+        AggregateFn::UncompressedSizeInBytes => None,
+        AggregateFn::MinMax => None,
+        AggregateFn::AllNan => None,
+        AggregateFn::AllNonNan => None,
+    }
+}
+
+// The position of a column of the record itself.
+#[tactic(auto, using(vortex_dtype::proofs::Views::one_level))]
+fn own_position(dtype: &DType, path: &FieldNames) -> Option<usize>
+    ensures { result ≡ own_position (positions (kind_of dtype.now) path.now) }
+{
+    let names = path.as_slice();
+    if names.len() != 1 {
+        return None;
+    }
+    match dtype {
+        DType::Struct(fields, _) => fields.find(&names[0]),
+        DType::Bool(_) => None,
+        DType::Primitive(_, _) => None,
+    }
+}
+
+/// What a chunk of a table of this type knows of its columns: the least and the greatest value, and how many are null.
+#[derive(Clone, Copy, Drop)]
+pub struct ChunkBinder<'a> {
+    pub dtype: &'a DType,
+    pub chunk: &'a Chunk,
+}
+
+impl StatBinder for ChunkBinder<'_> {
+    ghost use Rattle.std.specs.Prelude.{length};
+    ghost use Rattle.vortex_dtype.specs.View.{kind_of};
+    ghost use Rattle.vortex_chunks.specs.Given.{given_by};
+
+    ghost meaning = { λ b. given_by (kind_of b.dtype.now) b.chunk.now.bounds.items (length b.chunk.now.rows.items) };
+
+    fn bind_aggregate(
+        &self,
+        alloc: Global,
+        input: &Expression,
+        aggregate: AggregateFn,
+    ) -> Result<Option<Expression>, AllocError> {
+        let _ = alloc;
+        let Some(path) = input.as_column() else {
+            return Ok(None);
+        };
+        let Some(position) = own_position(self.dtype, path) else {
+            return Ok(None);
+        };
+        match self.chunk.bounds.get(position) {
+            Some(bounds) => Ok(statistic(*bounds, self.chunk.rows.len(), aggregate)),
+            None => Ok(None),
+        }
+    }
+}

@@ -1,0 +1,136 @@
+//! The least and the greatest number of a column, and its nulls.
+ghost use Rattle.std.specs.Prelude.{◌≡◌, ◌+◌, ◌<◌, ◌^◌, ◌-◌, [], length, option_map, IfOk};
+ghost use Rattle.vortex_scalar.specs.View.{integer_of, raw_of, raw_at, content_at};
+ghost use Rattle.vortex_chunks.specs.Bounds.{lesser, greater, behind, with_value, one_null, column_at, IsBoundsOf, AreBoundsOf};
+ghost use Rattle.vortex_chunks.specs.Cut.{raw_part};
+
+use std::alloc::{AllocError, Global};
+use std::cmp::Ordering;
+use vortex_scalar::pvalue::PValue;
+use vortex_scalar::scalar_value::ScalarValue;
+
+/// What a chunk keeps of a column of integers.
+#[derive(Clone, Copy, Debug)]
+pub struct ColumnBounds {
+    /// The least number, if there is one.
+    pub least: Option<PValue>,
+    /// The greatest number, if there is one.
+    pub greatest: Option<PValue>,
+    /// How many values are null.
+    pub null_count: usize,
+}
+
+fn lesser_of(left: PValue, right: PValue) -> PValue
+    ensures { integer_of result ≡ lesser (integer_of left) (integer_of right) }
+{
+    match left.compare(right) {
+        Ordering::Greater => right,
+        _ => left,
+    }
+}
+
+fn greater_of(left: PValue, right: PValue) -> PValue
+    ensures { integer_of result ≡ greater (integer_of left) (integer_of right) }
+{
+    match left.compare(right) {
+        Ordering::Greater => left,
+        _ => right,
+    }
+}
+
+fn least_with(least: Option<PValue>, value: PValue) -> Option<PValue>
+    ensures { option_map integer_of result ≡ behind lesser (option_map integer_of least) (integer_of value) }
+{
+    match least {
+        Some(least) => Some(lesser_of(least, value)),
+        None => Some(value),
+    }
+}
+
+fn greatest_with(greatest: Option<PValue>, value: PValue) -> Option<PValue>
+    ensures { option_map integer_of result ≡ behind greater (option_map integer_of greatest) (integer_of value) }
+{
+    match greatest {
+        Some(greatest) => Some(greater_of(greatest, value)),
+        None => Some(value),
+    }
+}
+
+impl ColumnBounds {
+    /// The bounds of no values.
+    pub fn none() -> ColumnBounds
+        ensures { IsBoundsOf result [] }
+    {
+        ColumnBounds {
+            least: None,
+            greatest: None,
+            null_count: 0,
+        }
+    }
+
+    // The bounds with one more value.
+    #[tactic(auto, using(vortex_scalar::proofs::Views::one_level))]
+    fn with(self, value: Option<&ScalarValue>) -> ColumnBounds
+        requires { self.null_count < 2 ^ 64 - 1 }
+        ensures least { option_map integer_of result.least ≡ with_value lesser (option_map integer_of self.least) (content_at value.entry) }
+        ensures greatest { option_map integer_of result.greatest ≡ with_value greater (option_map integer_of self.greatest) (content_at value.entry) }
+        ensures nulls { result.null_count ≡ self.null_count + one_null (content_at value.entry) }
+    {
+        match value {
+            None => ColumnBounds {
+                least: self.least,
+                greatest: self.greatest,
+                null_count: self.null_count + 1,
+            },
+            Some(ScalarValue::Primitive(number)) => ColumnBounds {
+                least: least_with(self.least, *number),
+                greatest: greatest_with(self.greatest, *number),
+                null_count: self.null_count,
+            },
+            Some(ScalarValue::Bool(_)) => self,
+            Some(ScalarValue::Tuple(_)) => self,
+        }
+    }
+}
+
+/// A row's value in the column, where it has one.
+#[tactic(auto, using(vortex_scalar::proofs::Views::one_level))]
+pub fn cell(row: &ScalarValue, column: usize) -> Option<&ScalarValue>
+    ensures { raw_at result ≡ raw_part (raw_of row.now) column }
+{
+    match row {
+        ScalarValue::Tuple(values) => match values.get(column) {
+            Some(value) => value.as_ref(),
+            None => None,
+        },
+        ScalarValue::Bool(_) => None,
+        ScalarValue::Primitive(_) => None,
+    }
+}
+
+/// The bounds of the column in these rows.
+pub fn column_bounds(rows: &[ScalarValue], column: usize) -> ColumnBounds
+    ensures { IsBoundsOf result (column_at column rows.now) }
+{
+    let mut bounds = ColumnBounds::none();
+    for row in rows {
+        bounds = bounds.with(cell(row, column));
+    }
+    bounds
+}
+
+/// The bounds of so many columns in these rows. Each value is looked at once.
+pub fn all_bounds(
+    alloc: Global,
+    rows: &[ScalarValue],
+    columns: usize,
+) -> Result<Vec<ColumnBounds>, AllocError>
+    ensures bounds { IfOk result (λ all. AreBoundsOf all.items rows.now) }
+    ensures columns { IfOk result (λ all. length all.items ≡ columns) }
+{
+    let mut all = Vec::with_capacity(alloc, columns)?;
+    for column in 0..columns {
+        all.push(column_bounds(rows, column))?;
+    }
+    Ok(all)
+}

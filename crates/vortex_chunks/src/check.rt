@@ -1,0 +1,79 @@
+//! Tests of what a command is given.
+ghost use Rattle.std.specs.Prelude.{◌≡◌, Some, None, OnOk, IfErr, map, option_map};
+ghost use Rattle.vortex_model.specs.Kept.{kept_fault};
+ghost use Rattle.vortex_model.specs.Command.{part_named, path_fault, paths_fault};
+ghost use Rattle.vortex_dtype.specs.View.{kind_of, steps_of};
+ghost use Rattle.vortex_dtype.specs.Fault.{refusal_of_fault};
+ghost use Rattle.vortex_chunks.specs.Error.{refusal_of, Explains};
+
+use crate::error::TableError;
+use std::alloc::Global;
+use vortex_dtype::dtype::DType;
+use vortex_dtype::field::{Field, FieldPath};
+use vortex_dtype::field_names::FieldName;
+use vortex_dtype::kept::{TypeFault, kept_fault};
+
+fn type_error(fault: TypeFault) -> TableError
+    ensures { refusal_of result ≡ Some (refusal_of_fault fault) }
+{
+    match fault {
+        TypeFault::NotARecord => TableError::NotARecord,
+        TypeFault::UnkeptType => TableError::UnkeptType,
+        TypeFault::RepeatedName => TableError::RepeatedName,
+    }
+}
+
+/// Tests whether a table can hold the type.
+pub fn check_type(alloc: Global, dtype: &DType) -> Result<(), TableError>
+    ensures ok { OnOk result (kept_fault (kind_of dtype.now) ≡ None) }
+    ensures refused { IfErr result (λ e. Explains ⊥ (kept_fault (kind_of dtype.now)) e) }
+{
+    match kept_fault(alloc, dtype)? {
+        Some(fault) => Err(type_error(fault)),
+        None => Ok(()),
+    }
+}
+
+// The type of the record's first field of this name.
+#[tactic(auto, using(vortex_dtype::proofs::Views::one_level))]
+fn named_part<'a>(dtype: &'a DType, name: &FieldName) -> Option<&'a DType>
+    ensures { option_map (λ part. kind_of part.now) result ≡ part_named (kind_of dtype.now) name.now }
+{
+    match dtype {
+        DType::Struct(fields, _) => match fields.find(name) {
+            Some(position) => fields.field_by_index(position),
+            None => None,
+        },
+        DType::Bool(_) => None,
+        DType::Primitive(_, _) => None,
+    }
+}
+
+// Tests whether the path at this index leads, by names alone, to a part of the type.
+fn check_path(index: usize, dtype: &DType, path: &FieldPath) -> Result<(), TableError>
+    ensures ok { OnOk result (path_fault index (kind_of dtype.now) (steps_of path.now) ≡ None) }
+    ensures refused { IfErr result (λ e. Explains ⊥ (path_fault index (kind_of dtype.now) (steps_of path.now)) e) }
+{
+    let mut current = dtype;
+    for step in path.parts() {
+        match step {
+            Field::Name(name) => match named_part(current, name) {
+                Some(part) => current = part,
+                None => return Err(TableError::UnknownPath(index)),
+            },
+            Field::ElementType => return Err(TableError::ElementStep(index)),
+        }
+    }
+    Ok(())
+}
+
+/// Tests whether each path leads, by names alone, to a part of the type.
+pub fn check_paths(dtype: &DType, paths: &[FieldPath]) -> Result<(), TableError>
+    ensures ok { OnOk result (paths_fault 0 (kind_of dtype.now) (map steps_of paths.now) ≡ None) }
+    ensures refused { IfErr result (λ e. Explains ⊥ (paths_fault 0 (kind_of dtype.now) (map steps_of paths.now)) e) }
+{
+    for (index, path) in paths.iter().enumerate() {
+        check_path(index, dtype, path)?;
+    }
+    Ok(())
+}

@@ -1,0 +1,16 @@
+//! Tables of rows in chunks, each with bounds for its columns, and scans that skip chunks.
+#![tactic(auto)]
+
+pub mod answer;
+mod append;
+mod binder;
+pub mod bounds;
+mod check;
+pub mod chunk;
+mod cut;
+pub mod error;
+mod make;
+mod plan;
+pub mod scan;
+mod select;
+pub mod table;

@@ -1,0 +1,43 @@
+//! Scans over the chunks of a table.
+
+use crate::answer::ScanAnswer;
+use crate::error::TableError;
+use crate::make::make_plan;
+use crate::table::Table;
+use std::alloc::Global;
+use vortex_dtype::field::FieldPath;
+use vortex_expr::expression::Expression;
+
+impl Table {
+    ghost use Rattle.std.specs.Prelude.{◌≡◌, None, map, IfOk, OnOk, IfErr};
+    ghost use Rattle.vortex_model.specs.Scan.{scanned};
+    ghost use Rattle.vortex_model.specs.Command.{scan, names_of, refusal};
+    ghost use Rattle.vortex_dtype.specs.View.{steps_of};
+    ghost use Rattle.vortex_chunks.specs.Error.{Explains};
+    ghost use Rattle.vortex_chunks.specs.TableView.{table_of};
+    ghost use Rattle.vortex_chunks.specs.AnswerView.{answer_of, IsTyped};
+
+    /// The rows that the predicate selects, in order and cut by the paths. The path without a step asks for whole rows,
+    /// and no path for empty records.
+    ///
+    /// A chunk whose bounds prove that none of its rows is selected is skipped, and costs nothing in its rows.
+    ///
+    /// Refused, in this order: `UnknownPath` or `ElementStep` with the first path at fault; the first fault of the
+    /// predicate, children before their parent and left before right: `Placeholder`, `UnknownColumn`, `NotALeaf`,
+    /// `UnsupportedPredicate`, `UnequalTypes`, `NotBoolean`.
+    pub fn scan(
+        &self,
+        alloc: Global,
+        paths: &[FieldPath],
+        predicate: &Expression,
+    ) -> Result<ScanAnswer, TableError>
+        ensures found { IfOk result (λ a. answer_of a ≡ scanned (table_of self.now) (map names_of (map steps_of paths.now)) predicate.now) }
+        ensures typed { IfOk result (λ a. IsTyped a) }
+        ensures accepted { OnOk result (refusal (table_of self.now) (scan (map steps_of paths.now) predicate.now) ≡ None) }
+        ensures refused { IfErr result (λ e. Explains ⊥ (refusal (table_of self.now) (scan (map steps_of paths.now) predicate.now)) e) }
+    {
+        let plan = make_plan(alloc, self, paths, predicate)?;
+        let answer = plan.run(alloc)?;
+        Ok(answer)
+    }
+}

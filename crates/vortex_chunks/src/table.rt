@@ -1,0 +1,133 @@
+//! Tables, and the commands that make and fill them.
+ghost use Rattle.std.specs.Prelude.{◌≡◌, IsTrue, is_none};
+ghost use Rattle.std.specs.List.{list_all};
+ghost use Rattle.vortex_model.specs.Kept.{kept_fault};
+ghost use Rattle.vortex_dtype.specs.View.{kind_of};
+ghost use Rattle.vortex_chunks.specs.Chunk.{row_count};
+ghost use Rattle.vortex_chunks.specs.Table.{is_formed};
+
+use crate::append::{convert_rows, first_invalid, new_chunk};
+use crate::check::check_type;
+use crate::chunk::Chunk;
+use crate::error::TableError;
+use std::alloc::Global;
+use vortex_dtype::dtype::DType;
+use vortex_scalar::scalar_value::ScalarValue;
+
+/// A type, and rows of it in chunks.
+#[derive(Drop)]
+pub struct Table {
+    pub(crate) dtype: DType,
+    pub(crate) bound_length: usize,
+    pub(crate) len: usize,
+    pub(crate) chunks: Vec<Chunk>,
+    pub ghost kept: { IsTrue (is_none (kept_fault (kind_of dtype))) },
+    pub ghost formed: { IsTrue (list_all (is_formed (kind_of dtype)) chunks.items) },
+    pub ghost counted: { row_count chunks.items ≡ len },
+}
+
+/// How a column of an appended batch was laid out. It is read and ignored so far.
+#[derive(Clone, Copy, Debug, PartialEq, Eq)]
+pub enum Layout {
+    /// Each value by itself.
+    Plain,
+    /// Distinct values, and a code for each row.
+    Dictionary,
+    /// One value for all rows.
+    Constant,
+}
+
+impl Table {
+    ghost use Rattle.std.specs.Prelude.{◌≡◌, ◌+◌, ◌^◌, ◌≤◌, [], None, length, map, IfOk, OnOk, IfErr, OnErr, IsErrOf, IsTrue, ◌↔◌};
+    ghost use Rattle.vortex_model.specs.Table.{rows_of};
+    ghost use Rattle.vortex_model.specs.Command.{create, append, create_fault, created, refusal, after};
+    ghost use Rattle.vortex_dtype.specs.View.{kind_of};
+    ghost use Rattle.vortex_scalar.specs.View.{raw_in};
+    ghost use Rattle.vortex_chunks.specs.Error.{Explains};
+    ghost use Rattle.vortex_chunks.specs.TableView.{table_of};
+
+    /// A table without rows. Texts and bytes of more than `bound_length` bytes will have shortened bounds.
+    ///
+    /// It is refused where a table can't hold the type: `NotARecord`, `RepeatedName`, `UnkeptType`.
+    pub fn create(alloc: Global, dtype: DType, bound_length: usize) -> Result<Table, TableError>
+        ensures made { IfOk result (λ t. table_of t ≡ created (kind_of dtype) bound_length []) }
+        ensures accepted { OnOk result (create_fault (kind_of dtype) [] ≡ None) }
+        ensures refused { IfErr result (λ e. Explains ⊥ (create_fault (kind_of dtype) []) e) }
+    {
+        check_type(alloc, &dtype)?;
+        Ok(Table {
+            dtype,
+            bound_length,
+            len: 0,
+            chunks: Vec::new(alloc),
+        })
+    }
+
+    /// Converts the rows, each a value of the batch's type or null, to the table's type and keeps them as one new chunk.
+    /// No rows make none. After an error the table is as before.
+    ///
+    /// Refused, in this order: where a table can't hold the batch's type; `InvalidValue` with the first row that
+    /// isn't valid for it; `NotConvertible` with the first that the table's type can't hold; `Total` where the rows
+    /// would be more than `usize::MAX`.
+    pub fn append(
+        &mut self,
+        batch_dtype: &DType,
+        values: &[Option<ScalarValue>],
+        layouts: &[Layout],
+    ) -> Result<(), TableError>
+        ensures appended { OnOk result (table_of self.new ≡ after (table_of self.old) (append (kind_of batch_dtype.now) (map raw_in values.now))) }
+        ensures accepted { OnOk result (refusal (table_of self.old) (append (kind_of batch_dtype.now) (map raw_in values.now)) ≡ None) }
+        ensures refused { IfErr result (λ e. Explains
+            (2 ^ 64 ≤ length (rows_of (table_of self.old)) + length values.now)
+            (refusal (table_of self.old) (append (kind_of batch_dtype.now) (map raw_in values.now))) e) }
+        ensures total { IsErrOf result TableError.Total
+            → refusal (table_of self.old) (append (kind_of batch_dtype.now) (map raw_in values.now)) ≡ None }
+        ensures unchanged { OnErr result (table_of self.new ≡ table_of self.old) }
+    {
+        let _ = layouts;
+        let alloc = *self.chunks.allocator();
+        check_type(alloc, batch_dtype)?;
+        if let Some(row) = first_invalid(batch_dtype, values) {
+            return Err(TableError::InvalidValue(row));
+        }
+        let rows = convert_rows(alloc, batch_dtype, &self.dtype, values)?;
+        let Some(len) = self.len.checked_add(rows.len()) else {
+            return Err(TableError::Total);
+        };
+        if rows.is_empty() {
+            return Ok(());
+        }
+        let chunk = new_chunk(alloc, &self.dtype, rows)?;
+        self.chunks.push(chunk)?;
+        self.len = len;
+        Ok(())
+    }
+
+    /// The type of the rows.
+    pub fn dtype(&self) -> &DType
+        ensures { kind_of result.now ≡ (table_of self.now).kind }
+    {
+        &self.dtype
+    }
+
+    /// How many rows there are.
+    pub fn len(&self) -> usize
+        ensures { result ≡ length (rows_of (table_of self.now)) }
+    {
+        self.len
+    }
+
+    /// Whether there are no rows.
+    pub fn is_empty(&self) -> bool
+        ensures { IsTrue result ↔ (rows_of (table_of self.now) ≡ []) }
+    {
+        self.len == 0
+    }
+
+    /// How many chunks there are.
+    pub fn chunk_count(&self) -> usize
+        ensures { result ≡ length (table_of self.now).chunks }
+    {
+        self.chunks.len()
+    }
+}
