@@ -1,0 +1,34 @@
+-- The contents that values are, at a type.
+use Rattle.std.specs.Prelude.{◌≡◌, ℕ, ℤ, List, [], ◌∷◌, Bool, Option, Some, None, unwrap_or, if◌then◌else◌, option_map, option_and_then}
+use Rattle.serde_json.specs.Data.{Num, Data, null, boolean as truth, number, string, array, object, Items, no_items, item}
+use Rattle.serde_json.specs.Find.{as_integer}
+use Rattle.vortex_model.specs.Kind.{IntKind, Kind, integer, struct, Fields, no_fields, field}
+use Rattle.vortex_model.specs.Content.{Raw, raw_null, raw_number, raw_tuple}
+use Rattle.vortex_scalar.specs.View.{raws_from}
+use Rattle.vortex_model.specs.Valid.{in_range}
+
+-- a number of the kind
+abbrev pub number_at : IntKind → Num → Option Raw
+number_at i n = option_and_then (λ z. if in_range i z then Some (raw_number i z) else None) (as_integer n)
+
+-- The reading of a value at a type: null anywhere, a number in range at a kind of integers, an array by position at a record.
+abbrev mutual
+  pub reading : Kind → Data → Option Raw
+  reading k null = Some raw_null
+  reading (integer i n) (number x) = number_at i x
+  reading (struct fs n) (array ds) = option_map (λ rs. raw_tuple (raws_from rs)) (readings fs ds)
+  reading k d = None
+
+  -- a reading a field
+  pub readings : Fields → Items → Option (List Raw)
+  readings no_fields no_items = Some []
+  readings (field x k fs) (item d ds) = option_and_then (λ r. option_map (λ rs. r ∷ rs) (readings fs ds)) (reading k d)
+  readings fs ds = None
+
+-- a row, and null where there is no reading
+abbrev pub row_at : Kind → Data → Raw
+row_at k d = unwrap_or (reading k d) raw_null
+
+abbrev pub rows_at : Kind → Items → List Raw
+rows_at k no_items = []
+rows_at k (item d ds) = row_at k d ∷ rows_at k ds

@@ -1,0 +1,27 @@
+-- What contracts see of a command, without where it lies in memory.
+use Rattle.std.specs.Prelude.{[], map}
+use Rattle.vortex_model.specs.Command as model
+use Rattle.vortex_dtype.specs.View.{kind_of, steps_of}
+use Rattle.vortex_scalar.specs.View.{raw_in}
+use Rattle.vortex_chunks.specs.declared.table.Layout as rows
+use Rattle.vortex_chunks.specs.declared.table.Layout.TheVariants as layout
+use Rattle.vortex_lines.specs.Line.{LayoutName, plain, dictionary, constant, VerbName, creates, appends, scans}
+use Rattle.vortex_lines.specs.declared.command.Verb as verbs
+use Rattle.vortex_lines.specs.declared.command.Verb.TheVariants as verb
+use Rattle.vortex_lines.specs.declared.command.Command.{Command}
+use Rattle.vortex_lines.specs.declared.command.Command.TheVariants.{Create, Append, Scan}
+
+abbrev pub layout_of : rows.Layout → LayoutName
+layout_of layout.Plain = plain
+layout_of layout.Dictionary = dictionary
+layout_of layout.Constant = constant
+
+abbrev pub verb_of : verbs.Verb → VerbName
+verb_of verb.Create = creates
+verb_of verb.Append = appends
+verb_of verb.Scan = scans
+
+abbrev pub shown : Command → model.Command
+shown (Create dtype length) = model.create (kind_of dtype) length []
+shown (Append dtype values layouts) = model.append (kind_of dtype) (map raw_in values.items)
+shown (Scan paths predicate) = model.scan (map steps_of paths.items) predicate

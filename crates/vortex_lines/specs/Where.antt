@@ -1,0 +1,81 @@
+-- The paths and the predicate of a scan.
+use Rattle.std.specs.Prelude.{◌≡◌, ℕ, List, [], ◌∷◌, Bool, false, true, ◌==◌, ◌&&◌, is_some, Option, Some, None, if◌then◌else◌, option_map, option_and_then, codes}
+use Rattle.std.specs.Str.{bytes_eq}
+use Rattle.serde_json.specs.Data.{Data, Items, no_items, item}
+use Rattle.serde_json.specs.Find.{at, as_array, as_null, as_str}
+use Rattle.vortex_model.specs.Kind.{Kind}
+use Rattle.vortex_dtype.specs.Parts.{is_integer_kind}
+use Rattle.vortex_model.specs.Content.{content_of}
+use Rattle.vortex_model.specs.Valid.{valid}
+use Rattle.vortex_model.specs.Path.{Step, name, element}
+use Rattle.vortex_model.specs.Expression.{Comparison, equal, not_equal, greater, at_least, less, at_most, Expression, literal, column, compare}
+use Rattle.vortex_lines.specs.Parsed.{items_size}
+use Rattle.vortex_lines.specs.Kinds.{kind_in, strings_of}
+use Rattle.vortex_lines.specs.Rows.{reading}
+
+-- ---- paths
+
+-- null is a step to the elements
+abbrev pub step_in : Data → Option Step
+step_in d = if is_some (as_null d) then Some element else option_map name (as_str d)
+
+abbrev pub steps_in : Items → Option (List Step)
+steps_in no_items = Some []
+steps_in (item d ds) = option_and_then (λ s. option_map (λ ss. s ∷ ss) (steps_in ds)) (step_in d)
+
+abbrev pub path_in : Data → Option (List Step)
+path_in d = option_and_then steps_in (as_array d)
+
+abbrev pub paths_in : Items → Option (List (List Step))
+paths_in no_items = Some []
+paths_in (item d ds) = option_and_then (λ p. option_map (λ ps. p ∷ ps) (paths_in ds)) (path_in d)
+
+-- ---- predicates
+
+-- a literal at a kind of integers, where its reading is valid
+abbrev pub literal_at : Kind → Data → Option Expression
+literal_at k d = option_and_then (λ r. if is_integer_kind k then (if valid k r then Some (literal k (content_of r)) else None) else None) (reading k d)
+
+abbrev pub behind_first : Items → Items
+behind_first no_items = no_items
+behind_first (item d ds) = ds
+
+-- `["lit",type,content]`
+abbrev pub literal_in : ℕ → Data → Option Expression
+literal_in n d =
+    if n == 3 then option_and_then (λ k. option_and_then (literal_at k) (at 2 d)) (option_and_then kind_in (at 1 d)) else None
+
+-- `["col",name,..]`
+abbrev pub column_in : Data → Option Expression
+column_in d = option_map column (option_and_then (λ ds. strings_of (behind_first ds)) (as_array d))
+
+abbrev pub operand_named : List ℕ → ℕ → Data → Option Expression
+operand_named op n d =
+    if bytes_eq op (codes "lit") then literal_in n d
+    else (if bytes_eq op (codes "col") then column_in d else None)
+
+abbrev pub operand_in : Data → Option Expression
+operand_in d = option_and_then (λ n. option_and_then (λ op. operand_named op n d) (option_and_then as_str (at 0 d))) (items_size d)
+
+abbrev pub comparison_named : List ℕ → Option Comparison
+comparison_named op =
+    if bytes_eq op (codes "=") then Some equal
+    else (if bytes_eq op (codes "!=") then Some not_equal
+    else (if bytes_eq op (codes ">") then Some greater
+    else (if bytes_eq op (codes ">=") then Some at_least
+    else (if bytes_eq op (codes "<") then Some less
+    else (if bytes_eq op (codes "<=") then Some at_most else None)))))
+
+-- `[op,x,y]`
+abbrev pub comparison_in : List ℕ → ℕ → Data → Option Expression
+comparison_in op n d =
+    if n == 3
+    then option_and_then (λ x. option_and_then (λ y. option_map (λ c. compare c x y) (comparison_named op)) (option_and_then operand_in (at 2 d))) (option_and_then operand_in (at 1 d))
+    else None
+
+abbrev pub predicate_named : List ℕ → ℕ → Data → Option Expression
+predicate_named op n d = if is_some (comparison_named op) then comparison_in op n d else operand_named op n d
+
+-- the predicate that a value is: a comparison of literals and columns, or one of these
+abbrev pub predicate_in : Data → Option Expression
+predicate_in d = option_and_then (λ n. option_and_then (λ op. predicate_named op n d) (option_and_then as_str (at 0 d))) (items_size d)

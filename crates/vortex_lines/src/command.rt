@@ -1,0 +1,193 @@
+//! Commands from JSON.
+ghost use Rattle.std.specs.Prelude.{◌≡◌, map, option_map, Some, None, if◌then◌else◌};
+ghost use Rattle.serde_json.specs.View.{view, items_view};
+ghost use Rattle.vortex_lines.specs.Parsed.{Gives};
+ghost use Rattle.vortex_lines.specs.Line.{layout_named, layouts_of, layouts_in, rows_in, create_in, append_in, scan_in, verb_named, command_in, command_of};
+ghost use Rattle.vortex_lines.specs.View.{layout_of, verb_of, shown};
+ghost use Rattle.vortex_dtype.specs.View.{kind_of};
+ghost use Rattle.vortex_scalar.specs.View.{raw_in};
+
+use crate::fault::Fault;
+use crate::kinds::{one_if_there, read_dtype};
+use crate::parsed::{is_whole, parse, size};
+use crate::paths::read_paths;
+use crate::predicates::read_predicate;
+use crate::rows::read_rows;
+use serde_json::Value;
+use std::alloc::Global;
+use vortex_chunks::table::Layout;
+use vortex_dtype::dtype::DType;
+use vortex_dtype::field::FieldPath;
+use vortex_expr::expression::Expression;
+use vortex_scalar::scalar_value::ScalarValue;
+
+/// A command of a line.
+#[derive(Drop)]
+pub enum Command {
+    /// A new table of a type, whose bounds of texts and bytes have at most `length` bytes.
+    Create {
+        /// The type of the rows.
+        dtype: DType,
+        /// In bytes.
+        length: usize,
+    },
+    /// Rows for the table.
+    Append {
+        /// The type of the rows, which the table's type may widen.
+        dtype: DType,
+        /// The rows. Null stands for one that couldn't be read.
+        values: Vec<Option<ScalarValue>>,
+        /// How the rows are laid out.
+        layouts: Vec<Layout>,
+    },
+    /// Which rows a predicate selects, cut by paths.
+    Scan {
+        /// What each row is cut to.
+        paths: Vec<FieldPath>,
+        /// Which rows.
+        predicate: Expression,
+    },
+}
+
+fn read_layout(name: &str) -> Result<Layout, Fault>
+    ensures { Gives layout_of result (layout_named name.now) }
+{
+    match name {
+        "plain" => Ok(Layout::Plain),
+        "dictionary" => Ok(Layout::Dictionary),
+        "constant" => Ok(Layout::Constant),
+        _ => Err(Fault::Bad),
+    }
+}
+
+fn read_layout_items(alloc: Global, items: &[Value]) -> Result<Vec<Layout>, Fault>
+    ensures { Gives (λ v. map layout_of v.items) result (layouts_of (items_view items.now)) }
+{
+    let mut layouts = Vec::new(alloc);
+    for item in items {
+        let name = item.as_str().ok_or(Fault::Bad)?;
+        layouts.push(read_layout(name)?)?;
+    }
+    Ok(layouts)
+}
+
+fn read_layouts(alloc: Global, list: Option<&Value>) -> Result<Vec<Layout>, Fault>
+    ensures { Gives (λ v. map layout_of v.items) result (layouts_in (option_map (λ v. view v.now) list.entry)) }
+{
+    match list {
+        None => Ok(Vec::new(alloc)),
+        Some(list) => {
+            let items = list.as_array().ok_or(Fault::Bad)?;
+            read_layout_items(alloc, items)
+        }
+    }
+}
+
+fn read_create(alloc: Global, size: usize, value: &Value) -> Result<Command, Fault>
+    ensures { Gives shown result (create_in size (view value.now)) }
+{
+    if size != 3 {
+        return Err(Fault::Bad);
+    }
+    let dtype = read_dtype(alloc, value.get("dtype").ok_or(Fault::Bad)?)?;
+    let length = value
+        .get("length")
+        .and_then(Value::as_u64)
+        .ok_or(Fault::Bad)?;
+    Ok(Command::Create {
+        dtype,
+        length: length as usize,
+    })
+}
+
+/// The rows of an append. Each is given up as soon as it was read, so that the JSON value and the rows are never both there in full.
+fn take_rows(
+    alloc: Global,
+    value: &mut Value,
+    dtype: &DType,
+) -> Result<Vec<Option<ScalarValue>>, Fault>
+    ensures { Gives (λ rows. map raw_in rows.items) result (rows_in (kind_of dtype.now) (view value.old)) }
+{
+    let Some(rows) = value.get_mut("rows") else {
+        return Err(Fault::Bad);
+    };
+    match rows.take() {
+        Value::Array(items) => Ok(read_rows(alloc, items, dtype)?),
+        _ => Err(Fault::Bad),
+    }
+}
+
+fn read_append(alloc: Global, size: usize, value: &mut Value) -> Result<Command, Fault>
+    ensures { Gives shown result (append_in size (view value.old)) }
+{
+    if size != 3 + one_if_there(value.get("layouts")) {
+        return Err(Fault::Bad);
+    }
+    let layouts = read_layouts(alloc, value.get("layouts"))?;
+    let dtype = read_dtype(alloc, value.get("dtype").ok_or(Fault::Bad)?)?;
+    let values = take_rows(alloc, value, &dtype)?;
+    Ok(Command::Append {
+        dtype,
+        values,
+        layouts,
+    })
+}
+
+fn read_scan(alloc: Global, size: usize, value: &Value) -> Result<Command, Fault>
+    ensures { Gives shown result (scan_in size (view value.now)) }
+{
+    if size != 3 {
+        return Err(Fault::Bad);
+    }
+    let items = value
+        .get("paths")
+        .and_then(Value::as_array)
+        .ok_or(Fault::Bad)?;
+    let paths = read_paths(alloc, items)?;
+    let predicate = read_predicate(alloc, value.get("where").ok_or(Fault::Bad)?)?;
+    Ok(Command::Scan { paths, predicate })
+}
+
+/// Which command a line asks for.
+#[derive(Clone, Copy, Debug, PartialEq, Eq)]
+enum Verb {
+    Create,
+    Append,
+    Scan,
+}
+
+fn read_verb(name: &str) -> Result<Verb, Fault>
+    ensures { Gives verb_of result (verb_named name.now) }
+{
+    match name {
+        "create" => Ok(Verb::Create),
+        "append" => Ok(Verb::Append),
+        "scan" => Ok(Verb::Scan),
+        _ => Err(Fault::Bad),
+    }
+}
+
+/// The command that an object is, which is used up.
+fn read_value_command(alloc: Global, value: &mut Value) -> Result<Command, Fault>
+    ensures { Gives shown result (command_in (view value.old)) }
+{
+    let size = size(value).ok_or(Fault::Bad)?;
+    let verb = read_verb(value.get("cmd").and_then(Value::as_str).ok_or(Fault::Bad)?)?;
+    match verb {
+        Verb::Create => read_create(alloc, size, value),
+        Verb::Append => read_append(alloc, size, value),
+        Verb::Scan => read_scan(alloc, size, value),
+    }
+}
+
+/// The command that a line is. The line is bad where it is no JSON, nests above 127, has a number that is no whole number
+/// of 64 bits, or is of another shape.
+pub fn read_command(alloc: Global, line: &[u8]) -> Result<Command, Fault>
+    ensures { Gives shown result (command_of line.now) }
+{
+    let mut value = parse(alloc, line)?;
+    if !is_whole(&value) {
+        return Err(Fault::Bad);
+    }
+    read_value_command(alloc, &mut value)
+}
