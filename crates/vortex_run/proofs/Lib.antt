@@ -1,0 +1,2 @@
+mod Errors
+mod Responding

@@ -1,0 +1,3 @@
+pub mod LineAnswers
+pub mod Said
+pub mod State
