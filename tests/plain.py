@@ -1,0 +1,375 @@
+#!/usr/bin/env python3
+"""A plain, slow colscan: the definitions as directly as they can be run, with nothing kept of a chunk but its rows.
+
+plain.py                      answers the lines of standard input
+plain.py --random N FOLDER    writes N random sessions and their answers to FOLDER, as NAME and NAME.stdout, for `rt try --cases`
+"""
+import json
+import os
+import random
+import sys
+
+RANGES = {
+    "u8": (0, 2**8 - 1), "u16": (0, 2**16 - 1), "u32": (0, 2**32 - 1), "u64": (0, 2**64 - 1),
+    "i8": (-2**7, 2**7 - 1), "i16": (-2**15, 2**15 - 1), "i32": (-2**31, 2**31 - 1), "i64": (-2**63, 2**63 - 1),
+}
+NAMES = {
+    2: "NotARecord", 3: "UnkeptType", 4: "RepeatedName", 5: "InvalidValue", 6: "NotConvertible", 9: "UnknownPath", 10: "ElementStep",
+    12: "UnknownColumn", 13: "NotALeaf", 14: "UnequalTypes", 15: "NotBoolean", 18: "BadLine", 19: "NoTable",
+}
+TESTS = {
+    "=": lambda x, y: x == y, "!=": lambda x, y: x != y, ">": lambda x, y: x > y,
+    ">=": lambda x, y: x >= y, "<": lambda x, y: x < y, "<=": lambda x, y: x <= y,
+}
+
+
+class Refused(Exception):
+    def __init__(self, number, at=None):
+        self.number, self.at = number, at
+
+
+def bad():
+    raise Refused(18)
+
+
+def need(fact):
+    if not fact:
+        bad()
+
+
+# ---- reading
+
+def whole(text):
+    """A number that JSON's reader keeps as a 64-bit whole number; anything else is kept as a float."""
+    number = int(text)
+    return number if -2**63 <= number < 2**64 and text != "-0" else float(number)
+
+
+def depth(value):
+    if isinstance(value, list):
+        return 1 + max(map(depth, value), default=0)
+    if isinstance(value, dict):
+        return 1 + max(map(depth, value.values()), default=0)
+    return 0
+
+
+def no_float(value):
+    if isinstance(value, list):
+        return all(map(no_float, value))
+    if isinstance(value, dict):
+        return all(map(no_float, value.values()))
+    return not isinstance(value, float)
+
+
+def read_line(line):
+    try:
+        value = json.loads(line.decode("utf-8"), parse_int=whole, parse_constant=lambda _: bad())
+    except (ValueError, RecursionError):
+        bad()
+    need(depth(value) <= 127 and no_float(value))
+    return value
+
+
+def keys(value, needed, free=()):
+    need(isinstance(value, dict) and set(needed) <= set(value) <= set(needed) | set(free))
+
+
+def read_type(value):
+    need(isinstance(value, dict) and isinstance(value.get("kind"), str))
+    nullable = value.get("nullable", False)
+    need(isinstance(nullable, bool))
+    children = value.get("children", [])
+    need(isinstance(children, list))
+    if value["kind"] == "struct":
+        keys(value, ["kind", "names"], ["nullable", "children"])
+        names = value["names"]
+        need(isinstance(names, list) and all(isinstance(name, str) for name in names) and len(names) == len(children))
+        return ("struct", list(zip(names, map(read_type, children))), nullable)
+    keys(value, ["kind"], ["nullable", "children"])
+    need(value["kind"] in RANGES and not children)
+    return (value["kind"], None, nullable)
+
+
+def is_number(value):
+    return isinstance(value, int) and not isinstance(value, bool)
+
+
+def is_value(value, dtype):
+    """Whether a JSON value reads as a valid value of the type."""
+    kind, fields, nullable = dtype
+    if value is None:
+        return nullable
+    if kind == "struct":
+        return isinstance(value, list) and len(value) == len(fields) and all(is_value(v, f[1]) for v, f in zip(value, fields))
+    return is_number(value) and RANGES[kind][0] <= value <= RANGES[kind][1]
+
+
+def read_path(value):
+    need(isinstance(value, list) and all(step is None or isinstance(step, str) for step in value))
+    return value
+
+
+def read_operand(value):
+    need(isinstance(value, list) and value)
+    if value[0] == "col":
+        need(all(isinstance(name, str) for name in value[1:]))
+        return ("col", value[1:])
+    need(value[0] == "lit" and len(value) == 3)
+    dtype = read_type(value[1])
+    need(dtype[0] != "struct" and is_value(value[2], dtype))
+    return ("lit", dtype, value[2])
+
+
+def read_predicate(value):
+    need(isinstance(value, list) and value and isinstance(value[0], str))
+    if value[0] in TESTS:
+        need(len(value) == 3)
+        return (value[0], read_operand(value[1]), read_operand(value[2]))
+    return read_operand(value)
+
+
+def read_command(line):
+    value = read_line(line)
+    need(isinstance(value, dict))
+    if value.get("cmd") == "create":
+        keys(value, ["cmd", "dtype", "length"])
+        need(is_number(value["length"]) and value["length"] >= 0)
+        return ("create", read_type(value["dtype"]))
+    if value.get("cmd") == "append":
+        keys(value, ["cmd", "dtype", "rows"], ["layouts"])
+        layouts = value.get("layouts", [])
+        need(isinstance(layouts, list) and all(name in ("plain", "dictionary", "constant") for name in layouts))
+        need(isinstance(value["rows"], list))
+        return ("append", read_type(value["dtype"]), value["rows"])
+    need(value.get("cmd") == "scan")
+    keys(value, ["cmd", "paths", "where"])
+    need(isinstance(value["paths"], list))
+    return ("scan", list(map(read_path, value["paths"])), read_predicate(value["where"]))
+
+
+# ---- the table: a type and a list of chunks, each a list of rows
+
+def check_type(dtype):
+    kind, fields, nullable = dtype
+    if kind != "struct" or nullable:
+        raise Refused(2)
+    if len({name for name, _ in fields}) != len(fields):
+        raise Refused(4)
+    if any(part[0] == "struct" for _, part in fields):
+        raise Refused(3)
+
+
+def append(table, dtype, rows):
+    check_type(dtype)
+    for i, row in enumerate(rows):
+        if not is_value(row, dtype):
+            raise Refused(5, i)
+    for i, row in enumerate(rows):
+        if not is_value(row, table["dtype"]):
+            raise Refused(6, i)
+    if rows:
+        table["chunks"].append(rows)
+
+
+def check_path(dtype, path, at):
+    for step in path:
+        if step is None:
+            raise Refused(10, at)
+        parts = [part for name, part in dtype[1] or [] if name == step]
+        if not parts:
+            raise Refused(9, at)
+        dtype = parts[0]
+
+
+def operand_type(dtype, operand):
+    if operand[0] == "lit":
+        return operand[1][0]
+    names = operand[1]
+    if not names:
+        raise Refused(13)
+    parts = [part for name, part in dtype[1] if name == names[0]]
+    if not parts or len(names) > 1:
+        raise Refused(12)
+    return parts[0][0]
+
+
+def check_predicate(dtype, predicate):
+    if predicate[0] not in TESTS:
+        operand_type(dtype, predicate)
+        raise Refused(15)
+    if operand_type(dtype, predicate[1]) != operand_type(dtype, predicate[2]):
+        raise Refused(14)
+
+
+def operand_value(dtype, operand, row):
+    if operand[0] == "lit":
+        return operand[2]
+    return row[[name for name, _ in dtype[1]].index(operand[1][0])]
+
+
+def is_hopeless(dtype, predicate, chunk):
+    """Whether the bounds of the two sides alone tell that no row satisfies the comparison."""
+    bounds = []
+    for operand in predicate[1:]:
+        values = [operand_value(dtype, operand, row) for row in chunk]
+        values = [value for value in values if value is not None]
+        if not values:
+            return False
+        bounds.append((min(values), max(values)))
+    (a, b), (c, d) = bounds
+    return {"=": a > d or c > b, "!=": a == d and b == c, ">": b <= c, ">=": b < c, "<": a >= d, "<=": a > d}[predicate[0]]
+
+
+def scan(table, paths, predicate):
+    dtype = table["dtype"]
+    for at, path in enumerate(paths):
+        check_path(dtype, path, at)
+    check_predicate(dtype, predicate)
+    kept = [[] in paths or [name] in paths for name, _ in dtype[1]]
+    cut = lambda parts: [part for part, keep in zip(parts, kept) if keep]
+    rows, skipped, tested = [], [], 0
+    for number, chunk in enumerate(table["chunks"]):
+        if is_hopeless(dtype, predicate, chunk):
+            skipped.append(number)
+        else:
+            tested += len(chunk)
+        for row in chunk:
+            x, y = (operand_value(dtype, operand, row) for operand in predicate[1:])
+            if x is not None and y is not None and TESTS[predicate[0]](x, y):
+                rows.append(cut(row))
+    return {
+        "dtype": type_json(("struct", cut(dtype[1]), False)), "ok": True, "proofs": len(table["chunks"]), "rows": rows,
+        "rows_tested": tested, "skipped": skipped, "whole": [],
+    }
+
+
+def type_json(dtype):
+    kind, fields, nullable = dtype
+    if kind != "struct":
+        return {"kind": kind, "nullable": nullable}
+    return {"children": [type_json(part) for _, part in fields], "kind": kind, "names": [name for name, _ in fields], "nullable": nullable}
+
+
+def compact(value):
+    return json.dumps(value, separators=(",", ":"), ensure_ascii=False)
+
+
+class Session:
+    def __init__(self):
+        self.table = None
+
+    def answer(self, line):
+        try:
+            command = read_command(line)
+            if command[0] == "create":
+                check_type(command[1])
+                self.table = {"dtype": command[1], "chunks": []}
+                return compact({"ok": True})
+            if self.table is None:
+                raise Refused(19)
+            if command[0] == "append":
+                append(self.table, *command[1:])
+                return compact({"ok": True})
+            return compact(scan(self.table, *command[1:]))
+        except Refused as refused:
+            place = {} if refused.at is None else {"at": refused.at}
+            return compact({**place, "error": refused.number, "name": NAMES[refused.number]})
+
+
+def answers(data):
+    session = Session()
+    lines = data.split(b"\n")
+    if lines[-1] == b"":
+        lines.pop()
+    return "".join(session.answer(line) + "\n" for line in lines).encode()
+
+
+# ---- random sessions
+
+def random_kind(chance):
+    return {"kind": chance.choice(list(RANGES)), **({"nullable": chance.random() < 0.5} if chance.random() < 0.7 else {})}
+
+
+def random_type(chance, width):
+    names = chance.sample(["a", "b", "c", "\u00e9", "d\"e"], width)
+    if width > 1 and chance.random() < 0.03:
+        names[1] = names[0]
+    dtype = {"kind": "struct", "names": names, "children": [random_kind(chance) for _ in names]}
+    if chance.random() < 0.02:
+        dtype["nullable"] = True
+    if width and chance.random() < 0.02:
+        dtype["children"][-1] = {"kind": "struct", "names": [], "children": []}
+    return dtype
+
+
+def random_number(chance, kind):
+    low, high = RANGES.get(kind, (0, 0))
+    if chance.random() < 0.15:
+        return chance.choice([low, high, low + 1, high - 1])
+    number = chance.randint(-3, 9)
+    return number if low <= number <= high or chance.random() < 0.005 else 0
+
+
+def random_rows(chance, dtype):
+    rows = []
+    for _ in range(chance.choice([0, 1, 1, 2, 3, 5, 12])):
+        rows.append([None if child.get("nullable") and chance.random() < 0.2 else random_number(chance, child["kind"]) for child in dtype["children"]])
+        if chance.random() < 0.01:
+            rows[-1] = chance.choice([None, [], {}, "x", rows[-1] + [0], [[0]] * len(rows[-1])])
+    return rows
+
+
+def random_operand(chance, names, kinds):
+    if chance.random() < 0.55 and names:
+        return ["col", chance.choice(names)] if chance.random() < 0.97 else ["col"] + chance.choice([[], ["zz"], [names[0], names[0]]])
+    kind = chance.choice(kinds) if kinds and chance.random() < 0.95 else "u16"
+    dtype = {"kind": kind, "nullable": chance.random() < 0.2}
+    return ["lit", dtype, None if dtype["nullable"] and chance.random() < 0.3 else random_number(chance, kind)]
+
+
+def random_scan(chance, dtype):
+    names, kinds = dtype["names"], [child["kind"] for child in dtype["children"]]
+    if names and chance.random() < 0.8:
+        # One kind for both sides, so that most scans are accepted.
+        kind = chance.choice(kinds)
+        names = [name for name, other in zip(names, kinds) if other == kind]
+        kinds = [kind]
+    where = [chance.choice(list(TESTS)), random_operand(chance, names, kinds), random_operand(chance, names, kinds)]
+    if chance.random() < 0.03:
+        where = where[1]
+    paths = [[], *([name] for name in dtype["names"])]
+    paths = chance.sample(paths, chance.randint(0, len(paths)))
+    if chance.random() < 0.05:
+        paths.append(chance.choice([["zz"], [None], ["a", None], ["a", "a"]]))
+    return {"cmd": "scan", "paths": paths, "where": where}
+
+
+def random_session(chance):
+    dtype, lines = {"names": [], "children": []}, []
+    for _ in range(chance.randint(5, 40)):
+        roll = chance.random()
+        if roll < 0.08 or not lines:
+            dtype = random_type(chance, chance.randint(0, 4))
+            lines.append({"cmd": "create", "dtype": dtype, "length": chance.choice([0, 16, 2**64 - 1])})
+        elif roll < 0.5:
+            batch = dtype if chance.random() < 0.6 else random_type(chance, len(dtype["names"]))
+            lines.append({"cmd": "append", "dtype": batch, "rows": random_rows(chance, batch)})
+        else:
+            lines.append(random_scan(chance, dtype))
+    return "".join(json.dumps(line, ensure_ascii=chance.random() < 0.5) + "\n" for line in lines).encode()
+
+
+def main():
+    if len(sys.argv) == 4 and sys.argv[1] == "--random":
+        for number in range(int(sys.argv[2])):
+            data = random_session(random.Random(number))
+            with open(os.path.join(sys.argv[3], "random%03d" % number), "wb") as file:
+                file.write(data)
+            with open(os.path.join(sys.argv[3], "random%03d.stdout" % number), "wb") as file:
+                file.write(answers(data))
+    else:
+        sys.stdout.buffer.write(answers(sys.stdin.buffer.read()))
+
+
+if __name__ == "__main__":
+    main()
