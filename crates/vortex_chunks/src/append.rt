@@ -5,7 +5,7 @@ ghost use Rattle.vortex_model.specs.Content.{content_of};
 ghost use Rattle.vortex_model.specs.Valid.{valid};
 ghost use Rattle.vortex_model.specs.Convert.{converts};
 ghost use Rattle.vortex_model.specs.Kept.{kept_fault};
-ghost use Rattle.vortex_model.specs.Refusal.{invalid_value, not_convertible};
+ghost use Rattle.vortex_model.specs.Refusal.{invalid_value, not_convertible, or_else};
 ghost use Rattle.vortex_model.specs.Command.{unless, first_invalid, first_unconvertible};
 ghost use Rattle.vortex_dtype.specs.View.{kind_of};
 ghost use Rattle.vortex_scalar.specs.View.{raw_of, raw_in, content_at};
@@ -14,6 +14,7 @@ ghost use Rattle.vortex_chunks.specs.Error.{Explains};
 ghost use Rattle.vortex_chunks.specs.Table.{column_count};
 
 use crate::bounds::all_bounds;
+use crate::check::check_type;
 use crate::chunk::Chunk;
 use crate::error::TableError;
 use std::alloc::{AllocError, Global};
@@ -23,8 +24,8 @@ use vortex_scalar::error::ScalarError;
 use vortex_scalar::scalar_value::ScalarValue;
 use vortex_scalar::validate::validate;
 
-/// The first row, by its index, that isn't valid for the type.
-pub fn first_invalid(dtype: &DType, values: &[Option<ScalarValue>]) -> Option<usize>
+// The first row, by its index, that isn't valid for the type.
+fn first_invalid(dtype: &DType, values: &[Option<ScalarValue>]) -> Option<usize>
     ensures { option_map invalid_value result ≡ first_invalid 0 (kind_of dtype.now) (map raw_in values.now) }
 {
     for (index, value) in values.iter().enumerate() {
@@ -33,6 +34,24 @@ pub fn first_invalid(dtype: &DType, values: &[Option<ScalarValue>]) -> Option<us
         }
     }
     None
+}
+
+/// Tests whether a table can hold the type of a batch, and then each row: `InvalidValue` with the first that isn't of the type.
+pub fn check_batch(
+    alloc: Global,
+    dtype: &DType,
+    values: &[Option<ScalarValue>],
+) -> Result<(), TableError>
+    ensures kept { OnOk result (kept_fault (kind_of dtype.now) ≡ None) }
+    ensures valid { OnOk result (first_invalid 0 (kind_of dtype.now) (map raw_in values.now) ≡ None) }
+    ensures refused { IfErr result (λ e. Explains ⊥
+        (or_else (kept_fault (kind_of dtype.now)) (first_invalid 0 (kind_of dtype.now) (map raw_in values.now))) e) }
+{
+    check_type(alloc, dtype)?;
+    match first_invalid(dtype, values) {
+        Some(row) => Err(TableError::InvalidValue(row)),
+        None => Ok(()),
+    }
 }
 
 // The row at this index, as one of the target type, which a table can hold.
@@ -78,6 +97,30 @@ pub fn convert_rows(
     let mut rows = Vec::with_capacity(alloc, values.len())?;
     for (index, value) in values.iter().enumerate() {
         let row = convert_row(alloc, source, target, index, value.as_ref())?;
+        rows.push(row)?;
+    }
+    Ok(rows)
+}
+
+/// The same of rows that are handed over. Each is let go once it is converted, so that the rows and what is made of them
+/// are never both there in full.
+pub fn convert_owned_rows(
+    alloc: Global,
+    source: &DType,
+    target: &DType,
+    values: Vec<Option<ScalarValue>>,
+) -> Result<Vec<ScalarValue>, TableError>
+    requires { kept_fault (kind_of target.now) ≡ None }
+    ensures converts { OnOk result (first_unconvertible 0 (kind_of source.now) (kind_of target.now)
+        (map content_of (map raw_in values.items)) ≡ None) }
+    ensures content { IfOk result (λ rows. map row_content rows.items ≡ map content_of (map raw_in values.items)) }
+    ensures valid { IfOk result (λ rows. IsTrue (list_all (λ row. valid (kind_of target.now) (raw_of row)) rows.items)) }
+    ensures refused { IfErr result (λ e. Explains ⊥ (first_unconvertible 0 (kind_of source.now) (kind_of target.now)
+        (map content_of (map raw_in values.items))) e) }
+{
+    let mut rows = Vec::with_capacity(alloc, values.len())?;
+    for value in values {
+        let row = convert_row(alloc, source, target, rows.len(), value.as_ref())?;
         rows.push(row)?;
     }
     Ok(rows)

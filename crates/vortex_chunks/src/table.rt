@@ -6,7 +6,7 @@ ghost use Rattle.vortex_dtype.specs.View.{kind_of};
 ghost use Rattle.vortex_chunks.specs.Chunk.{row_count};
 ghost use Rattle.vortex_chunks.specs.Table.{is_formed};
 
-use crate::append::{convert_rows, first_invalid, new_chunk};
+use crate::append::{check_batch, convert_owned_rows, convert_rows, new_chunk};
 use crate::check::check_type;
 use crate::chunk::Chunk;
 use crate::error::TableError;
@@ -40,9 +40,11 @@ pub enum Layout {
 impl Table {
     ghost use Rattle.std.specs.Prelude.{◌≡◌, ◌+◌, ◌^◌, ◌≤◌, [], None, length, map, IfOk, OnOk, IfErr, OnErr, IsErrOf, IsTrue, ◌↔◌};
     ghost use Rattle.vortex_model.specs.Table.{rows_of};
-    ghost use Rattle.vortex_model.specs.Command.{create, append, create_fault, created, refusal, after};
+    ghost use Rattle.vortex_model.specs.Valid.{valid};
+    ghost use Rattle.vortex_model.specs.Command.{create, append, appended, create_fault, created, refusal, after};
     ghost use Rattle.vortex_dtype.specs.View.{kind_of};
-    ghost use Rattle.vortex_scalar.specs.View.{raw_in};
+    ghost use Rattle.vortex_scalar.specs.View.{raw_in, raw_of};
+    ghost use Rattle.vortex_chunks.specs.Bounds.{row_content};
     ghost use Rattle.vortex_chunks.specs.Error.{Explains};
     ghost use Rattle.vortex_chunks.specs.TableView.{table_of};
 
@@ -86,11 +88,43 @@ impl Table {
     {
         let _ = layouts;
         let alloc = *self.chunks.allocator();
-        check_type(alloc, batch_dtype)?;
-        if let Some(row) = first_invalid(batch_dtype, values) {
-            return Err(TableError::InvalidValue(row));
-        }
+        check_batch(alloc, batch_dtype, values)?;
         let rows = convert_rows(alloc, batch_dtype, &self.dtype, values)?;
+        self.push_rows(alloc, rows)?;
+        Ok(())
+    }
+
+    /// As `append`, of rows that are handed over: each is let go once it is converted.
+    pub fn append_owned(
+        &mut self,
+        batch_dtype: &DType,
+        values: Vec<Option<ScalarValue>>,
+        layouts: &[Layout],
+    ) -> Result<(), TableError>
+        ensures appended { OnOk result (table_of self.new ≡ after (table_of self.old) (append (kind_of batch_dtype.now) (map raw_in values.items))) }
+        ensures accepted { OnOk result (refusal (table_of self.old) (append (kind_of batch_dtype.now) (map raw_in values.items)) ≡ None) }
+        ensures refused { IfErr result (λ e. Explains
+            (2 ^ 64 ≤ length (rows_of (table_of self.old)) + length values.items)
+            (refusal (table_of self.old) (append (kind_of batch_dtype.now) (map raw_in values.items))) e) }
+        ensures total { IsErrOf result TableError.Total
+            → refusal (table_of self.old) (append (kind_of batch_dtype.now) (map raw_in values.items)) ≡ None }
+        ensures unchanged { OnErr result (table_of self.new ≡ table_of self.old) }
+    {
+        let _ = layouts;
+        let alloc = *self.chunks.allocator();
+        check_batch(alloc, batch_dtype, &values)?;
+        let rows = convert_owned_rows(alloc, batch_dtype, &self.dtype, values)?;
+        self.push_rows(alloc, rows)?;
+        Ok(())
+    }
+
+    // Keeps the rows, which are of the table's type, as one new chunk. No rows make none.
+    fn push_rows(&mut self, alloc: Global, rows: Vec<ScalarValue>) -> Result<(), TableError>
+        requires { IsTrue (list_all (λ row. valid (kind_of self.old.dtype) (raw_of row)) rows.items) }
+        ensures appended { OnOk result (table_of self.new ≡ appended (table_of self.old) (map row_content rows.items)) }
+        ensures refused { IfErr result (λ e. Explains (2 ^ 64 ≤ length (rows_of (table_of self.old)) + length rows.items) None e) }
+        ensures unchanged { OnErr result (table_of self.new ≡ table_of self.old) }
+    {
         let Some(len) = self.len.checked_add(rows.len()) else {
             return Err(TableError::Total);
         };

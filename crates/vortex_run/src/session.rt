@@ -66,16 +66,16 @@ impl Session {
     fn answer_append(
         &mut self,
         dtype: &DType,
-        values: &[Option<ScalarValue>],
+        values: Vec<Option<ScalarValue>>,
         layouts: &[Layout],
     ) -> Spoken
-        ensures { (out : List ℕ) → Responds (table_in self.old) (append (kind_of dtype.now) (map raw_in values.now))
+        ensures { (out : List ℕ) → Responds (table_in self.old) (append (kind_of dtype.now) (map raw_in values.items))
             result out (table_in self.new) }
     {
         let Some(table) = &mut self.table else {
             return without_table();
         };
-        match table.append(dtype, values, layouts) {
+        match table.append_owned(dtype, values, layouts) {
             Ok(()) => Spoken::Done,
             Err(error) => fault(error),
         }
@@ -117,7 +117,7 @@ impl Session {
                 dtype,
                 values,
                 layouts,
-            } => self.answer_append(&dtype, &values, &layouts),
+            } => self.answer_append(&dtype, values, &layouts),
             Command::Scan { paths, predicate } => self.answer_scan(alloc, &paths, &predicate, out),
         }
     }

@@ -1,4 +1,4 @@
-use Rattle.std.proofs.Common.{◌≡◌, take, drop, map, IsTrue}
+use Rattle.std.proofs.Common.{◌≡◌, ◌++◌, drop, map, IsTrue}
 use Rattle.std.specs.List.{list_all}
 use Rattle.vortex_model.specs.Content.{content_of}
 use Rattle.vortex_model.specs.Valid.{valid}
@@ -10,7 +10,7 @@ use Rattle.vortex_chunks.proofs.append.convert_rows.Given as goal
 
 abbrev pub invariant-loop-index : goal.invariant-loop-index
 invariant-loop-index l = record {
-  content : map row_content l.rows.items ≡ map content_of (map raw_in (take l.index l.values));
+  content : map row_content l.rows.items ++ map content_of (map raw_in (drop l.index l.values)) ≡ map content_of (map raw_in l.values);
   valid : IsTrue (list_all (λ row. valid (kind_of l.target) (raw_of row)) l.rows.items);
   left : first_unconvertible l.index (kind_of l.source) (kind_of l.target) (map content_of (map raw_in (drop l.index l.values)))
       ≡ first_unconvertible 0 (kind_of l.source) (kind_of l.target) (map content_of (map raw_in l.values));

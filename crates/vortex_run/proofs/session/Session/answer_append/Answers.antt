@@ -14,7 +14,7 @@ use Rattle.vortex_run.proofs.session.Session.answer_append.Goals as goal
 pub returns-in_default : goal.returns-in_default
 returns-in_default c = λ out.
     let none = ap (option_map table_of) c.in_default.is in
-    let command = append (kind_of c.args.dtype.now) (map raw_in c.args.values.now) in
+    let command = append (kind_of c.args.dtype.now) (map raw_in c.args.values.items) in
     (refused no_table, without_table (table_in c.args.self.now) command none refl, c.without_table.ensures out)
 
 pub returns-in-Err : goal.returns-in-Err
@@ -23,8 +23,8 @@ returns-in-Err c = λ out.
     let there = ap (option_map table_of) c.in-Some.is in
     let same = ap Some c.in-Err.ensures.unchanged in (
       error_answer e,
-      append_refused (table_in c.args.self.now) (Some (table_of c.append.new.self)) (table_of c.in-Some.table) (kind_of c.args.dtype.now) raw_in
-          c.args.values.now e there same c.in-Err.ensures.refused
+      append_refused (table_in c.args.self.now) (Some (table_of c.append_owned.new.self)) (table_of c.in-Some.table) (kind_of c.args.dtype.now) raw_in
+          c.args.values.items e there same c.in-Err.ensures.refused
           (λ h. c.in-Err.ensures.total (ap Err h)),
       c.fault.ensures out,
     )
