@@ -1,25 +1,24 @@
 -- Faults of predicates, arm by arm, and what a bound predicate says.
-use Rattle.std.proofs.Common.{◌≡◌, ◌≢◌, ◌++◌, ℕ, List, [], ◌∷◌, Option, Some, None, option_map, Result, Ok, Err, Bool, true, false, not, ◌&&◌, refl, sym, ap, ◌∙◌, subst, append_assoc}
+use Rattle.std.proofs.Common.{◌≡◌, ◌≢◌, Option, Some, None, Result, Ok, Err, true, false, not, ◌&&◌, refl, sym, ap, ◌∙◌, subst}
 use Rattle.vortex_model.specs.Kind.{Kind, boolean, integer, struct, nullable, same_int_kind}
 use Rattle.vortex_model.specs.Content.{Content, null, truth, is_null as is_null_content}
-use Rattle.vortex_model.specs.Refusal.{Refusal, or_else, not_boolean, unequal_types, placeholder}
-use Rattle.vortex_model.specs.Path.{Names, Positions, at, positions, position_in, part_at, type_of_column}
-use Rattle.vortex_model.specs.Expression.{Expression, literal, column, compare, both, either, negation, is_null, is_not_null, is_nan, between, like, row_count, statistic, Comparison, Aggregate}
+use Rattle.vortex_model.specs.Refusal.{Refusal, or_else, not_boolean, unequal_types}
+use Rattle.vortex_model.specs.Path.{Names, Positions, at, positions, type_of_column}
+use Rattle.vortex_model.specs.Expression.{Expression, literal, column, compare, both, either, negation, is_null, is_not_null, is_nan, between, like, row_count, statistic, Comparison}
 use Rattle.vortex_model.specs.Typing.{type_of}
 use Rattle.vortex_model.specs.Truth.{compared, kleene_and, kleene_or, kleene_not, value_at, liked, end_of}
-use Rattle.vortex_model.specs.Command.{part_named, expression_fault, predicate_fault, column_fault, unless, same_type, is_boolean}
+use Rattle.vortex_model.specs.Command.{expression_fault, predicate_fault, column_fault, unless, same_type, is_boolean}
 use Rattle.vortex_dtype.specs.View.{int_kind_of}
 use Rattle.vortex_dtype.specs.declared.ptype.PType.{PType}
 use Rattle.vortex_dtype.specs.declared.ptype.PType.TheVariants as ptype
 use Rattle.vortex_expr.specs.Bound.{Bound, bound_value, bound_of, bound_place}
-use Rattle.vortex_expr.specs.Faults.{IsReason, IsChecked, IsSameOf, truths_of, refusal_of}
+use Rattle.vortex_expr.specs.Faults.{IsReason, IsChecked, IsSameOf, refusal_of}
 use Rattle.vortex_expr.specs.Types.{IsOfLeaf, IsOfClass, IsClass, IsLeaf}
 use Rattle.vortex_expr.specs.declared.bind.PredicateError.{PredicateError}
 use Rattle.vortex_expr.specs.declared.bind.PredicateError.TheVariants as error
 use Rattle.vortex_expr.specs.declared.types.Leaf.{Leaf}
 use Rattle.vortex_expr.specs.declared.types.Leaf.TheVariants as leaf
 use Rattle.vortex_expr.specs.declared.types.TypeClass.TheVariants as class
-use Rattle.vortex_expr.proofs.Classes.{positions-stop, positions-step}
 
 -- ---- leaves
 
@@ -69,9 +68,6 @@ first_reason error.NotALeaf p q h = ap (λ o. or_else o q) h
 first_reason error.UnequalTypes p q h = ap (λ o. or_else o q) h
 first_reason error.NotBoolean p q h = ap (λ o. or_else o q) h
 first_reason error.UnsupportedPredicate p q h = ap (λ o. or_else o q) h
-
-later_reason : (r : PredicateError) (p q : Option Refusal) → p ≡ None → IsReason r q → IsReason r (or_else p q)
-later_reason r p q e h = subst (λ o. IsReason r (or_else o q)) (sym e) h
 
 -- ---- two types
 
@@ -143,86 +139,6 @@ is_boolean-Primitive : (p : PType) (o : Option Kind) → IsLeaf (leaf.Primitive 
 is_boolean-Primitive p (Some (integer i n)) h = refl
 is_boolean-Primitive p o h = absurd h
 
-both_true : (s t : Bool) → s ≡ true → t ≡ true → unless (s && t) not_boolean ≡ None
-both_true s t h g = ap (λ b. unless (b && t) not_boolean) h ∙ ap (λ b. unless (true && b) not_boolean) g
-
-left_false : (s t : Bool) → s ≡ false → unless (s && t) not_boolean ≡ Some not_boolean
-left_false s t h = ap (λ b. unless (b && t) not_boolean) h
-
-right_false : (s t : Bool) → s ≡ true → t ≡ false → unless (s && t) not_boolean ≡ Some not_boolean
-right_false s t h g = ap (λ b. unless (b && t) not_boolean) h ∙ ap (λ b. unless (true && b) not_boolean) g
-
--- the tests of the sides of a connective
-abbrev truths_fault : Kind → Expression → Expression → Option Refusal
-truths_fault k x y = unless (is_boolean (type_of k x) && is_boolean (type_of k y)) not_boolean
-
-truths_ok : (k : Kind) (x y : Expression) → IsChecked k x (Ok leaf.Bool) → IsChecked k y (Ok leaf.Bool) →
-    or_else (expression_fault k x) (or_else (expression_fault k y) (truths_fault k x y)) ≡ None
-truths_ok k x y h g =
-    joined_fault (expression_fault k x) (expression_fault k y) (truths_fault k x y) h.0 g.0
-    ∙ both_true (is_boolean (type_of k x)) (is_boolean (type_of k y)) (is_boolean-Bool (type_of k x) h.1) (is_boolean-Bool (type_of k y) g.1)
-
-truths_left : (k : Kind) (x y : Expression) (p : PType) (b : Leaf) → IsChecked k x (Ok (leaf.Primitive p)) → IsChecked k y (Ok b) →
-    or_else (expression_fault k x) (or_else (expression_fault k y) (truths_fault k x y)) ≡ Some not_boolean
-truths_left k x y p b h g =
-    joined_fault (expression_fault k x) (expression_fault k y) (truths_fault k x y) h.0 g.0
-    ∙ left_false (is_boolean (type_of k x)) (is_boolean (type_of k y)) (is_boolean-Primitive p (type_of k x) h.1)
-
-truths_right : (k : Kind) (x y : Expression) (p : PType) → IsChecked k x (Ok leaf.Bool) → IsChecked k y (Ok (leaf.Primitive p)) →
-    or_else (expression_fault k x) (or_else (expression_fault k y) (truths_fault k x y)) ≡ Some not_boolean
-truths_right k x y p h g =
-    joined_fault (expression_fault k x) (expression_fault k y) (truths_fault k x y) h.0 g.0
-    ∙ right_false (is_boolean (type_of k x)) (is_boolean (type_of k y)) (is_boolean-Bool (type_of k x) h.1) (is_boolean-Primitive p (type_of k y) g.1)
-
-and_checked : (k : Kind) (x y : Expression) (a b : Leaf) → IsChecked k x (Ok a) → IsChecked k y (Ok b) → IsChecked k (both x y) (truths_of a b)
-and_checked k x y leaf.Bool leaf.Bool h g = (truths_ok k x y h g, tt)
-and_checked k x y (leaf.Primitive p) b h g = truths_left k x y p b h g
-and_checked k x y leaf.Bool (leaf.Primitive p) h g = truths_right k x y p h g
-
-or_checked : (k : Kind) (x y : Expression) (a b : Leaf) → IsChecked k x (Ok a) → IsChecked k y (Ok b) → IsChecked k (either x y) (truths_of a b)
-or_checked k x y leaf.Bool leaf.Bool h g = (truths_ok k x y h g, tt)
-or_checked k x y (leaf.Primitive p) b h g = truths_left k x y p b h g
-or_checked k x y leaf.Bool (leaf.Primitive p) h g = truths_right k x y p h g
-
-pub both_checked : (k : Kind) (x y : Expression) (a b : Leaf) (r : Result Leaf PredicateError) →
-    IsChecked k x (Ok a) → IsChecked k y (Ok b) → r ≡ truths_of a b → IsChecked k (both x y) r
-both_checked k x y a b r h g e = subst (IsChecked k (both x y)) (sym e) (and_checked k x y a b h g)
-
-pub either_checked : (k : Kind) (x y : Expression) (a b : Leaf) (r : Result Leaf PredicateError) →
-    IsChecked k x (Ok a) → IsChecked k y (Ok b) → r ≡ truths_of a b → IsChecked k (either x y) r
-either_checked k x y a b r h g e = subst (IsChecked k (either x y)) (sym e) (or_checked k x y a b h g)
-
--- a fault of the left side, and one of the right side
-module _ (k : Kind) (x y : Expression) (r : PredicateError) where
-  pub compare_left : (o : Comparison) → IsChecked k x (Err r) → IsChecked k (compare o x y) (Err r)
-  compare_left o h = first_reason r (expression_fault k x) (or_else (expression_fault k y) (unless (same_type (type_of k x) (type_of k y)) unequal_types)) h
-
-  pub both_left : IsChecked k x (Err r) → IsChecked k (both x y) (Err r)
-  both_left h = first_reason r (expression_fault k x) (or_else (expression_fault k y) (truths_fault k x y)) h
-
-  pub either_left : IsChecked k x (Err r) → IsChecked k (either x y) (Err r)
-  either_left h = first_reason r (expression_fault k x) (or_else (expression_fault k y) (truths_fault k x y)) h
-
-  behind : (q : Option Refusal) (a : Leaf) → IsChecked k x (Ok a) → IsChecked k y (Err r) → IsReason r (or_else (expression_fault k x) (or_else (expression_fault k y) q))
-  behind q a h g = later_reason r (expression_fault k x) (or_else (expression_fault k y) q) h.0 (first_reason r (expression_fault k y) q g)
-
-  pub compare_right : (o : Comparison) (a : Leaf) → IsChecked k x (Ok a) → IsChecked k y (Err r) → IsChecked k (compare o x y) (Err r)
-  compare_right o a h g = behind (unless (same_type (type_of k x) (type_of k y)) unequal_types) a h g
-
-  pub both_right : (a : Leaf) → IsChecked k x (Ok a) → IsChecked k y (Err r) → IsChecked k (both x y) (Err r)
-  both_right a h g = behind (truths_fault k x y) a h g
-
-  pub either_right : (a : Leaf) → IsChecked k x (Ok a) → IsChecked k y (Err r) → IsChecked k (either x y) (Err r)
-  either_right a h g = behind (truths_fault k x y) a h g
-
-pub in_placeholder : (k : Kind) (x : Expression) (a : Aggregate) (r : PredicateError) → IsChecked k x (Err r) → IsChecked k (statistic x a) (Err r)
-in_placeholder k x a r h = first_reason r (expression_fault k x) (Some placeholder) h
-
-pub at_placeholder : (k : Kind) (x : Expression) (a : Aggregate) (l : Leaf) → IsChecked k x (Ok l) → IsChecked k (statistic x a) (Err error.Placeholder)
-at_placeholder k x a l h = ap (λ o. or_else o (Some placeholder)) h.0
-
-pub ruleset arms = (compare_checked, both_checked, either_checked, compare_left, both_left, either_left, compare_right, both_right, either_right, in_placeholder, at_placeholder)
-
 -- ---- the whole predicate
 
 pub faultless : (k : Kind) (e : Expression) → IsChecked k e (Ok leaf.Bool) → predicate_fault k e ≡ None
@@ -260,23 +176,3 @@ pub bound_says : (k : Kind) (e : Expression) (b : Bound) (row : Content) → b �
 bound_says k e b row p = ap (λ b. bound_value b row) p ∙ bound_value-bound_of k e row
 
 pub ruleset binding = (faultless, no_truth, fault_inside, bound_says)
-
--- ---- a path, step by step
-
-further : (found : List ℕ) (i : ℕ) (o : Option Positions) → option_map (λ is. found ++ is) (option_map (λ is. i ∷ is) o) ≡ option_map (λ is. (found ++ i ∷ []) ++ is) o
-further found i None = refl
-further found i (Some is) = ap Some (sym (append_assoc found (i ∷ []) is))
-
-pub found_further : (found : List ℕ) (k part : Kind) (i : ℕ) (x : List ℕ) (xs : Names) → position_in k x ≡ Some i → part_at k i ≡ Some part →
-    option_map (λ is. found ++ is) (positions k (x ∷ xs)) ≡ option_map (λ is. (found ++ i ∷ []) ++ is) (positions part xs)
-found_further found k part i x xs p q = ap (option_map (λ is. found ++ is)) (positions-step k part i x xs p q) ∙ further found i (positions part xs)
-
-pub found_nothing : (found : List ℕ) (k : Kind) (x : List ℕ) (xs : Names) → part_named k x ≡ None → option_map (λ is. found ++ is) (positions k (x ∷ xs)) ≡ None
-found_nothing found k x xs p = ap (option_map (λ is. found ++ is)) (positions-stop k x xs p)
-
-pub ruleset along_path = (found_further, found_nothing)
-
--- ---- no LIKE
-
-pub both_hold : (a b : Bool) → a ≡ true → b ≡ true → (a && b) ≡ true
-both_hold a b p q = ap (λ c. c && b) p ∙ ap (λ c. true && c) q

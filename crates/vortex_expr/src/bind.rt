@@ -12,7 +12,7 @@ ghost use Rattle.vortex_scalar.specs.Scalar.{scalar_kind, scalar_content};
 ghost use Rattle.vortex_expr.specs.Bound.{fixed, bound_value, bound_of, bound_place};
 ghost use Rattle.vortex_expr.specs.Faults.{IsReason, IsChecked, IsSameOf, truths_of};
 
-use crate::bound::{BoundExpression, BoundNode};
+use crate::bound::{BoundExpression, BoundNode, bound_and, bound_compare, bound_or};
 use crate::expression::{Expression, Node};
 use crate::types::{Leaf, TypeClass, class_of, column_class, field_named};
 use std::alloc::{AllocError, AllocFailed, Global};
@@ -84,7 +84,6 @@ pub fn bind(alloc: Global, e: &Expression, dtype: &DType) -> Result<BoundExpress
 }
 
 /// The type of an expression without a fault, nullability aside, or its first fault.
-#[tactic(auto, using(crate::proofs::Checks::arms))]
 fn check(dtype: &DType, e: &Expression) -> Result<Leaf, PredicateError>
     ensures { IsChecked (kind_of dtype.now) e.now result }
 {
@@ -159,7 +158,6 @@ fn check_truths(left: Leaf, right: Leaf) -> Result<Leaf, PredicateError>
 }
 
 /// The predicate with its columns resolved. A column that is nowhere reads null.
-#[tactic(auto, using(crate::proofs::Checks::both_hold))]
 fn resolve(alloc: Global, dtype: &DType, e: &Expression) -> Result<BoundExpression, AllocError>
     ensures tree { IfOk result (λ bound. bound ≡ bound_of (kind_of dtype.now) e.now) }
     ensures no_like { OnOk result (has_no_like e.now ≡ true) }
@@ -176,27 +174,20 @@ fn resolve(alloc: Global, dtype: &DType, e: &Expression) -> Result<BoundExpressi
         Node::Compare(comparison, x, y) => {
             let left = resolve(alloc, dtype, x)?;
             let right = resolve(alloc, dtype, y)?;
-            Ok(BoundExpression {
-                node: BoundNode::Compare(
-                    *comparison,
-                    Box::new(alloc, left)?,
-                    Box::new(alloc, right)?,
-                ),
-            })
+            let both = bound_compare(alloc, *comparison, left, right)?;
+            Ok(both)
         }
         Node::And(x, y) => {
             let left = resolve(alloc, dtype, x)?;
             let right = resolve(alloc, dtype, y)?;
-            Ok(BoundExpression {
-                node: BoundNode::And(Box::new(alloc, left)?, Box::new(alloc, right)?),
-            })
+            let both = bound_and(alloc, left, right)?;
+            Ok(both)
         }
         Node::Or(x, y) => {
             let left = resolve(alloc, dtype, x)?;
             let right = resolve(alloc, dtype, y)?;
-            Ok(BoundExpression {
-                node: BoundNode::Or(Box::new(alloc, left)?, Box::new(alloc, right)?),
-            })
+            let either = bound_or(alloc, left, right)?;
+            Ok(either)
         }
         Node::Stat(_, _) => Ok(BoundExpression {
             node: BoundNode::Literal(None),
@@ -233,7 +224,6 @@ fn resolve_column(
 }
 
 /// The positions that a path of names stands for, where it is in the type.
-#[tactic(auto, using(crate::proofs::Checks::along_path))]
 fn column_positions(
     alloc: Global,
     dtype: &DType,

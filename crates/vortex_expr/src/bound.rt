@@ -1,14 +1,16 @@
 //! Predicates whose columns are resolved to positions.
-ghost use Rattle.std.specs.Prelude.{◌≡◌};
+ghost use Rattle.std.specs.Prelude.{◌≡◌, IfOk};
 ghost use Rattle.vortex_model.specs.Content.{content_of, contents_of, nth};
 ghost use Rattle.vortex_model.specs.Path.{at, part_of};
 ghost use Rattle.vortex_model.specs.Truth.{is_true};
 ghost use Rattle.vortex_scalar.specs.View.{raw_of, raws_in, content_at};
-ghost use Rattle.vortex_expr.specs.Bound.{bound_value};
+ghost use Rattle.vortex_expr.specs.Bound.{test, each, some, bound_value};
 ghost use Rattle.vortex_expr.specs.Seen.{seen};
+ghost use Rattle.vortex_expr.specs.Tree.{comparison_of};
 
 use crate::operator::Comparison;
 use crate::value::{Value, both_hold, compare_values, one_holds, read, truth_value};
+use std::alloc::{AllocError, Global};
 use std::marker::Model;
 use vortex_scalar::scalar_value::ScalarValue;
 
@@ -46,6 +48,46 @@ impl Model for BoundExpression {
     ghost use Rattle.vortex_expr.specs.BoundFalls.{depth_le-size};
 
     ghost size_decreases = { λ a h. depth_le-size a.node };
+}
+
+/// A comparison of two bound predicates.
+pub(crate) fn bound_compare(
+    alloc: Global,
+    comparison: Comparison,
+    left: BoundExpression,
+    right: BoundExpression,
+) -> Result<BoundExpression, AllocError>
+    ensures { IfOk result (λ bound. bound ≡ test (comparison_of comparison) left right) }
+{
+    Ok(BoundExpression {
+        node: BoundNode::Compare(comparison, Box::new(alloc, left)?, Box::new(alloc, right)?),
+    })
+}
+
+/// Whether both are true.
+pub(crate) fn bound_and(
+    alloc: Global,
+    left: BoundExpression,
+    right: BoundExpression,
+) -> Result<BoundExpression, AllocError>
+    ensures { IfOk result (λ bound. bound ≡ each left right) }
+{
+    Ok(BoundExpression {
+        node: BoundNode::And(Box::new(alloc, left)?, Box::new(alloc, right)?),
+    })
+}
+
+/// Whether one is true.
+pub(crate) fn bound_or(
+    alloc: Global,
+    left: BoundExpression,
+    right: BoundExpression,
+) -> Result<BoundExpression, AllocError>
+    ensures { IfOk result (λ bound. bound ≡ some left right) }
+{
+    Ok(BoundExpression {
+        node: BoundNode::Or(Box::new(alloc, left)?, Box::new(alloc, right)?),
+    })
 }
 
 impl BoundExpression {

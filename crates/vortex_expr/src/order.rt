@@ -9,7 +9,6 @@ use vortex_scalar::scalar_value::ScalarValue;
 
 /// How two values stand. Records go value by value.
 #[cycle(order)]
-#[tactic(auto, using(vortex_scalar::proofs::Views::one_level))]
 pub(crate) fn order_values(left: &ScalarValue, right: &ScalarValue) -> Option<Ordering>
     ensures { result ≡ content_cmp (content_of (raw_of left.now)) (content_of (raw_of right.now)) }
 {
@@ -23,7 +22,6 @@ pub(crate) fn order_values(left: &ScalarValue, right: &ScalarValue) -> Option<Or
 
 /// How the values of two records stand: by the first that differ, and else by their number.
 #[cycle(order)]
-#[tactic(auto, using(crate::proofs::Items::by_item))]
 pub(crate) fn order_items(
     left: &Vec<Option<ScalarValue>>,
     right: &Vec<Option<ScalarValue>>,

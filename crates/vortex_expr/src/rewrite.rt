@@ -1,6 +1,7 @@
 //! Proofs over statistics: that no row satisfies a predicate, and that every row does.
 ghost use Rattle.std.specs.Prelude.{◌≡◌, IfOk, Some, None, false, not};
 ghost use Rattle.std.specs.Option.{option_map_or};
+ghost use Rattle.vortex_model.specs.Expression.{compare, equal, not_equal, min, max};
 ghost use Rattle.vortex_model.specs.Typing.{type_of, has_bounds, is_float};
 ghost use Rattle.vortex_model.specs.Rewrite.{truth_literal, bound_of, is_bounded, is_float_placeholder, comparison_falsifier, comparison_falsifiers, joined_proofs, either_there, both_there, falsifier, satisfier};
 ghost use Rattle.vortex_dtype.specs.View.{kind_of};
@@ -9,7 +10,7 @@ ghost use Rattle.vortex_expr.specs.Tree.{comparison_of, aggregate_of};
 ghost use Rattle.vortex_expr.specs.Literals.{literal_falsifier, literal_satisfier};
 
 use crate::aggregate::AggregateFn;
-use crate::expression::{Expression, Node, and, eq, gt, gt_eq, lit, lt, lt_eq, or, stat};
+use crate::expression::{Expression, Node, and, compare, lit, or, stat};
 use crate::operator::Comparison;
 use crate::types::{TypeClass, type_class};
 use std::alloc::{AllocError, Global};
@@ -19,7 +20,6 @@ use vortex_scalar::scalar::Scalar;
 use vortex_scalar::scalar_value::ScalarValue;
 
 /// A proof, over statistics, that no row satisfies a predicate over rows of this type, as Vortex's `falsify`. There may be none.
-#[tactic(auto, using(crate::proofs::Falsifiers::of_literal))]
 pub fn falsify(
     alloc: Global,
     dtype: &DType,
@@ -46,7 +46,6 @@ pub fn falsify(
 }
 
 /// A proof, over statistics, that every row satisfies a predicate over rows of this type, as Vortex's `satisfy`. There may be none.
-#[tactic(auto, using(crate::proofs::Falsifiers::of_literal))]
 pub fn satisfy(
     _alloc: Global,
     _dtype: &DType,
@@ -157,53 +156,59 @@ fn compare_bounds(
     ensures { IfOk result (λ proof. proof ≡ comparison_falsifier (comparison_of comparison) x.now y.now) }
 {
     match comparison {
-        Comparison::Eq => {
-            let above = gt(
-                alloc,
-                bound(alloc, AggregateFn::Min, x)?,
-                bound(alloc, AggregateFn::Max, y)?,
-            )?;
-            let below = gt(
-                alloc,
-                bound(alloc, AggregateFn::Min, y)?,
-                bound(alloc, AggregateFn::Max, x)?,
-            )?;
-            or(alloc, above, below)
-        }
-        Comparison::NotEq => {
-            let low = eq(
-                alloc,
-                bound(alloc, AggregateFn::Min, x)?,
-                bound(alloc, AggregateFn::Max, y)?,
-            )?;
-            let high = eq(
-                alloc,
-                bound(alloc, AggregateFn::Max, x)?,
-                bound(alloc, AggregateFn::Min, y)?,
-            )?;
-            and(alloc, low, high)
-        }
-        Comparison::Gt => lt_eq(
-            alloc,
-            bound(alloc, AggregateFn::Max, x)?,
-            bound(alloc, AggregateFn::Min, y)?,
-        ),
-        Comparison::Gte => lt(
-            alloc,
-            bound(alloc, AggregateFn::Max, x)?,
-            bound(alloc, AggregateFn::Min, y)?,
-        ),
-        Comparison::Lt => gt_eq(
-            alloc,
-            bound(alloc, AggregateFn::Min, x)?,
-            bound(alloc, AggregateFn::Max, y)?,
-        ),
-        Comparison::Lte => gt(
-            alloc,
-            bound(alloc, AggregateFn::Min, x)?,
-            bound(alloc, AggregateFn::Max, y)?,
-        ),
+        Comparison::Eq => never_equal(alloc, x, y),
+        Comparison::NotEq => one_value(alloc, x, y),
+        Comparison::Gt => compare_greatest(alloc, Comparison::Lte, x, y),
+        Comparison::Gte => compare_greatest(alloc, Comparison::Lt, x, y),
+        Comparison::Lt => compare_least(alloc, Comparison::Gte, x, y),
+        Comparison::Lte => compare_least(alloc, Comparison::Gt, x, y),
     }
+}
+
+/// The proof that each value of one side is greater than each of the other.
+fn never_equal(alloc: Global, x: &Expression, y: &Expression) -> Result<Expression, AllocError>
+    ensures { IfOk result (λ proof. proof ≡ comparison_falsifier equal x.now y.now) }
+{
+    let above = compare_least(alloc, Comparison::Gt, x, y)?;
+    let below = compare_least(alloc, Comparison::Gt, y, x)?;
+    or(alloc, above, below)
+}
+
+/// The proof that all values of both sides are one.
+fn one_value(alloc: Global, x: &Expression, y: &Expression) -> Result<Expression, AllocError>
+    ensures { IfOk result (λ proof. proof ≡ comparison_falsifier not_equal x.now y.now) }
+{
+    let low = compare_least(alloc, Comparison::Eq, x, y)?;
+    let high = compare_greatest(alloc, Comparison::Eq, x, y)?;
+    and(alloc, low, high)
+}
+
+/// A comparison of the least value of the left with the greatest of the right.
+fn compare_least(
+    alloc: Global,
+    comparison: Comparison,
+    x: &Expression,
+    y: &Expression,
+) -> Result<Expression, AllocError>
+    ensures { IfOk result (λ proof. proof ≡ compare (comparison_of comparison) (bound_of min x.now) (bound_of max y.now)) }
+{
+    let least = bound(alloc, AggregateFn::Min, x)?;
+    let greatest = bound(alloc, AggregateFn::Max, y)?;
+    compare(alloc, comparison, least, greatest)
+}
+
+/// A comparison of the greatest value of the left with the least of the right.
+fn compare_greatest(
+    alloc: Global,
+    comparison: Comparison,
+    x: &Expression,
+    y: &Expression,
+) -> Result<Expression, AllocError>
+    ensures { IfOk result (λ proof. proof ≡ compare (comparison_of comparison) (bound_of max x.now) (bound_of min y.now)) }
+{
+    let greatest = bound(alloc, AggregateFn::Max, x)?;
+    let least = bound(alloc, AggregateFn::Min, y)?;
+    compare(alloc, comparison, greatest, least)
 }
 
 /// The least or the greatest value of an expression: a literal is its own.

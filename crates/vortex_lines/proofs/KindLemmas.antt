@@ -1,14 +1,14 @@
 -- A type by its parts, and how deep its parts are.
-use Rattle.std.proofs.Common.{◌≡◌, ℕ, zero, suc, max, ◌+◌, ◌*◌, ◌<◌, ◌≤◌, List, [], ◌∷◌, length, get_or, Ordering, Less, Equal, Greater, Option, Some, None, option_map, option_and_then, codes, refl, sym, ap, ◌∙◌, arith, nat_cmp}
+use Rattle.std.proofs.Common.{◌≡◌, ℕ, zero, suc, max, ◌<◌, ◌≤◌, List, [], ◌∷◌, length, get_or, Ordering, Less, Equal, Greater, Option, Some, None, option_and_then, codes, refl, ap, arith, nat_cmp}
 use Rattle.std.specs.Cmp.Lexicographic.{slice_cmp}
 use Rattle.std.specs.Ordering.{match_ordering}
-use Rattle.serde_json.specs.Data.{Data, null, boolean, number, string, array, object, Items, no_items, item, Members, no_members, member, depth, items_depth, members_depth}
+use Rattle.serde_json.specs.Data.{Data, null, boolean, number, string, array, object, Items, Members, no_members, member, depth, items_depth, members_depth}
 use Rattle.serde_json.specs.Find.{get, get_member, as_array}
 use Rattle.serde_json.specs.View.{view, items_view}
 use Rattle.serde_json.specs.declared.value.Value.{Value}
 use Rattle.vortex_model.specs.Kind.{Kind}
 use Rattle.vortex_lines.specs.Parsed.{size_of}
-use Rattle.vortex_lines.specs.Kinds.{kind_in, kinds_in, kinds_of, children_in, kind_with}
+use Rattle.vortex_lines.specs.Kinds.{kind_in, kinds_in, children_in, kind_with}
 
 -- missing children are none
 abbrev pub children_of : Option Data → Option (List Kind)
@@ -62,14 +62,6 @@ pub item_depth : (vs : List Value) (i : ℕ) (v : Value) → i < length vs → v
 item_depth [] i v h e = absurd (omega arith)
 item_depth (w ∷ vs) zero v h e = let k : depth (view v) ≡ depth (view w) = ap (λ x. depth (view x)) e in omega (arith, k)
 item_depth (w ∷ vs) (suc i) v h e = let k = item_depth vs i v (omega arith) e in omega (arith, k)
-
-pub kinds_in_items : (d : Data) → kinds_in d ≡ option_and_then kinds_of (as_array d)
-kinds_in_items null = refl
-kinds_in_items (boolean b) = refl
-kinds_in_items (number n) = refl
-kinds_in_items (string s) = refl
-kinds_in_items (array ds) = refl
-kinds_in_items (object ms) = refl
 
 pub as_array_depth : (d : Data) (ds : Items) → as_array d ≡ Some ds → items_depth ds < depth d
 as_array_depth null ds e = absurd (cc)

@@ -87,7 +87,6 @@ fn zip_fields(alloc: Global, names: &[FieldName], dtypes: &[DType]) -> Result<St
 }
 
 /// A record with these children.
-#[tactic(auto, using(vortex_dtype::proofs::Views::one_level))]
 fn make_struct(
     alloc: Global,
     size: usize,
@@ -113,7 +112,6 @@ fn make_struct(
 }
 
 /// A kind of integers, which has no children.
-#[tactic(auto, using(vortex_dtype::proofs::Views::one_level))]
 fn make_integer(
     size: usize,
     value: &Value,
@@ -146,7 +144,6 @@ fn make_dtype(alloc: Global, size: usize, value: &Value, children: &[DType]) -> 
 }
 
 /// The type that a value is.
-#[tactic(auto, using(crate::proofs::KindLemmas::kind_parts))]
 #[cycle(dtype)]
 pub fn read_dtype(alloc: Global, value: &Value) -> Result<DType, Fault>
     ensures { Gives kind_of result (kind_in (view value.now)) }
@@ -162,7 +159,6 @@ pub fn read_dtype(alloc: Global, value: &Value) -> Result<DType, Fault>
 }
 
 /// The types that an array is.
-#[tactic(auto, using(crate::proofs::KindLemmas::kinds_in_items))]
 #[cycle(dtype)]
 fn read_children(alloc: Global, list: &Value) -> Result<Vec<DType>, Fault>
     ensures { Gives (λ v. map kind_of v.items) result (kinds_in (view list.now)) }

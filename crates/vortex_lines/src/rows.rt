@@ -16,7 +16,6 @@ use vortex_scalar::pvalue::PValue;
 use vortex_scalar::scalar_value::ScalarValue;
 
 /// The number of a kind that a JSON number is, if it is in range.
-#[tactic(auto, using(vortex_scalar::proofs::Views::one_level))]
 fn read_number(ptype: PType, number: &Number) -> Result<Option<ScalarValue>, Fault>
     ensures { Gives raw_in result (number_at (int_kind_of ptype) (number_view number.now)) }
 {
@@ -28,7 +27,6 @@ fn read_number(ptype: PType, number: &Number) -> Result<Option<ScalarValue>, Fau
 }
 
 /// The value of a type that a JSON value is: null, a number in range, or an array by position of a record's fields.
-#[tactic(auto, using(vortex_dtype::proofs::Views::one_level))]
 #[cycle(row)]
 pub fn read_value(value: &Value, alloc: Global, dtype: &DType) -> Result<Option<ScalarValue>, Fault>
     ensures { Gives raw_in result (reading (kind_of dtype.now) (view value.now)) }

@@ -1,7 +1,7 @@
-use Rattle.std.proofs.Common.{◌≡◌, ◌≤◌, ◌<◌, Some, sym, arith, codes, length, ap, ◌∙◌}
+use Rattle.std.proofs.Common.{◌≤◌, ◌<◌, Some, sym, arith, codes, ap, ◌∙◌}
 use Rattle.serde_json.specs.Data.{depth, items_depth}
 use Rattle.serde_json.specs.View.{view, items_view}
-use Rattle.vortex_lines.proofs.KindLemmas.{get_depth, as_array_depth, item_depth}
+use Rattle.vortex_lines.proofs.KindLemmas.{kind_parts, get_depth, as_array_depth, item_depth}
 use Rattle.vortex_lines.proofs.kinds.+dtype.Goals as goal
 
 pub read_dtype-read_children-requires : goal.read_dtype-read_children-requires
@@ -19,3 +19,12 @@ read_children-read_dtypes-requires t c =
     let e : items_depth (items_view c.deref.result.now) < depth (view c.args.list.now) =
     as_array_depth _ _ (sym c.in-Some.ensures ∙ ap (λ vs. Some (items_view vs)) (sym c.deref.ensures.value)) in
     (omega (arith, e, c.decreases), tt)
+
+pub read_dtype-returns-in_err-children-in-Some : goal.read_dtype-returns-in_err-children-in-Some
+read_dtype-returns-in_err-children-in-Some t c = grind (arith, kind_parts)
+
+pub read_dtype-returns-in_ok-children-in-Some : goal.read_dtype-returns-in_ok-children-in-Some
+read_dtype-returns-in_ok-children-in-Some t c = grind (arith, kind_parts)
+
+pub read_dtype-returns-in-None : goal.read_dtype-returns-in-None
+read_dtype-returns-in-None t c = grind (arith, kind_parts)
