@@ -1,5 +1,5 @@
 //! The rows of an append: judged, converted and put in a chunk.
-ghost use Rattle.std.specs.Prelude.{◌≡◌, true, None, length, map, option_map, IfOk, OnOk, IfErr, IsTrue};
+ghost use Rattle.std.specs.Prelude.{◌≡◌, ◌++◌, ◌∷◌, [], true, None, length, map, option_map, IfOk, OnOk, IfErr, IsTrue};
 ghost use Rattle.std.specs.List.{list_all};
 ghost use Rattle.vortex_model.specs.Content.{content_of};
 ghost use Rattle.vortex_model.specs.Valid.{valid};
@@ -54,23 +54,28 @@ pub fn check_batch(
     }
 }
 
-// The row at this index, as one of the target type, which a table can hold.
-fn convert_row(
+// Puts the value behind the rows, as one of the target type, which a table can hold. A refusal names its place there.
+fn push_converted(
     alloc: Global,
     source: &DType,
     target: &DType,
-    index: usize,
     value: Option<&ScalarValue>,
-) -> Result<ScalarValue, TableError>
+    rows: &mut Vec<ScalarValue>,
+) -> Result<(), TableError>
     requires { kept_fault (kind_of target.now) ≡ None }
     ensures converts { OnOk result (converts (kind_of source.now) (kind_of target.now) (content_at value.entry) ≡ true) }
-    ensures content { IfOk result (λ row. row_content row ≡ content_at value.entry) }
-    ensures valid { IfOk result (λ row. valid (kind_of target.now) (raw_of row) ≡ true) }
+    ensures content { OnOk result (map row_content rows.new.items ≡ map row_content rows.old.items ++ content_at value.entry ∷ []) }
+    ensures valid { OnOk result (IsTrue (list_all (λ row. valid (kind_of target.now) (raw_of row)) rows.old.items)
+        → IsTrue (list_all (λ row. valid (kind_of target.now) (raw_of row)) rows.new.items)) }
     ensures refused { IfErr result (λ e. Explains ⊥
-        (unless (converts (kind_of source.now) (kind_of target.now) (content_at value.entry)) (not_convertible index)) e) }
+        (unless (converts (kind_of source.now) (kind_of target.now) (content_at value.entry)) (not_convertible (length rows.old.items))) e) }
 {
+    let index = rows.len();
     match cast_value(alloc, source, target, value) {
-        Ok(Some(row)) => Ok(row),
+        Ok(Some(row)) => {
+            rows.push(row)?;
+            Ok(())
+        }
         Ok(None) => Err(TableError::NotConvertible(index)),
         Err(ScalarError::Memory) => Err(TableError::Memory),
         Err(ScalarError::Invalid) => Err(TableError::NotConvertible(index)),
@@ -95,9 +100,8 @@ pub fn convert_rows(
         (map content_of (map raw_in values.now))) e) }
 {
     let mut rows = Vec::with_capacity(alloc, values.len())?;
-    for (index, value) in values.iter().enumerate() {
-        let row = convert_row(alloc, source, target, index, value.as_ref())?;
-        rows.push(row)?;
+    for value in values {
+        push_converted(alloc, source, target, value.as_ref(), &mut rows)?;
     }
     Ok(rows)
 }
@@ -120,8 +124,7 @@ pub fn convert_owned_rows(
 {
     let mut rows = Vec::with_capacity(alloc, values.len())?;
     for value in values {
-        let row = convert_row(alloc, source, target, rows.len(), value.as_ref())?;
-        rows.push(row)?;
+        push_converted(alloc, source, target, value.as_ref(), &mut rows)?;
     }
     Ok(rows)
 }

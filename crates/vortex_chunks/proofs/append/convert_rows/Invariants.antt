@@ -1,4 +1,4 @@
-use Rattle.std.proofs.Common.{◌≡◌, ◌++◌, drop, map, IsTrue}
+use Rattle.std.proofs.Common.{◌≡◌, ◌++◌, drop, map, length, IsTrue}
 use Rattle.std.specs.List.{list_all}
 use Rattle.vortex_model.specs.Content.{content_of}
 use Rattle.vortex_model.specs.Valid.{valid}
@@ -8,10 +8,10 @@ use Rattle.vortex_scalar.specs.View.{raw_of, raw_in}
 use Rattle.vortex_chunks.specs.Bounds.{row_content}
 use Rattle.vortex_chunks.proofs.append.convert_rows.Given as goal
 
-abbrev pub invariant-loop-index : goal.invariant-loop-index
-invariant-loop-index l = record {
-  content : map row_content l.rows.items ++ map content_of (map raw_in (drop l.index l.values)) ≡ map content_of (map raw_in l.values);
+abbrev pub invariant-loop-value : goal.invariant-loop-value
+invariant-loop-value l = record {
+  content : map row_content l.rows.items ++ map content_of (map raw_in (drop l.value-index l.values)) ≡ map content_of (map raw_in l.values);
   valid : IsTrue (list_all (λ row. valid (kind_of l.target) (raw_of row)) l.rows.items);
-  left : first_unconvertible l.index (kind_of l.source) (kind_of l.target) (map content_of (map raw_in (drop l.index l.values)))
+  left : first_unconvertible (length l.rows.items) (kind_of l.source) (kind_of l.target) (map content_of (map raw_in (drop l.value-index l.values)))
       ≡ first_unconvertible 0 (kind_of l.source) (kind_of l.target) (map content_of (map raw_in l.values));
 }
