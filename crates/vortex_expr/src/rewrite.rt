@@ -234,7 +234,10 @@ fn either_proof(
     ensures { IfOk result (λ proof. proof ≡ either_there left right) }
 {
     match (left, right) {
-        (Some(x), Some(y)) => Ok(Some(or(alloc, x, y)?)),
+        (Some(x), Some(y)) => {
+            let proof = or(alloc, x, y)?;
+            Ok(Some(proof))
+        }
         (Some(x), None) => Ok(Some(x)),
         (None, y) => Ok(y),
     }

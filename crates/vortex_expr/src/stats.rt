@@ -112,7 +112,9 @@ pub fn prove(bound: &Expression) -> Option<bool>
     }
     match value_of_proof(bound) {
         Value::Truth(b) => Some(b),
-        _ => None,
+        Value::Null => None,
+        Value::Number(_) => None,
+        Value::Tuple(_) => None,
     }
 }
 
@@ -166,6 +168,8 @@ fn is_true(value: Value) -> bool
 {
     match value {
         Value::Truth(b) => b,
-        _ => false,
+        Value::Null => false,
+        Value::Number(_) => false,
+        Value::Tuple(_) => false,
     }
 }
