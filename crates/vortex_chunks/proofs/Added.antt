@@ -1,5 +1,6 @@
 -- The answer with one more chunk, part by part.
-use Rattle.std.proofs.Common.{◌≡◌, ◌+◌, ◌++◌, ℕ, List, is_some}
+use Rattle.std.proofs.Common.{◌≡◌, ◌+◌, ◌-◌, ◌^◌, ◌++◌, ℕ, min, List, is_some, arith}
+use Rattle.std.proofs.lemmas.Bool.Decides.{nat_tests}
 use Rattle.vortex_model.specs.Kind.{Kind}
 use Rattle.vortex_model.specs.Content.{Content}
 use Rattle.vortex_model.specs.Path.{Names}
@@ -7,6 +8,10 @@ use Rattle.vortex_model.specs.Expression.{Expression}
 use Rattle.vortex_model.specs.Rewrite.{falsifier, satisfier}
 use Rattle.vortex_model.specs.Scan.{Outcome, is_skipped, is_whole, saturated, ScanAnswer}
 use Rattle.vortex_chunks.specs.Progress.{found_rows, push_if, tested_rows, proofs_at, with_chunk}
+
+-- a sum that stops at the greatest number of 64 bits
+pub stopped : (n : ℕ) → min n (2 ^ 64 - 1) ≡ saturated n
+stopped n = grind (arith, nat_tests)
 
 pub added : (k : Kind) (paths : List Names) (e : Expression) (i : ℕ) (chunk : List Content) (o : Outcome) (a b : ScanAnswer) →
     b.rows ≡ a.rows ++ found_rows k paths e chunk → b.kind ≡ a.kind → b.skipped ≡ push_if (is_skipped o) i a.skipped → b.whole ≡ push_if (is_whole o) i a.whole →
