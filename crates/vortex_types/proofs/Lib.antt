@@ -1,0 +1,4 @@
+pub mod Forms
+pub mod Others
+pub mod Tests
+pub mod Views

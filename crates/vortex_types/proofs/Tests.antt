@@ -1,0 +1,43 @@
+-- What tests for equality see.
+use Rattle.std.proofs.Math.Bool.{and-false, and-true, true-and, false-and}
+use Rattle.std.proofs.Common.{◌≡◌, ◌≢◌, false, List, [], ◌∷◌, length, suc, refl, sym, ap}
+use Rattle.vortex_model.specs.Kind.{same_fields, same_variants, bare_fields, bare_variants}
+use Rattle.vortex_types.specs.Equal.{same_kind-decides, same_fields-decides, same_variants-decides}
+use Rattle.vortex_types.specs.View.{fields_of, variants_of}
+use Rattle.vortex_types.specs.declared.struct_fields.StructField.{StructField}
+use Rattle.vortex_types.specs.declared.union_variants.UnionVariant.{UnionVariant}
+use Rattle.vortex_types.proofs.Views.{one_level, extension_kind-parts}
+
+-- fields are equal only where they are as many
+pub unequal_lengths : (xs ys : List StructField) → length xs ≢ length ys → false ≡ same_fields (fields_of xs) (fields_of ys)
+unequal_lengths [] [] n = absurd (n refl)
+unequal_lengths [] (y ∷ ys) n = refl
+unequal_lengths (x ∷ xs) [] n = refl
+unequal_lengths (x ∷ xs) (y ∷ ys) n = rw (← unequal_lengths xs ys (λ e. n (ap suc e))) (sym (and-false _))
+
+pub unequal_bare_lengths : (xs ys : List StructField) → length xs ≢ length ys → false ≡ same_fields (bare_fields (fields_of xs)) (bare_fields (fields_of ys))
+unequal_bare_lengths [] [] n = absurd (n refl)
+unequal_bare_lengths [] (y ∷ ys) n = refl
+unequal_bare_lengths (x ∷ xs) [] n = refl
+unequal_bare_lengths (x ∷ xs) (y ∷ ys) n = rw (← unequal_bare_lengths xs ys (λ e. n (ap suc e))) (sym (and-false _))
+
+-- and choices
+pub unequal_choices : (xs ys : List UnionVariant) → length xs ≢ length ys → false ≡ same_variants (variants_of xs) (variants_of ys)
+unequal_choices [] [] n = absurd (n refl)
+unequal_choices [] (y ∷ ys) n = refl
+unequal_choices (x ∷ xs) [] n = refl
+unequal_choices (x ∷ xs) (y ∷ ys) n = rw (← unequal_choices xs ys (λ e. n (ap suc e))) (sym (and-false _))
+
+pub unequal_bare_choices : (xs ys : List UnionVariant) → length xs ≢ length ys → false ≡ same_variants (bare_variants (variants_of xs)) (bare_variants (variants_of ys))
+unequal_bare_choices [] [] n = absurd (n refl)
+unequal_bare_choices [] (y ∷ ys) n = refl
+unequal_bare_choices (x ∷ xs) [] n = refl
+unequal_bare_choices (x ∷ xs) (y ∷ ys) n = rw (← unequal_bare_choices xs ys (λ e. n (ap suc e))) (sym (and-false _))
+
+pub ruleset tests = (one_level, unequal_lengths, unequal_bare_lengths, unequal_choices, unequal_bare_choices, true-and, false-and)
+
+pub ruleset maps = (and-true, true-and, false-and)
+
+pub ruleset extensions = (extension_kind-parts, true-and, false-and)
+
+pub ruleset decided = (one_level, same_kind-decides, same_fields-decides, same_variants-decides)

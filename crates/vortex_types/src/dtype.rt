@@ -1,0 +1,181 @@
+//! The types of columns.
+ghost use Rattle.std.specs.Prelude.{◌≡◌, IfOk, IsTrue};
+ghost use Rattle.vortex_model.specs.Kind.{nullability_of, either_nullable, is_nullable, with_nullability, non_nullable, nullable};
+ghost use Rattle.vortex_kinds.specs.View.{nullability_of_flag};
+ghost use Rattle.vortex_types.specs.View.{kind_of};
+ghost use Rattle.vortex_types.specs.Parts.{can_be_nonnullable};
+
+use crate::extension::ExtDTypeRef;
+use crate::map_dtype::MapDType;
+use crate::struct_fields::StructFields;
+use crate::union_variants::UnionVariants;
+use std::alloc::AllocError;
+use std::rc::Rc;
+use vortex_kinds::decimal::DecimalDType;
+use vortex_kinds::nullability::Nullability;
+use vortex_kinds::ptype::PType;
+
+/// A column's type, as Vortex's `DType`. A clone shares what stands inside.
+#[derive(Drop)]
+#[cycle(dtype)]
+pub enum DType {
+    /// Null alone.
+    Null,
+    /// Truth values.
+    Bool(Nullability),
+    /// Numbers of a kind.
+    Primitive(PType, Nullability),
+    /// Decimals of a shape.
+    Decimal(DecimalDType, Nullability),
+    /// Texts.
+    Utf8(Nullability),
+    /// Bytes.
+    Binary(Nullability),
+    /// Lists of elements of a type.
+    List(Rc<DType>, Nullability),
+    /// Lists of so many elements of a type.
+    FixedSizeList(Rc<DType>, u32, Nullability),
+    /// Maps from keys to values.
+    Map(MapDType, Nullability),
+    /// Records.
+    Struct(StructFields, Nullability),
+    /// One value of a choice of types, with its tag.
+    Union(UnionVariants, Nullability),
+    /// A value of any type, with its type.
+    Variant(Nullability),
+    /// A type of another's values, with a meaning of its own.
+    Extension(ExtDTypeRef),
+}
+
+impl DType {
+    /// Whether null is a value. An extension is nullable where its storage is.
+    #[tactic(auto, using(crate::proofs::Views::one_level))]
+    pub fn nullability(&self) -> Nullability
+        ensures { nullability_of_flag result ≡ nullability_of (kind_of self.now) }
+    {
+        match self {
+            DType::Null => Nullability::Nullable,
+            DType::Bool(nullability) => *nullability,
+            DType::Primitive(_, nullability) => *nullability,
+            DType::Decimal(_, nullability) => *nullability,
+            DType::Utf8(nullability) => *nullability,
+            DType::Binary(nullability) => *nullability,
+            DType::List(_, nullability) => *nullability,
+            DType::FixedSizeList(_, _, nullability) => *nullability,
+            DType::Map(_, nullability) => *nullability,
+            DType::Struct(_, nullability) => *nullability,
+            DType::Union(_, nullability) => *nullability,
+            DType::Variant(nullability) => *nullability,
+            DType::Extension(extension) => extension.storage.nullability(),
+        }
+    }
+
+    /// Whether null is a value.
+    pub fn is_nullable(&self) -> bool
+        ensures { result ≡ is_nullable (nullability_of (kind_of self.now)) }
+    {
+        self.nullability().is_nullable()
+    }
+
+    /// Whether the type has a form without null: all but `Null`, and an extension where its storage has.
+    #[tactic(auto, using(crate::proofs::Views::one_level))]
+    pub fn can_be_nonnullable(&self) -> bool
+        ensures { result ≡ can_be_nonnullable (kind_of self.now) }
+    {
+        match self {
+            DType::Null => false,
+            DType::Bool(_) | DType::Primitive(_, _) | DType::Decimal(_, _) => true,
+            DType::Utf8(_) | DType::Binary(_) | DType::Variant(_) => true,
+            DType::List(_, _) | DType::FixedSizeList(_, _, _) | DType::Map(_, _) => true,
+            DType::Struct(_, _) | DType::Union(_, _) => true,
+            DType::Extension(extension) => extension.storage.can_be_nonnullable(),
+        }
+    }
+
+    /// The type with this outer nullability.
+    #[tactic(auto, using(crate::proofs::Views::nullabilities))]
+    pub fn with_nullability(&self, nullability: Nullability) -> Result<DType, AllocError>
+        requires { nullability_of_flag nullability ≡ non_nullable → IsTrue (can_be_nonnullable (kind_of self.now)) }
+        ensures kind { IfOk result (λ dtype. kind_of dtype
+            ≡ with_nullability (nullability_of_flag nullability) (kind_of self.now)) }
+        ensures outer { IfOk result (λ dtype. nullability_of (kind_of dtype) ≡ nullability_of_flag nullability) }
+    {
+        match self {
+            DType::Null => Ok(DType::Null),
+            DType::Bool(_) => Ok(DType::Bool(nullability)),
+            DType::Primitive(ptype, _) => Ok(DType::Primitive(*ptype, nullability)),
+            DType::Decimal(decimal, _) => Ok(DType::Decimal(*decimal, nullability)),
+            DType::Utf8(_) => Ok(DType::Utf8(nullability)),
+            DType::Binary(_) => Ok(DType::Binary(nullability)),
+            DType::List(element, _) => Ok(DType::List(element.clone()?, nullability)),
+            DType::FixedSizeList(element, size, _) => {
+                Ok(DType::FixedSizeList(element.clone()?, *size, nullability))
+            }
+            DType::Map(map, _) => Ok(DType::Map(map.clone()?, nullability)),
+            DType::Struct(fields, _) => Ok(DType::Struct(fields.clone()?, nullability)),
+            DType::Union(variants, _) => Ok(DType::Union(variants.clone()?, nullability)),
+            DType::Variant(_) => Ok(DType::Variant(nullability)),
+            DType::Extension(extension) => {
+                let storage = extension.storage.with_nullability(nullability)?;
+                Ok(DType::Extension(extension.with_storage(storage)?))
+            }
+        }
+    }
+
+    /// The type, with null where it has it or `nullability` does.
+    #[tactic(auto, using(crate::proofs::Views::union_can_be))]
+    pub fn union_nullability(&self, nullability: Nullability) -> Result<DType, AllocError>
+        ensures { IfOk result (λ dtype. kind_of dtype ≡ with_nullability
+            (either_nullable (nullability_of (kind_of self.now)) (nullability_of_flag nullability)) (kind_of self.now)) }
+    {
+        let either = self.nullability() | nullability;
+        let dtype = self.with_nullability(either)?;
+        Ok(dtype)
+    }
+
+    /// The type with null.
+    pub fn as_nullable(&self) -> Result<DType, AllocError>
+        ensures kind { IfOk result (λ dtype. kind_of dtype ≡ with_nullability nullable (kind_of self.now)) }
+        ensures outer { IfOk result (λ dtype. nullability_of (kind_of dtype) ≡ nullable) }
+    {
+        let dtype = self.with_nullability(Nullability::Nullable)?;
+        Ok(dtype)
+    }
+
+    /// The type without null.
+    pub fn as_nonnullable(&self) -> Result<DType, AllocError>
+        requires { IsTrue (can_be_nonnullable (kind_of self.now)) }
+        ensures kind { IfOk result (λ dtype. kind_of dtype ≡ with_nullability non_nullable (kind_of self.now)) }
+        ensures outer { IfOk result (λ dtype. nullability_of (kind_of dtype) ≡ non_nullable) }
+    {
+        let dtype = self.with_nullability(Nullability::NonNullable)?;
+        Ok(dtype)
+    }
+}
+
+impl Clone for DType {
+    ghost is_clone = { λ old new. kind_of new ≡ kind_of old };
+
+    #[tactic(auto, using(crate::proofs::Views::one_level))]
+    fn clone(&self) -> Result<DType, AllocError> {
+        match self {
+            DType::Null => Ok(DType::Null),
+            DType::Bool(nullability) => Ok(DType::Bool(*nullability)),
+            DType::Primitive(ptype, nullability) => Ok(DType::Primitive(*ptype, *nullability)),
+            DType::Decimal(decimal, nullability) => Ok(DType::Decimal(*decimal, *nullability)),
+            DType::Utf8(nullability) => Ok(DType::Utf8(*nullability)),
+            DType::Binary(nullability) => Ok(DType::Binary(*nullability)),
+            DType::List(element, nullability) => Ok(DType::List(element.clone()?, *nullability)),
+            DType::FixedSizeList(element, size, nullability) => {
+                Ok(DType::FixedSizeList(element.clone()?, *size, *nullability))
+            }
+            DType::Map(map, nullability) => Ok(DType::Map(map.clone()?, *nullability)),
+            DType::Struct(fields, nullability) => Ok(DType::Struct(fields.clone()?, *nullability)),
+            DType::Union(variants, nullability) => {
+                Ok(DType::Union(variants.clone()?, *nullability))
+            }
+            DType::Variant(nullability) => Ok(DType::Variant(*nullability)),
+            DType::Extension(extension) => Ok(DType::Extension(extension.clone()?)),
+        }
+    }
+}
