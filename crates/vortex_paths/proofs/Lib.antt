@@ -1,0 +1,6 @@
+mod Coverage
+mod Examples
+mod Masks
+mod Resolved
+mod Sets
+mod Steps
