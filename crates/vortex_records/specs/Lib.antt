@@ -1,0 +1,5 @@
+pub mod Feeding
+pub mod Iterators
+pub mod Laws
+pub mod Records
+pub mod Widths

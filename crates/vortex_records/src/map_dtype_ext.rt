@@ -1,0 +1,44 @@
+//! The records that a map's entries are.
+ghost use Rattle.std.specs.Prelude.{◌≡◌, IfOk};
+ghost use Rattle.vortex_types.specs.View.{EntryKinds, kind_of, field_of, entries_in};
+ghost use Rattle.vortex_records.specs.Records.{entry_kind};
+
+use std::alloc::{AllocError, Global};
+use vortex_kinds::field_names::FieldName;
+use vortex_kinds::nullability::Nullability;
+use vortex_types::dtype::DType;
+use vortex_types::map_dtype::MapDType;
+use vortex_types::struct_fields::{StructField, StructFields};
+
+/// What can be asked of a map's entries.
+pub trait MapDTypeExt {
+    ghost entries: { Self → EntryKinds };
+
+    /// The type of an entry: a record of `key` and `value`, without null.
+    fn entries_dtype(&self, alloc: Global) -> Result<DType, AllocError>
+        ensures { IfOk result (λ dtype. kind_of dtype ≡ entry_kind (entries self.now)) };
+}
+
+impl MapDTypeExt for MapDType {
+    ghost entries = { entries_in };
+
+    #[tactic(auto, using(vortex_types::proofs::Views::built))]
+    fn entries_dtype(&self, alloc: Global) -> Result<DType, AllocError> {
+        let key = named(alloc, "key", self.key_dtype())?;
+        let value = named(alloc, "value", self.value_dtype())?;
+        let mut fields = Vec::with_capacity(alloc, 2)?;
+        fields.push(key)?;
+        fields.push(value)?;
+        let fields = StructFields::from_vec(fields)?;
+        Ok(DType::Struct(fields, Nullability::NonNullable))
+    }
+}
+
+#[tactic(auto, using(vortex_types::proofs::Views::built))]
+fn named(alloc: Global, name: &str, dtype: &DType) -> Result<StructField, AllocError>
+    ensures { IfOk result (λ made. field_of made ≡ (name.now, kind_of dtype.now)) }
+{
+    let name = FieldName::new(alloc, name)?;
+    let dtype = dtype.clone()?;
+    Ok(StructField { name, dtype })
+}
