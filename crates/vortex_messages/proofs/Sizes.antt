@@ -1,0 +1,48 @@
+-- How large types are, which bounds the depth of a walk.
+use Rattle.std.proofs.Common.{◌≡◌, ℕ, zero, suc, ◌+◌, ◌<◌, List, [], ◌∷◌, length, get_or, arith, ap}
+use Rattle.vortex_model.specs.Kind.{Kind, list, fixed_list, mapping, struct, union, extension, Fields, no_fields, field, Variants, no_variants, choice}
+use Rattle.vortex_types.specs.View.{kind_of, field_of, fields_of, variant_of, variants_of}
+use Rattle.vortex_types.specs.declared.struct_fields.StructField.{StructField}
+use Rattle.vortex_types.specs.declared.union_variants.UnionVariant.{UnionVariant}
+use Rattle.vortex_types.proofs.Views.{field_of-parts, variant_of-parts}
+
+abbrev mutual
+  pub kind_size : Kind → ℕ
+  kind_size (list k n) = suc (kind_size k)
+  kind_size (fixed_list k m n) = suc (kind_size k)
+  kind_size (mapping k v s n) = suc (kind_size k + kind_size v)
+  kind_size (struct fs n) = suc (fields_size fs)
+  kind_size (union vs n) = suc (variants_size vs)
+  kind_size (extension id meta k) = suc (kind_size k)
+  kind_size k = 0
+
+  pub fields_size : Fields → ℕ
+  fields_size no_fields = 0
+  fields_size (field x k fs) = suc (kind_size k + fields_size fs)
+
+  pub variants_size : Variants → ℕ
+  variants_size no_variants = 0
+  variants_size (choice x t k vs) = suc (kind_size k + variants_size vs)
+
+first_field : (f g : StructField) (fs : List StructField) → f ≡ g → kind_size (kind_of f.dtype) < fields_size (fields_of (g ∷ fs))
+first_field f g fs e =
+    let p : kind_size (field_of g).1 ≡ kind_size (kind_of g.dtype) = ap (λ x. kind_size x.1) (field_of-parts g) in
+    let q : kind_size (kind_of f.dtype) ≡ kind_size (kind_of g.dtype) = ap (λ x. kind_size (kind_of x.dtype)) e in
+    omega (arith, p, q)
+
+-- each field is smaller than all of them
+pub field_smaller : (fs : List StructField) (i : ℕ) (f : StructField) → i < length fs → f ≡ get_or fs i f → kind_size (kind_of f.dtype) < fields_size (fields_of fs)
+field_smaller [] i f h e = absurd (omega arith)
+field_smaller (g ∷ fs) zero f h e = first_field f g fs e
+field_smaller (g ∷ fs) (suc i) f h e = let k = field_smaller fs i f (omega arith) e in omega (arith, k)
+
+first_variant : (v w : UnionVariant) (vs : List UnionVariant) → v ≡ w → kind_size (kind_of v.dtype) < variants_size (variants_of (w ∷ vs))
+first_variant v w vs e =
+    let p : kind_size (variant_of w).1.1 ≡ kind_size (kind_of w.dtype) = ap (λ x. kind_size x.1.1) (variant_of-parts w) in
+    let q : kind_size (kind_of v.dtype) ≡ kind_size (kind_of w.dtype) = ap (λ x. kind_size (kind_of x.dtype)) e in
+    omega (arith, p, q)
+
+pub variant_smaller : (vs : List UnionVariant) (i : ℕ) (v : UnionVariant) → i < length vs → v ≡ get_or vs i v → kind_size (kind_of v.dtype) < variants_size (variants_of vs)
+variant_smaller [] i v h e = absurd (omega arith)
+variant_smaller (w ∷ vs) zero v h e = first_variant v w vs e
+variant_smaller (w ∷ vs) (suc i) v h e = let k = variant_smaller vs i v (omega arith) e in omega (arith, k)

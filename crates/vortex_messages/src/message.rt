@@ -1,0 +1,71 @@
+//! Message trees.
+use vortex_kinds::field_names::FieldNames;
+use vortex_kinds::ptype::PType;
+use vortex_types::{BufferString, ByteBuffer};
+
+/// A tree that says a type.
+#[derive(Drop)]
+pub struct Message {
+    /// What the node says that it is.
+    pub kind: MessageKind,
+    /// Whether null is a value.
+    pub nullable: bool,
+    /// What the type is made of.
+    pub children: Vec<Message>,
+}
+
+/// What a node says that it is, with the fields of its own. Any numbers and lists can be said; whether they make a type is for
+/// `from_proto` to tell.
+#[derive(Drop)]
+pub enum MessageKind {
+    /// Null alone.
+    Null,
+    /// Truth values.
+    Bool,
+    /// Texts.
+    Utf8,
+    /// Bytes.
+    Binary,
+    /// A value of any type, with its type.
+    Variant,
+    /// Numbers of a kind.
+    Primitive(PType),
+    /// Decimals.
+    Decimal {
+        /// How many digits there are.
+        precision: i64,
+        /// How many digits stand behind the point.
+        scale: i64,
+    },
+    /// Lists of the child.
+    List,
+    /// Lists of so many of the child.
+    FixedSizeList {
+        /// How many elements there are.
+        size: u32,
+    },
+    /// Maps from the first child to the second.
+    Map {
+        /// Whether the keys of each map are in order.
+        sorted: bool,
+    },
+    /// Records of the children.
+    Struct {
+        /// The names of the fields, one a child.
+        names: FieldNames,
+    },
+    /// One of the children.
+    Union {
+        /// Their names, one a child.
+        names: FieldNames,
+        /// Their tags, one a child.
+        tags: Vec<i64>,
+    },
+    /// A type with a meaning of its own over the child's values.
+    Extension {
+        /// The name of the meaning.
+        id: BufferString,
+        /// What belongs to the meaning.
+        metadata: Option<ByteBuffer>,
+    },
+}
