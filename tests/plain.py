@@ -149,14 +149,21 @@ def read_command(line):
 
 # ---- the table: a type and a list of chunks, each a list of rows
 
+def check_part(dtype):
+    """A record's names go before its parts, and these from left to right."""
+    kind, fields, _ = dtype
+    if kind == "struct":
+        if len({name for name, _ in fields}) != len(fields):
+            raise Refused(4)
+        for _, part in fields:
+            check_part(part)
+
+
 def check_type(dtype):
-    kind, fields, nullable = dtype
+    kind, _, nullable = dtype
     if kind != "struct" or nullable:
         raise Refused(2)
-    if len({name for name, _ in fields}) != len(fields):
-        raise Refused(4)
-    if any(part[0] == "struct" for _, part in fields):
-        raise Refused(3)
+    check_part(dtype)
 
 
 def append(table, dtype, rows):
@@ -184,13 +191,14 @@ def check_path(dtype, path, at):
 def operand_type(dtype, operand):
     if operand[0] == "lit":
         return operand[1][0]
-    names = operand[1]
-    if not names:
+    for name in operand[1]:
+        parts = [part for other, part in dtype[1] or [] if other == name]
+        if not parts:
+            raise Refused(12)
+        dtype = parts[0]
+    if dtype[0] == "struct":
         raise Refused(13)
-    parts = [part for name, part in dtype[1] if name == names[0]]
-    if not parts or len(names) > 1:
-        raise Refused(12)
-    return parts[0][0]
+    return dtype[0]
 
 
 def check_predicate(dtype, predicate):
@@ -202,9 +210,15 @@ def check_predicate(dtype, predicate):
 
 
 def operand_value(dtype, operand, row):
+    """A column's value is null where a record on the way is null."""
     if operand[0] == "lit":
         return operand[2]
-    return row[[name for name, _ in dtype[1]].index(operand[1][0])]
+    for name in operand[1]:
+        if row is None:
+            return None
+        place = [other for other, _ in dtype[1]].index(name)
+        row, dtype = row[place], dtype[1][place][1]
+    return row
 
 
 def is_hopeless(dtype, predicate, chunk):
@@ -220,13 +234,29 @@ def is_hopeless(dtype, predicate, chunk):
     return {"=": a > d or c > b, "!=": a == d and b == c, ">": b <= c, ">=": b < c, "<": a >= d, "<=": a > d}[predicate[0]]
 
 
+def is_kept(paths, here):
+    """Whether one of the paths begins this one, or this one a path."""
+    return any(path[:len(here)] == here[:len(path)] for path in paths)
+
+
+def cut_type(dtype, paths, here):
+    kind, fields, nullable = dtype
+    if kind != "struct":
+        return dtype
+    return (kind, [(name, cut_type(part, paths, here + [name])) for name, part in fields if is_kept(paths, here + [name])], nullable)
+
+
+def cut_row(dtype, row, paths, here):
+    if dtype[0] != "struct" or row is None:
+        return row
+    return [cut_row(part, value, paths, here + [name]) for (name, part), value in zip(dtype[1], row) if is_kept(paths, here + [name])]
+
+
 def scan(table, paths, predicate):
     dtype = table["dtype"]
     for at, path in enumerate(paths):
         check_path(dtype, path, at)
     check_predicate(dtype, predicate)
-    kept = [[] in paths or [name] in paths for name, _ in dtype[1]]
-    cut = lambda parts: [part for part, keep in zip(parts, kept) if keep]
     rows, skipped, tested = [], [], 0
     for number, chunk in enumerate(table["chunks"]):
         if is_hopeless(dtype, predicate, chunk):
@@ -236,9 +266,9 @@ def scan(table, paths, predicate):
         for row in chunk:
             x, y = (operand_value(dtype, operand, row) for operand in predicate[1:])
             if x is not None and y is not None and TESTS[predicate[0]](x, y):
-                rows.append(cut(row))
+                rows.append(cut_row(dtype, row, paths, []))
     return {
-        "dtype": type_json(("struct", cut(dtype[1]), False)), "ok": True, "proofs": len(table["chunks"]), "rows": rows,
+        "dtype": type_json(cut_type(dtype, paths, [])), "ok": True, "proofs": len(table["chunks"]), "rows": rows,
         "rows_tested": tested, "skipped": skipped, "whole": [],
     }
 
@@ -290,16 +320,35 @@ def random_kind(chance):
     return {"kind": chance.choice(list(RANGES)), **({"nullable": chance.random() < 0.5} if chance.random() < 0.7 else {})}
 
 
-def random_type(chance, width):
+def random_record(chance, width, depth):
     names = chance.sample(["a", "b", "c", "\u00e9", "d\"e"], width)
-    if width > 1 and chance.random() < 0.03:
+    if width > 1 and chance.random() < 0.02:
         names[1] = names[0]
-    dtype = {"kind": "struct", "names": names, "children": [random_kind(chance) for _ in names]}
-    if chance.random() < 0.02:
+    inner = lambda: random_kind(chance)
+    if depth:
+        inner = lambda: random_record(chance, chance.choice([0, 1, 1, 2, 2, 3]), depth - 1) if chance.random() < 0.4 else random_kind(chance)
+    dtype = {"kind": "struct", "names": names, "children": [inner() for _ in names]}
+    if chance.random() < 0.5:
         dtype["nullable"] = True
-    if width and chance.random() < 0.02:
-        dtype["children"][-1] = {"kind": "struct", "names": [], "children": []}
     return dtype
+
+
+def random_type(chance, width):
+    dtype = random_record(chance, width, chance.choice([0, 1, 2, 3]))
+    if chance.random() < 0.98:
+        dtype.pop("nullable", None)
+    return dtype
+
+
+def alike(chance, dtype):
+    """The same records, of other names, kinds and nullability; mostly so that rows can be converted."""
+    if dtype["kind"] != "struct":
+        return {"kind": chance.choice(list(RANGES)), "nullable": True} if chance.random() < 0.3 else dtype
+    names = chance.sample(["a", "b", "c", "\u00e9", "d\"e"], len(dtype["names"]))
+    other = {"kind": "struct", "names": names, "children": [alike(chance, child) for child in dtype["children"]]}
+    if dtype.get("nullable") or chance.random() < 0.05:
+        other["nullable"] = True
+    return other
 
 
 def random_number(chance, kind):
@@ -310,49 +359,70 @@ def random_number(chance, kind):
     return number if low <= number <= high or chance.random() < 0.005 else 0
 
 
+def random_value(chance, dtype):
+    if dtype.get("nullable") and chance.random() < 0.2:
+        return None
+    if dtype["kind"] != "struct":
+        return random_number(chance, dtype["kind"])
+    value = [random_value(chance, child) for child in dtype["children"]]
+    if chance.random() < 0.003:
+        value = chance.choice([None, [], {}, "x", 0, value + [0], [[0]] * len(value)])
+    return value
+
+
 def random_rows(chance, dtype):
-    rows = []
-    for _ in range(chance.choice([0, 1, 1, 2, 3, 5, 12])):
-        rows.append([None if child.get("nullable") and chance.random() < 0.2 else random_number(chance, child["kind"]) for child in dtype["children"]])
-        if chance.random() < 0.01:
-            rows[-1] = chance.choice([None, [], {}, "x", rows[-1] + [0], [[0]] * len(rows[-1])])
-    return rows
+    dtype = {**dtype, "nullable": chance.random() < 0.01}
+    return [random_value(chance, dtype) for _ in range(chance.choice([0, 1, 1, 2, 3, 5, 12]))]
 
 
-def random_operand(chance, names, kinds):
-    if chance.random() < 0.55 and names:
-        return ["col", chance.choice(names)] if chance.random() < 0.97 else ["col"] + chance.choice([[], ["zz"], [names[0], names[0]]])
+def parts_of(dtype, here):
+    """Each part of a type with its path, from the root."""
+    parts = [(here, dtype)]
+    for name, child in zip(dtype.get("names", []), dtype.get("children", [])):
+        parts += parts_of(child, here + [name])
+    return parts
+
+
+def random_operand(chance, columns, kinds):
+    if chance.random() < 0.55 and columns:
+        column = chance.choice(columns)
+        return ["col"] + (column if chance.random() < 0.97 else chance.choice([[], ["zz"], column[:-1], column + column]))
     kind = chance.choice(kinds) if kinds and chance.random() < 0.95 else "u16"
     dtype = {"kind": kind, "nullable": chance.random() < 0.2}
     return ["lit", dtype, None if dtype["nullable"] and chance.random() < 0.3 else random_number(chance, kind)]
 
 
 def random_scan(chance, dtype):
-    names, kinds = dtype["names"], [child["kind"] for child in dtype["children"]]
-    if names and chance.random() < 0.8:
+    leaves = [(path, part["kind"]) for path, part in parts_of(dtype, []) if part["kind"] != "struct"]
+    columns, kinds = [path for path, _ in leaves], [kind for _, kind in leaves]
+    if leaves and chance.random() < 0.8:
         # One kind for both sides, so that most scans are accepted.
         kind = chance.choice(kinds)
-        names = [name for name, other in zip(names, kinds) if other == kind]
+        columns = [path for path, other in leaves if other == kind]
         kinds = [kind]
-    where = [chance.choice(list(TESTS)), random_operand(chance, names, kinds), random_operand(chance, names, kinds)]
+    where = [chance.choice(list(TESTS)), random_operand(chance, columns, kinds), random_operand(chance, columns, kinds)]
     if chance.random() < 0.03:
         where = where[1]
-    paths = [[], *([name] for name in dtype["names"])]
-    paths = chance.sample(paths, chance.randint(0, len(paths)))
+    paths = [path for path, _ in parts_of(dtype, [])]
+    paths = chance.sample(paths, min(len(paths), chance.choice([0, 1, 1, 2, 2, 3, 4, 9])))
+    if chance.random() < 0.7 and [] in paths:
+        paths.remove([])
     if chance.random() < 0.05:
-        paths.append(chance.choice([["zz"], [None], ["a", None], ["a", "a"]]))
+        paths.append(chance.choice([["zz"], [None], ["a", None], ["a", "a"], ["b", "c", "zz"]]))
     return {"cmd": "scan", "paths": paths, "where": where}
 
 
 def random_session(chance):
-    dtype, lines = {"names": [], "children": []}, []
+    dtype, lines = {"kind": "struct", "names": [], "children": []}, []
     for _ in range(chance.randint(5, 40)):
         roll = chance.random()
         if roll < 0.08 or not lines:
             dtype = random_type(chance, chance.randint(0, 4))
             lines.append({"cmd": "create", "dtype": dtype, "length": chance.choice([0, 16, 2**64 - 1])})
         elif roll < 0.5:
-            batch = dtype if chance.random() < 0.6 else random_type(chance, len(dtype["names"]))
+            batch = dtype if chance.random() < 0.6 else alike(chance, dtype)
+            if chance.random() < 0.05:
+                batch = random_type(chance, len(dtype["names"]))
             lines.append({"cmd": "append", "dtype": batch, "rows": random_rows(chance, batch)})
         else:
             lines.append(random_scan(chance, dtype))

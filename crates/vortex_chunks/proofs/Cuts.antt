@@ -1,139 +1,222 @@
--- Cuts of flat records.
-use Rattle.std.proofs.Common.{◌≡◌, refl, sym, ◌∙◌, ap, ℕ, zero, suc, List, [], ◌∷◌, map, filter, cond, Bool, true, false, ◌&&◌, Option, Some, None, if◌then◌else◌, Vec, Global}
-use Rattle.vortex_model.specs.Kind.{Kind, integer, struct, stored, Fields, no_fields, field, Nullability, non_nullable}
-use Rattle.vortex_model.specs.Content.{Content, tuple, Contents, first, nth, contents_from, content_of, contents_of, Raw, raw_tuple, Raws, no_raws, raw_first}
+-- Cuts by what is left of the paths, field by field.
+use Rattle.std.proofs.Common.{◌≡◌, refl, sym, ◌∙◌, ap, ℕ, zero, suc, List, [], ◌∷◌, ◌++◌, Bool, true, false, ◌&&◌, ◌||◌, Some, None, if◌then◌else◌, bytes_eq}
+use Rattle.std.specs.List.{cons_option}
+use Rattle.std.proofs.lemmas.Cmp.{nat_list_eq_equiv}
+use Rattle.vortex_model.specs.Kind.{Kind, struct, stored, Fields, no_fields, field, Nullability}
+use Rattle.vortex_model.specs.Content.{Content, tuple, Contents, first, nth, content_of, contents_of, Raw, raw_null, raw_tuple, Raws, no_raws, raw_first}
 use Rattle.vortex_model.specs.Valid.{valid, has, fields_have}
-use Rattle.vortex_model.specs.Refusal.{repeated_name}
-use Rattle.vortex_model.specs.Kept.{kept_fault, first_unkept, names_distinct}
-use Rattle.vortex_model.specs.Path.{Names, part_of}
-use Rattle.vortex_model.specs.Cut.{is_kept, cut_fields, cut_contents, cut_row, cut_type}
+use Rattle.vortex_model.specs.Path.{Names, begins}
+use Rattle.vortex_model.specs.Cut.{is_kept, cut_kind, cut_fields, cut_content, cut_contents, cut_row, cut_type}
+use Rattle.vortex_model.proofs.Answers.{KeepAll, uncut, uncut_kind}
+use Rattle.vortex_model.proofs.ContentOrder.{true_left, true_right}
+use Rattle.vortex_model.proofs.Contents.{said}
+use Rattle.vortex_model.proofs.Tests.{has_so}
 use Rattle.vortex_dtype.specs.View.{NamedKind, fields_from}
-use Rattle.vortex_scalar.specs.View.{raw_of, raw_in, raws_from}
-use Rattle.vortex_scalar.specs.declared.scalar_value.ScalarValue as value
-use Rattle.vortex_scalar.specs.declared.scalar_value.ScalarValue.{ScalarValue}
-use Rattle.vortex_scalar.proofs.Views.{raw_of-Tuple}
-use Rattle.vortex_chunks.specs.Cut.{is_kept_field, kept_fields, kept_positions, picked, raw_nth, raw_part, raw_picked}
+use Rattle.vortex_chunks.specs.Cut.{Tree, whole, parts, Parts, no_parts, part, KeptPart, parts_from, beyond, ask_for_all, lead_on, kept_by, kept_parts, cut_named, kept_list, content_cut, contents_cut, raw_nth, raw_cut, raws_cut}
+
+-- ---- behind a name
+
+abbrev keeps : Names → Names → Bool
+keeps here path = begins path here || begins here path
+
+one_path : (b : Bool) (path here : Names) (rest : Bool) (left : List Names) → rest ≡ is_kept left here →
+    ((b && begins path here) || (b && begins here path)) || rest ≡ is_kept (cons_option (if b then Some path else None) left) here
+one_path true path here rest left h = ap (λ r. keeps here path || r) h
+one_path false path here rest left h = h
+
+-- below a name, the paths keep what is left of them keeps
+kept_beyond : (paths : List Names) (x : List ℕ) (here : Names) → is_kept paths (x ∷ here) ≡ is_kept (beyond x paths) here
+kept_beyond [] x here = refl
+kept_beyond ([] ∷ paths) x here = refl
+kept_beyond ((y ∷ path) ∷ paths) x here =
+    ap (λ b. ((bytes_eq y x && begins path here) || (b && begins here path)) || is_kept paths (x ∷ here)) (nat_list_eq_equiv.symm x y)
+    ∙ one_path (bytes_eq y x) path here (is_kept paths (x ∷ here)) (beyond x paths) (kept_beyond paths x here)
+
+either_true : (b : Bool) → b || true ≡ true
+either_true true = refl
+either_true false = refl
+
+kept_here : (paths : List Names) → is_kept paths [] ≡ lead_on paths
+kept_here [] = refl
+kept_here (path ∷ paths) = ap (λ b. b || is_kept paths []) (either_true (begins path []))
+
+-- a field is kept where paths lead through its name
+pub kept_field : (paths : List Names) (x : List ℕ) → is_kept paths (x ∷ []) ≡ lead_on (beyond x paths)
+kept_field paths x = kept_beyond paths x [] ∙ kept_here (beyond x paths)
+
+-- a path without a step keeps all
+pub all_kept : (paths : List Names) → ask_for_all paths ≡ true → KeepAll paths
+all_kept [] h here = absurd (cc (h))
+all_kept ([] ∷ paths) h here = refl
+all_kept ((x ∷ path) ∷ paths) h here = ap (λ b. keeps here (x ∷ path) || b) (all_kept paths h here) ∙ either_true (keeps here (x ∷ path))
+
+mutual
+  cut_beyond : (paths : List Names) (x : List ℕ) (here : Names) (k : Kind) → cut_kind paths (x ∷ here) k ≡ cut_kind (beyond x paths) here k
+  cut_beyond paths x here (struct fs n) = ap (λ gs. struct gs n) (cut_all_beyond paths x here fs)
+  cut_beyond paths x here k = refl
+
+  cut_all_beyond : (paths : List Names) (x : List ℕ) (here : Names) (fs : Fields) → cut_fields paths (x ∷ here) fs ≡ cut_fields (beyond x paths) here fs
+  cut_all_beyond paths x here no_fields = refl
+  cut_all_beyond paths x here (field y k fs) = λ i.
+      if kept_beyond paths x (here ++ y ∷ []) i then field y (cut_beyond paths x (here ++ y ∷ []) k i) (cut_all_beyond paths x here fs i) else cut_all_beyond paths x here fs i
+
+mutual
+  content_beyond : (paths : List Names) (x : List ℕ) (here : Names) (k : Kind) (c : Content) → cut_content paths (x ∷ here) k c ≡ cut_content (beyond x paths) here k c
+  content_beyond paths x here (struct fs n) (tuple cs) = ap (λ ds. tuple ds) (contents_beyond paths x here fs cs)
+  content_beyond paths x here k c = refl
+
+  contents_beyond : (paths : List Names) (x : List ℕ) (here : Names) (fs : Fields) (cs : Contents) → cut_contents paths (x ∷ here) fs cs ≡ cut_contents (beyond x paths) here fs cs
+  contents_beyond paths x here (field y k fs) (first c cs) = λ i.
+      if kept_beyond paths x (here ++ y ∷ []) i then first (content_beyond paths x (here ++ y ∷ []) k c i) (contents_beyond paths x here fs cs i) else contents_beyond paths x here fs cs i
+  contents_beyond paths x here fs cs = refl
 
 -- ---- the type
 
-cut_one : (paths : List Names) (f : NamedKind) (fs : List NamedKind) (gs : Fields) (b : Bool) → gs ≡ fields_from (filter (is_kept_field paths) fs) →
-    (if b then field f.0 f.1 gs else gs) ≡ fields_from (cond b (f ∷ filter (is_kept_field paths) fs) (filter (is_kept_field paths) fs))
-cut_one paths f fs gs true h = ap (field f.0 f.1) h
-cut_one paths f fs gs false h = h
+named_one : (b : Bool) (x : List ℕ) (k : Kind) (fs : List NamedKind) (gs : Fields) → gs ≡ fields_from fs → (if b then field x k gs else gs) ≡ fields_from (if b then (x, k) ∷ fs else fs)
+named_one true x k fs gs h = ap (field x k) h
+named_one false x k fs gs h = h
 
-cut_flat : (paths : List Names) (fs : List NamedKind) → first_unkept (fields_from fs) ≡ None → cut_fields paths [] (fields_from fs) ≡ fields_from (filter (is_kept_field paths) fs)
-cut_flat paths [] h = refl
-cut_flat paths ((x, integer i n) ∷ fs) h = cut_one paths (x, integer i n) fs (cut_fields paths [] (fields_from fs)) (is_kept paths (x ∷ [])) (cut_flat paths fs h)
-cut_flat paths ((x, k) ∷ fs) h = absurd (cc (h))
+named : (paths : List Names) (fs : List NamedKind) → cut_fields paths [] (fields_from fs) ≡ fields_from (cut_named paths fs)
+named paths [] = refl
+named paths (f ∷ fs) =
+    (λ i. if kept_field paths f.0 i then field f.0 (cut_beyond paths f.0 [] f.1 i) (cut_fields paths [] (fields_from fs)) else cut_fields paths [] (fields_from fs))
+    ∙ named_one (lead_on (beyond f.0 paths)) f.0 (cut_kind (beyond f.0 paths) [] f.1) (cut_named paths fs) (cut_fields paths [] (fields_from fs)) (named paths fs)
 
-none_unkept : (fs : Fields) (b : Bool) → (if b then first_unkept fs else Some repeated_name) ≡ None → first_unkept fs ≡ None
-none_unkept fs true h = h
-none_unkept fs false h = absurd (cc (h))
+-- the type of a record that is cut
+pub cut_struct : (paths : List Names) (k : Kind) (fs : List NamedKind) (n : Nullability) → k ≡ struct (fields_from fs) n → cut_kind paths [] k ≡ struct (fields_from (cut_named paths fs)) n
+cut_struct paths k fs n is = ap (cut_kind paths []) is ∙ ap (λ gs. struct gs n) (named paths fs)
 
-pub parts_kept : (fs : Fields) (n : Nullability) → kept_fault (struct fs n) ≡ None → first_unkept fs ≡ None
-parts_kept fs non_nullable h = none_unkept fs (names_distinct fs) h
-parts_kept fs n h = absurd (cc (h))
-
-pub cut_struct : (paths : List Names) (k : Kind) (fs : List NamedKind) (n : Nullability) → k ≡ struct (fields_from fs) n → kept_fault k ≡ None →
-    cut_type paths k ≡ struct (fields_from (filter (is_kept_field paths) fs)) n
-cut_struct paths k fs n is h =
-    ap (cut_type paths) is ∙ ap (λ gs. struct gs n) (cut_flat paths fs (parts_kept (fields_from fs) n (ap kept_fault (sym is) ∙ h)))
+pub cut_whole : (paths : List Names) (k : Kind) → ask_for_all paths ≡ true → cut_kind paths [] k ≡ k
+cut_whole paths k h = uncut_kind paths (all_kept paths h) [] k
 
 -- ---- the positions
 
-next_one : (i : ℕ) (ps qs : List ℕ) (b : Bool) → ps ≡ map suc qs → (if b then suc i ∷ ps else ps) ≡ map suc (if b then i ∷ qs else qs)
-next_one i ps qs true h = ap (λ rs. suc i ∷ rs) h
-next_one i ps qs false h = h
+listed_one : (b : Bool) (i : ℕ) (t : Tree) (ps : List KeptPart) (qs : Parts) → qs ≡ parts_from ps → (if b then part i t qs else qs) ≡ parts_from (if b then (i, t) ∷ ps else ps)
+listed_one true i t ps qs h = ap (part i t) h
+listed_one false i t ps qs h = h
 
-next_fields : (paths : List Names) (i : ℕ) (fs : Fields) → kept_fields paths (suc i) fs ≡ map suc (kept_fields paths i fs)
-next_fields paths i no_fields = refl
-next_fields paths i (field x k fs) = next_one i (kept_fields paths (suc (suc i)) fs) (kept_fields paths (suc i) fs) (is_kept paths (x ∷ [])) (next_fields paths (suc i) fs)
+listed : (paths : List Names) (i : ℕ) (fs : List NamedKind) → kept_parts paths i (fields_from fs) ≡ parts_from (kept_list paths i fs)
+listed paths i [] = refl
+listed paths i (f ∷ fs) = listed_one (lead_on (beyond f.0 paths)) i (kept_by (beyond f.0 paths) f.1) (kept_list paths (suc i) fs) (kept_parts paths (suc i) (fields_from fs)) (listed paths (suc i) fs)
 
--- ---- a row, as it is stored
+pub parts_struct : (paths : List Names) (k : Kind) (fs : List NamedKind) (n : Nullability) → k ≡ struct (fields_from fs) n → ask_for_all paths ≡ false → kept_by paths k ≡ parts (parts_from (kept_list paths 0 fs))
+parts_struct paths k fs n is h =
+    ap (kept_by paths) is ∙ ap (λ b. if b then whole else parts (kept_parts paths 0 (fields_from fs))) h ∙ ap parts (listed paths 0 fs)
 
-raw_behind : (r : Raw) (rs : Raws) (ps : List ℕ) → map (raw_nth (raw_first r rs)) (map suc ps) ≡ map (raw_nth rs) ps
-raw_behind r rs [] = refl
-raw_behind r rs (p ∷ ps) = ap (λ xs. raw_nth rs p ∷ xs) (raw_behind r rs ps)
+whole_by : (b : Bool) (ps : Parts) → b ≡ true → (if b then whole else parts ps) ≡ whole
+whole_by true ps h = refl
+whole_by false ps h = absurd (cc (h))
 
-abbrev kept_raws : List Names → Fields → Raws → Raws
-kept_raws paths fs rs = raws_from (map (raw_nth rs) (kept_fields paths 0 fs))
+pub parts_whole : (paths : List Names) (k : Kind) → ask_for_all paths ≡ true → kept_by paths k ≡ whole
+parts_whole paths (struct fs n) h = whole_by (ask_for_all paths) (kept_parts paths 0 fs) h
+parts_whole paths k h = refl
 
-raws_next : (paths : List Names) (fs : Fields) (r : Raw) (rs : Raws) → raws_from (map (raw_nth (raw_first r rs)) (kept_fields paths 1 fs)) ≡ kept_raws paths fs rs
-raws_next paths fs r rs = ap (λ ps. raws_from (map (raw_nth (raw_first r rs)) ps)) (next_fields paths 0 fs) ∙ ap raws_from (raw_behind r rs (kept_fields paths 0 fs))
+-- ---- positions from one on
 
-true_left : (b c : Bool) → b && c ≡ true → b ≡ true
-true_left true c h = refl
-true_left false c h = absurd (cc (h))
+abbrev moved : Parts → Parts
+moved no_parts = no_parts
+moved (part i t ps) = part (suc i) t (moved ps)
 
-true_right : (b c : Bool) → b && c ≡ true → c ≡ true
-true_right true c h = h
-true_right false c h = absurd (cc (h))
+move_one : (b : Bool) (i : ℕ) (t : Tree) (ps qs : Parts) → ps ≡ moved qs → (if b then part (suc i) t ps else ps) ≡ moved (if b then part i t qs else qs)
+move_one true i t ps qs h = ap (part (suc i) t) h
+move_one false i t ps qs h = h
 
-valid_one : (x : List ℕ) (k : Kind) (fs : Fields) (r : Raw) (rs : Raws) (ps : List ℕ) (b : Bool) → has (stored k) r ≡ true → fields_have fs (raws_from (map (raw_nth (raw_first r rs)) ps)) ≡ true →
-    fields_have (if b then field x k fs else fs) (raws_from (map (raw_nth (raw_first r rs)) (if b then 0 ∷ ps else ps))) ≡ true
-valid_one x k fs r rs ps true h g = (λ j. h j && g j)
-valid_one x k fs r rs ps false h g = g
+move_all : (paths : List Names) (i : ℕ) (fs : Fields) → kept_parts paths (suc i) fs ≡ moved (kept_parts paths i fs)
+move_all paths i no_fields = refl
+move_all paths i (field x k fs) =
+    move_one (lead_on (beyond x paths)) i (kept_by (beyond x paths) k) (kept_parts paths (suc (suc i)) fs) (kept_parts paths (suc i) fs) (move_all paths (suc i) fs)
 
--- the kept values of a valid row are valid for the kept fields
-cut_valid : (paths : List Names) (fs : Fields) (rs : Raws) → first_unkept fs ≡ None → fields_have fs rs ≡ true → fields_have (cut_fields paths [] fs) (kept_raws paths fs rs) ≡ true
-cut_valid paths no_fields rs h g = refl
-cut_valid paths (field x (integer i n) fs) no_raws h g = absurd (cc (g))
-cut_valid paths (field x (integer i n) fs) (raw_first r rs) h g =
-    valid_one x (integer i n) (cut_fields paths [] fs) r rs (kept_fields paths 1 fs) (is_kept paths (x ∷ []))
-    (true_left (has (integer i n) r) (fields_have fs rs) g)
-    (ap (fields_have (cut_fields paths [] fs)) (raws_next paths fs r rs) ∙ cut_valid paths fs rs h (true_right (has (integer i n) r) (fields_have fs rs) g))
-cut_valid paths (field x k fs) rs h g = absurd (cc (h))
+raws_moved : (r : Raw) (rs : Raws) (ps : Parts) → raws_cut (moved ps) (raw_first r rs) ≡ raws_cut ps rs
+raws_moved r rs no_parts = refl
+raws_moved r rs (part i t ps) = ap (raw_first (raw_cut t (raw_nth rs i))) (raws_moved r rs ps)
 
-pub cut_is_valid : (paths : List Names) (k : Kind) (row : Raw) → kept_fault k ≡ None → valid k row ≡ true → valid (cut_type paths k) (raw_picked (kept_positions paths k) row) ≡ true
-cut_is_valid paths (struct fs non_nullable) (raw_tuple rs) h g = cut_valid paths fs rs (parts_kept fs non_nullable h) g
-cut_is_valid paths (struct fs non_nullable) row h g = absurd (cc (g))
-cut_is_valid paths k row h g = absurd (cc (h))
+contents_moved : (c : Content) (cs : Contents) (ps : Parts) → contents_cut (moved ps) (first c cs) ≡ contents_cut ps cs
+contents_moved c cs no_parts = refl
+contents_moved c cs (part i t ps) = ap (first (content_cut t (nth cs i))) (contents_moved c cs ps)
 
--- ---- what a row says
+raws_next : (paths : List Names) (fs : Fields) (r : Raw) (rs : Raws) → raws_cut (kept_parts paths 1 fs) (raw_first r rs) ≡ raws_cut (kept_parts paths 0 fs) rs
+raws_next paths fs r rs = ap (λ ps. raws_cut ps (raw_first r rs)) (move_all paths 0 fs) ∙ raws_moved r rs (kept_parts paths 0 fs)
+
+contents_next : (paths : List Names) (fs : Fields) (c : Content) (cs : Contents) → contents_cut (kept_parts paths 1 fs) (first c cs) ≡ contents_cut (kept_parts paths 0 fs) cs
+contents_next paths fs c cs = ap (λ ps. contents_cut ps (first c cs)) (move_all paths 0 fs) ∙ contents_moved c cs (kept_parts paths 0 fs)
+
+-- ---- a valid value that is cut is valid for the cut type
+
+have_one : (b : Bool) (x : List ℕ) (k : Kind) (fs : Fields) (r : Raw) (rs ss : Raws) (i : ℕ) (t : Tree) (ps : Parts) → has (stored k) (raw_cut t (raw_nth rs i)) ≡ true → fields_have fs (raws_cut ps rs) ≡ true →
+    fields_have (if b then field x k fs else fs) (raws_cut (if b then part i t ps else ps) rs) ≡ true
+have_one true x k fs r rs ss i t ps h g = λ j. h j && g j
+have_one false x k fs r rs ss i t ps h g = g
+
+record_has : (paths : List Names) (fs : Fields) (n : Nullability) → ((rs : Raws) → fields_have fs rs ≡ true → fields_have (cut_fields paths [] fs) (raws_cut (kept_parts paths 0 fs) rs) ≡ true) →
+    (b : Bool) → ask_for_all paths ≡ b → (r : Raw) → has (struct fs n) r ≡ true → has (struct (cut_fields paths [] fs) n) (raw_cut (if b then whole else parts (kept_parts paths 0 fs)) r) ≡ true
+record_has paths fs n each true e r g = ap (λ k. has k r) (uncut_kind paths (all_kept paths e) [] (struct fs n)) ∙ g
+record_has paths fs n each false e raw_null g = g
+record_has paths fs n each false e (raw_tuple rs) g = each rs g
+record_has paths fs n each false e r g = absurd (cc (g))
+
+mutual
+  cut_has : (paths : List Names) (k : Kind) (r : Raw) → has (stored k) r ≡ true → has (stored (cut_kind paths [] k)) (raw_cut (kept_by paths k) r) ≡ true
+  cut_has paths (struct fs n) r h = record_has paths fs n (λ rs g. cut_have paths fs rs g) (ask_for_all paths) refl r h
+  cut_has paths k r h = h
+
+  cut_have : (paths : List Names) (fs : Fields) (rs : Raws) → fields_have fs rs ≡ true → fields_have (cut_fields paths [] fs) (raws_cut (kept_parts paths 0 fs) rs) ≡ true
+  cut_have paths no_fields rs h = refl
+  cut_have paths (field x k fs) no_raws h = absurd (cc (h))
+  cut_have paths (field x k fs) (raw_first r rs) h =
+      (λ i. fields_have (if kept_field paths x i then field x (cut_beyond paths x [] k i) (cut_fields paths [] fs) else cut_fields paths [] fs) (raws_cut (kept_parts paths 0 (field x k fs)) (raw_first r rs)))
+      ∙ have_one (lead_on (beyond x paths)) x (cut_kind (beyond x paths) [] k) (cut_fields paths [] fs) r (raw_first r rs) rs 0 (kept_by (beyond x paths) k) (kept_parts paths 1 fs)
+      (cut_has (beyond x paths) k r (true_left (has (stored k) r) (fields_have fs rs) h))
+      (ap (fields_have (cut_fields paths [] fs)) (raws_next paths fs r rs) ∙ cut_have paths fs rs (true_right (has (stored k) r) (fields_have fs rs) h))
+
+pub cut_is_valid : (paths : List Names) (k : Kind) (row : Raw) → valid k row ≡ true → valid (cut_type paths k) (raw_cut (kept_by paths k) row) ≡ true
+cut_is_valid paths k row h = cut_has paths k row h
+
+-- ---- and says what the cut of its content does
+
+first_one : (b : Bool) (d : Content) (ds : Contents) (cs : Contents) (i : ℕ) (t : Tree) (ps : Parts) → content_cut t (nth cs i) ≡ d → contents_cut ps cs ≡ ds →
+    contents_cut (if b then part i t ps else ps) cs ≡ (if b then first d ds else ds)
+first_one true d ds cs i t ps h g = λ j. first (h j) (g j)
+first_one false d ds cs i t ps h g = g
+
+record_says : (paths : List Names) (fs : Fields) (n : Nullability) → ((rs : Raws) → fields_have fs rs ≡ true → contents_cut (kept_parts paths 0 fs) (contents_of rs) ≡ cut_contents paths [] fs (contents_of rs)) →
+    (b : Bool) → ask_for_all paths ≡ b → (r : Raw) → has (struct fs n) r ≡ true →
+    content_cut (if b then whole else parts (kept_parts paths 0 fs)) (content_of r) ≡ cut_content paths [] (struct fs n) (content_of r)
+record_says paths fs n each true e r g = sym (uncut paths (all_kept paths e) [] (struct fs n) (content_of r) (said (struct fs n) r (has_so (struct fs n) r g)))
+record_says paths fs n each false e (raw_tuple rs) g = ap (λ cs. tuple cs) (each rs g)
+record_says paths fs n each false e raw_null g = refl
+record_says paths fs n each false e r g = absurd (cc (g))
+
+mutual
+  cut_says : (paths : List Names) (k : Kind) (r : Raw) → has (stored k) r ≡ true → content_cut (kept_by paths k) (content_of r) ≡ cut_content paths [] k (content_of r)
+  cut_says paths (struct fs n) r h = record_says paths fs n (λ rs g. cut_say paths fs rs g) (ask_for_all paths) refl r h
+  cut_says paths k r h = refl
+
+  cut_say : (paths : List Names) (fs : Fields) (rs : Raws) → fields_have fs rs ≡ true → contents_cut (kept_parts paths 0 fs) (contents_of rs) ≡ cut_contents paths [] fs (contents_of rs)
+  cut_say paths no_fields rs h = refl
+  cut_say paths (field x k fs) no_raws h = absurd (cc (h))
+  cut_say paths (field x k fs) (raw_first r rs) h =
+      first_one (lead_on (beyond x paths)) (cut_content (beyond x paths) [] k (content_of r)) (cut_contents paths [] fs (contents_of rs)) (first (content_of r) (contents_of rs)) 0
+      (kept_by (beyond x paths) k) (kept_parts paths 1 fs)
+      (cut_says (beyond x paths) k r (true_left (has (stored k) r) (fields_have fs rs) h))
+      (contents_next paths fs (content_of r) (contents_of rs) ∙ cut_say paths fs rs (true_right (has (stored k) r) (fields_have fs rs) h))
+      ∙ (λ i. if sym (kept_field paths x) i then first (sym (content_beyond paths x [] k (content_of r)) i) (cut_contents paths [] fs (contents_of rs)) else cut_contents paths [] fs (contents_of rs))
+
+-- the cut of a valid row is what is kept of it
+pub cut_is_kept : (paths : List Names) (k : Kind) (row : Raw) → valid k row ≡ true → content_cut (kept_by paths k) (content_of row) ≡ cut_row paths k (content_of row)
+cut_is_kept paths k row h = cut_says paths k row h
+
+-- ---- stored values and what they say
 
 nth_content : (rs : Raws) (i : ℕ) → nth (contents_of rs) i ≡ content_of (raw_nth rs i)
 nth_content no_raws i = refl
 nth_content (raw_first r rs) zero = refl
 nth_content (raw_first r rs) (suc i) = nth_content rs i
 
-pub part_content : (r : Raw) (i : ℕ) → part_of (content_of r) i ≡ content_of (raw_part r i)
-part_content (raw_tuple rs) i = nth_content rs i
-part_content r i = refl
+mutual
+  pub cut_content_of : (t : Tree) (r : Raw) → content_of (raw_cut t r) ≡ content_cut t (content_of r)
+  cut_content_of (parts ps) (raw_tuple rs) = ap (λ cs. tuple cs) (cut_contents_of ps rs)
+  cut_content_of t r = refl
 
-pub picked_content : (ps : List ℕ) (r : Raw) → content_of (raw_picked ps r) ≡ picked ps (content_of r)
-picked_content ps r = ap tuple (each ps)
-  where
-    each : (qs : List ℕ) → contents_of (raws_from (map (raw_part r) qs)) ≡ contents_from (map (part_of (content_of r)) qs)
-    each [] = refl
-    each (q ∷ qs) = (λ j. first (sym (part_content r q) j) (each qs j))
-
-content_one : (c : Content) (cs : Contents) (ps : List ℕ) (ds : Contents) (b : Bool) → ds ≡ contents_from (map (nth (first c cs)) ps) →
-    (if b then first c ds else ds) ≡ contents_from (map (nth (first c cs)) (if b then 0 ∷ ps else ps))
-content_one c cs ps ds true h = ap (first c) h
-content_one c cs ps ds false h = h
-
-nth_behind : (c : Content) (cs : Contents) (ps : List ℕ) → map (nth (first c cs)) (map suc ps) ≡ map (nth cs) ps
-nth_behind c cs [] = refl
-nth_behind c cs (p ∷ ps) = ap (λ xs. nth cs p ∷ xs) (nth_behind c cs ps)
-
-cut_contents_flat : (paths : List Names) (fs : Fields) (rs : Raws) → first_unkept fs ≡ None → fields_have fs rs ≡ true →
-    cut_contents paths [] fs (contents_of rs) ≡ contents_from (map (nth (contents_of rs)) (kept_fields paths 0 fs))
-cut_contents_flat paths no_fields rs h g = refl
-cut_contents_flat paths (field x (integer i n) fs) no_raws h g = absurd (cc (g))
-cut_contents_flat paths (field x (integer i n) fs) (raw_first r rs) h g =
-    content_one (content_of r) (contents_of rs) (kept_fields paths 1 fs) (cut_contents paths [] fs (contents_of rs)) (is_kept paths (x ∷ []))
-    (cut_contents_flat paths fs rs h (true_right (has (integer i n) r) (fields_have fs rs) g)
-    ∙ ap contents_from (sym (ap (map (nth (first (content_of r) (contents_of rs)))) (next_fields paths 0 fs) ∙ nth_behind (content_of r) (contents_of rs) (kept_fields paths 0 fs))))
-cut_contents_flat paths (field x k fs) rs h g = absurd (cc (h))
-
--- the cut of a valid row has its values at the kept positions
-pub cut_is_picked : (paths : List Names) (k : Kind) (row : Raw) → kept_fault k ≡ None → valid k row ≡ true →
-    cut_row paths k (content_of row) ≡ picked (kept_positions paths k) (content_of row)
-cut_is_picked paths (struct fs non_nullable) (raw_tuple rs) h g = ap tuple (cut_contents_flat paths fs rs (parts_kept fs non_nullable h) g)
-cut_is_picked paths (struct fs non_nullable) row h g = absurd (cc (g))
-cut_is_picked paths k row h g = absurd (cc (h))
-
--- ---- the values of a row that is cut
-
-pub picked_raw : (vs : Vec (Option ScalarValue) Global) (ps : List ℕ) (row : Raw) → map raw_in vs.items ≡ map (raw_part row) ps → raw_of (value.Tuple vs) ≡ raw_picked ps row
-picked_raw vs ps row h = raw_of-Tuple vs ∙ ap (λ rs. raw_tuple (raws_from rs)) h
+  cut_contents_of : (ps : Parts) (rs : Raws) → contents_of (raws_cut ps rs) ≡ contents_cut ps (contents_of rs)
+  cut_contents_of no_parts rs = refl
+  cut_contents_of (part i t ps) rs = λ j. first ((cut_content_of t (raw_nth rs i) ∙ ap (content_cut t) (sym (nth_content rs i))) j) (cut_contents_of ps rs j)

@@ -10,7 +10,7 @@ use Rattle.vortex_chunks.specs.Progress.{with_chunk, with_chunks, no_answer}
 use Rattle.vortex_chunks.specs.Table.{is_formed}
 use Rattle.vortex_chunks.specs.declared.chunk.Chunk.{Chunk}
 use Rattle.vortex_chunks.specs.declared.plan.Plan.{Plan}
-use Rattle.vortex_chunks.proofs.FlatRows.{list_all_at}
+use Rattle.vortex_chunks.proofs.Rows.{list_all_at}
 use Rattle.vortex_chunks.proofs.Progress.{whole_answer}
 
 module _ (plan : Plan) where

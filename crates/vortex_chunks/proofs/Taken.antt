@@ -10,10 +10,10 @@ use Rattle.vortex_scalar.specs.declared.scalar.Scalar.{Scalar}
 use Rattle.vortex_scalar.specs.declared.scalar_value.ScalarValue.{ScalarValue}
 use Rattle.vortex_expr.specs.Bound.{Bound}
 use Rattle.vortex_chunks.specs.Bounds.{row_content}
-use Rattle.vortex_chunks.specs.Cut.{picked, raw_picked}
+use Rattle.vortex_chunks.specs.Cut.{tree_of, content_cut, raw_cut}
 use Rattle.vortex_chunks.specs.Selected.{is_selected, cut_rows, selected_rows}
 use Rattle.vortex_chunks.specs.declared.cut.Cut.{Cut}
-use Rattle.vortex_chunks.proofs.Cuts.{picked_content}
+use Rattle.vortex_chunks.proofs.Cuts.{cut_content_of}
 
 module _ (cut : Cut) (rows : List ScalarValue) (i : ℕ) (row : ScalarValue) (inside : i < length rows) (is : row ≡ get_or rows i row) where
   row_more : map row_content (take (i + 1) rows) ≡ map row_content (take i rows) ++ row_content row ∷ []
@@ -24,15 +24,15 @@ module _ (cut : Cut) (rows : List ScalarValue) (i : ℕ) (row : ScalarValue) (in
 
   -- a scalar that says the row's cut, behind those before
   content_more : (old found new : List Scalar) (s : Scalar) (before : List Content) → new ≡ found ++ s ∷ [] → map scalar_content found ≡ map scalar_content old ++ cut_rows cut before →
-      scalar_content s ≡ content_of (raw_picked cut.positions.items (raw_of row)) → map scalar_content new ≡ map scalar_content old ++ cut_rows cut (before ++ row_content row ∷ [])
+      scalar_content s ≡ content_of (raw_cut (tree_of cut.projection) (raw_of row)) → map scalar_content new ≡ map scalar_content old ++ cut_rows cut (before ++ row_content row ∷ [])
   content_more old found new s before e h g =
       ap (map scalar_content) e ∙ map-append scalar_content found (s ∷ [])
-      ∙ (λ j. h j ++ (g ∙ picked_content cut.positions.items (raw_of row)) j ∷ [])
-      ∙ append_assoc (map scalar_content old) (cut_rows cut before) (picked cut.positions.items (row_content row) ∷ [])
-      ∙ ap (λ xs. map scalar_content old ++ xs) (sym (map-append (picked cut.positions.items) before (row_content row ∷ [])))
+      ∙ (λ j. h j ++ (g ∙ cut_content_of (tree_of cut.projection) (raw_of row)) j ∷ [])
+      ∙ append_assoc (map scalar_content old) (cut_rows cut before) (content_cut (tree_of cut.projection) (row_content row) ∷ [])
+      ∙ ap (λ xs. map scalar_content old ++ xs) (sym (map-append (content_cut (tree_of cut.projection)) before (row_content row ∷ [])))
 
   pub taken_more : (old found new : List Scalar) (s : Scalar) → new ≡ found ++ s ∷ [] → map scalar_content found ≡ map scalar_content old ++ cut_rows cut (map row_content (take i rows)) →
-      scalar_content s ≡ content_of (raw_picked cut.positions.items (raw_of row)) → map scalar_content new ≡ map scalar_content old ++ cut_rows cut (map row_content (take (i + 1) rows))
+      scalar_content s ≡ content_of (raw_cut (tree_of cut.projection) (raw_of row)) → map scalar_content new ≡ map scalar_content old ++ cut_rows cut (map row_content (take (i + 1) rows))
   taken_more old found new s e h g = content_more old found new s (map row_content (take i rows)) e h g ∙ ap (λ xs. map scalar_content old ++ cut_rows cut xs) (sym row_more)
 
   module _ (predicate : Bound) where
@@ -44,7 +44,7 @@ module _ (cut : Cut) (rows : List ScalarValue) (i : ℕ) (row : ScalarValue) (in
 
     pub selected_yes : (old found new : List Scalar) (s : Scalar) → is_selected predicate (row_content row) ≡ true → new ≡ found ++ s ∷ [] →
         map scalar_content found ≡ map scalar_content old ++ cut_rows cut (selected_rows predicate (map row_content (take i rows))) →
-        scalar_content s ≡ content_of (raw_picked cut.positions.items (raw_of row)) →
+        scalar_content s ≡ content_of (raw_cut (tree_of cut.projection) (raw_of row)) →
         map scalar_content new ≡ map scalar_content old ++ cut_rows cut (selected_rows predicate (map row_content (take (i + 1) rows)))
     selected_yes old found new s t e h g =
         content_more old found new s (selected_rows predicate (map row_content (take i rows))) e h g ∙ ap (λ xs. map scalar_content old ++ cut_rows cut xs) (sym (selected_more true t))

@@ -4,7 +4,7 @@ use Rattle.std.proofs.lemmas.List.{map_more, map-append}
 use Rattle.std.proofs.lemmas.List.Elements.{filter_map-append}
 use Rattle.std.proofs.lemmas.List.Sums.{sum_by-append}
 use Rattle.vortex_model.specs.Content.{Content, null, whole, is_null}
-use Rattle.vortex_model.specs.Path.{part_of, at}
+use Rattle.vortex_model.specs.Path.{Positions, at}
 use Rattle.vortex_model.specs.Statistics.{nulls_of}
 use Rattle.vortex_model.specs.ZoneMap.{values_at}
 use Rattle.vortex_scalar.specs.View.{integer_of}
@@ -13,12 +13,12 @@ use Rattle.vortex_chunks.specs.declared.bounds.ColumnBounds.{ColumnBounds}
 use Rattle.vortex_chunks.specs.Bounds.{row_content, column_at, number_in, numbers_in, lesser, greater, best_of, with_value, one_null, IsBoundsOf}
 use Rattle.vortex_chunks.proofs.Best.{Associates, lesser_assoc, greater_assoc, best_of_more}
 
-column_more : (column : ℕ) (rows : List ScalarValue) (i : ℕ) (row : ScalarValue) → i < length rows → row ≡ get_or rows i row →
-    column_at column (take (i + 1) rows) ≡ column_at column (take i rows) ++ part_of (row_content row) column ∷ []
-column_more column rows i row h is =
-    ap (values_at (column ∷ [])) (map_more row_content rows i row h)
-    ∙ map-append (λ r. at r (column ∷ [])) (map row_content (take i rows)) (row_content (get_or rows i row) ∷ [])
-    ∙ ap (λ r. column_at column (take i rows) ++ part_of (row_content r) column ∷ []) (sym is)
+column_more : (leaf : Positions) (rows : List ScalarValue) (i : ℕ) (row : ScalarValue) → i < length rows → row ≡ get_or rows i row →
+    column_at leaf (take (i + 1) rows) ≡ column_at leaf (take i rows) ++ at (row_content row) leaf ∷ []
+column_more leaf rows i row h is =
+    ap (values_at leaf) (map_more row_content rows i row h)
+    ∙ map-append (λ r. at r leaf) (map row_content (take i rows)) (row_content (get_or rows i row) ∷ [])
+    ∙ ap (λ r. column_at leaf (take i rows) ++ at (row_content r) leaf ∷ []) (sym is)
 
 best_with : (pick : ℤ → ℤ → ℤ) → Associates pick → (cs : List Content) (c : Content) →
     best_of pick (numbers_in (cs ++ c ∷ [])) ≡ with_value pick (best_of pick (numbers_in cs)) c
@@ -43,11 +43,11 @@ widened old new cs c h least greatest nulls = (
   nulls ∙ ap (λ n. n + one_null c) h.2 ∙ sym (nulls_with cs c),
 )
 
-pub bounds_more : (column : ℕ) (rows : List ScalarValue) (i : ℕ) (row : ScalarValue) → i < length rows → row ≡ get_or rows i row →
-    (old new : ColumnBounds) (c : Content) → c ≡ part_of (row_content row) column → IsBoundsOf old (column_at column (take i rows)) →
+pub bounds_more : (leaf : Positions) (rows : List ScalarValue) (i : ℕ) (row : ScalarValue) → i < length rows → row ≡ get_or rows i row →
+    (old new : ColumnBounds) (c : Content) → c ≡ at (row_content row) leaf → IsBoundsOf old (column_at leaf (take i rows)) →
     option_map integer_of new.least ≡ with_value lesser (option_map integer_of old.least) c →
     option_map integer_of new.greatest ≡ with_value greater (option_map integer_of old.greatest) c →
-    new.null_count ≡ old.null_count + one_null c → IsBoundsOf new (column_at column (take (i + 1) rows))
-bounds_more column rows i row h is old new c e was least greatest nulls =
-    subst (IsBoundsOf new) (ap (λ v. column_at column (take i rows) ++ v ∷ []) e ∙ sym (column_more column rows i row h is))
-    (widened old new (column_at column (take i rows)) c was least greatest nulls)
+    new.null_count ≡ old.null_count + one_null c → IsBoundsOf new (column_at leaf (take (i + 1) rows))
+bounds_more leaf rows i row h is old new c e was least greatest nulls =
+    subst (IsBoundsOf new) (ap (λ v. column_at leaf (take i rows) ++ v ∷ []) e ∙ sym (column_more leaf rows i row h is))
+    (widened old new (column_at leaf (take i rows)) c was least greatest nulls)

@@ -1,8 +1,9 @@
 -- Bounds of a column.
-use Rattle.std.specs.Prelude.{◌≡◌, ℕ, ℤ, ◌<◌, List, [], ◌∷◌, length, map, slice_index_or, Option, Some, None, option_map, filter_map, if◌then◌else◌, Bool}
+use Rattle.std.specs.Prelude.{◌≡◌, ℕ, ℤ, List, [], ◌∷◌, map, Option, Some, None, option_map, filter_map, if◌then◌else◌, Bool}
 use Rattle.std.specs.Ordering.{int_cmp, is_le}
 use Rattle.std.specs.Coded.{Coded-set, coded_option, coded_ℤ, coded_ℕ}
 use Rattle.vortex_model.specs.Content.{Content, null, whole, content_of}
+use Rattle.vortex_model.specs.Path.{Positions}
 use Rattle.vortex_model.specs.Statistics.{nulls_of}
 use Rattle.vortex_model.specs.ZoneMap.{values_at}
 use Rattle.vortex_scalar.specs.View.{raw_of, integer_of}
@@ -13,9 +14,9 @@ use Rattle.vortex_chunks.specs.declared.bounds.ColumnBounds.{ColumnBounds}
 abbrev pub row_content : ScalarValue → Content
 row_content row = content_of (raw_of row)
 
--- the values of the column at this position
-abbrev pub column_at : ℕ → List ScalarValue → List Content
-column_at i rows = values_at (i ∷ []) (map row_content rows)
+-- the values of the leaf at these positions
+abbrev pub column_at : Positions → List ScalarValue → List Content
+column_at is rows = values_at is (map row_content rows)
 
 abbrev pub number_in : Content → Option ℤ
 number_in (whole z) = Some z
@@ -64,9 +65,11 @@ IsBoundsOf b cs =
     × (option_map integer_of b.greatest ≡ best_of greater (numbers_in cs))
     × (b.null_count ≡ nulls_of cs)
 
--- each column's bounds are those of the rows
-abbrev pub AreBoundsOf : List ColumnBounds → List ScalarValue → Type 0
-AreBoundsOf bounds rows = (i : ℕ) (d : ColumnBounds) → i < length bounds → IsBoundsOf (slice_index_or bounds i d) (column_at i rows)
+-- one to one, the bounds are those of the rows' leaves at these positions
+abbrev pub AreBoundsOf : List Positions → List ColumnBounds → List ScalarValue → Type 0
+AreBoundsOf [] [] rows = Unit {0}
+AreBoundsOf (is ∷ leaves) (b ∷ bounds) rows = IsBoundsOf b (column_at is rows) × AreBoundsOf leaves bounds rows
+AreBoundsOf leaves bounds rows = ⊥
 
 pub IsBoundsOf-prop : (b : ColumnBounds) (cs : List Content) → IsProp (IsBoundsOf b cs)
 IsBoundsOf-prop b cs = λ p q i. (
@@ -75,5 +78,7 @@ IsBoundsOf-prop b cs = λ p q i. (
   Coded-set coded_ℕ _ _ p.2 q.2 i,
 )
 
-pub AreBoundsOf-prop : (bounds : List ColumnBounds) (rows : List ScalarValue) → IsProp (AreBoundsOf bounds rows)
-AreBoundsOf-prop bounds rows = λ p q i k d inside. IsBoundsOf-prop (slice_index_or bounds k d) (column_at k rows) (p k d inside) (q k d inside) i
+pub AreBoundsOf-prop : (leaves : List Positions) (bounds : List ColumnBounds) (rows : List ScalarValue) → IsProp (AreBoundsOf leaves bounds rows)
+AreBoundsOf-prop [] [] rows = λ p q i. tt
+AreBoundsOf-prop (is ∷ leaves) (b ∷ bounds) rows = λ p q i. (IsBoundsOf-prop b (column_at is rows) p.0 q.0 i, AreBoundsOf-prop leaves bounds rows p.1 q.1 i)
+AreBoundsOf-prop leaves bounds rows = λ p q. absurd p

@@ -4,6 +4,7 @@ pub mod Chunk
 pub mod Cut
 pub mod Error
 pub mod Given
+pub mod Leaves
 pub mod Outcome
 pub mod Plan
 pub mod Progress

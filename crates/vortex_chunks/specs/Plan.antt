@@ -12,7 +12,7 @@ use Rattle.vortex_model.specs.Pruning.{has_no_like}
 use Rattle.vortex_model.specs.Table as model
 use Rattle.vortex_dtype.specs.View.{kind_of}
 use Rattle.vortex_expr.specs.Bound.{bound_value}
-use Rattle.vortex_chunks.specs.Cut.{paths_of, kept_positions}
+use Rattle.vortex_chunks.specs.Cut.{paths_of, tree_of, kept_by}
 use Rattle.vortex_chunks.specs.TableView.{table_of}
 use Rattle.vortex_dtype.specs.declared.field.FieldPath.{FieldPath}
 use Rattle.vortex_chunks.specs.declared.table.Table.{Table}
@@ -37,7 +37,7 @@ pub record IsPlan (plan : Plan) : Type 0 where
   pub falsifier : plan.falsifier ≡ falsifier (table_in plan).kind (predicate_in plan)
   pub satisfier : plan.satisfier ≡ satisfier (table_in plan).kind (predicate_in plan)
   pub cut_kind : kind_of plan.cut.dtype ≡ cut_type (paths_in plan) (table_in plan).kind
-  pub cut_positions : plan.cut.positions.items ≡ kept_positions (paths_in plan) (table_in plan).kind
+  pub cut_values : tree_of plan.cut.projection ≡ kept_by (paths_in plan) (table_in plan).kind
 
 -- the plan of a scan of this table, along these paths, by this predicate
 pub record IsPlanOf (t : Table) (paths : List FieldPath) (e : Expression) (plan : Plan) : Type 0 where

@@ -8,4 +8,4 @@ use Rattle.vortex_chunks.specs.declared.chunk.Chunk.{Chunk}
 
 abbrev pub proved_by : Kind → Chunk → Option Expression → Bool
 proved_by k chunk None = false
-proved_by k chunk (Some proof) = is_proved (given_by k chunk.bounds.items (length chunk.rows.items)) (length chunk.rows.items) proof
+proved_by k chunk (Some proof) = is_proved (given_by k chunk.leaves.value.items chunk.bounds.items (length chunk.rows.items)) (length chunk.rows.items) proof

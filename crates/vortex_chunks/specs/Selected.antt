@@ -7,7 +7,7 @@ use Rattle.vortex_dtype.specs.View.{kind_of}
 use Rattle.vortex_scalar.specs.View.{raw_of}
 use Rattle.vortex_scalar.specs.declared.scalar_value.ScalarValue.{ScalarValue}
 use Rattle.vortex_expr.specs.Bound.{Bound, bound_value}
-use Rattle.vortex_chunks.specs.Cut.{picked, raw_picked}
+use Rattle.vortex_chunks.specs.Cut.{tree_of, content_cut, raw_cut}
 use Rattle.vortex_chunks.specs.declared.cut.Cut.{Cut}
 
 -- the bound predicate is true of the row
@@ -16,7 +16,7 @@ is_selected predicate row = is_true (bound_value predicate row)
 
 -- the rows, cut
 abbrev pub cut_rows : Cut → List Content → List Content
-cut_rows cut rows = map (picked cut.positions.items) rows
+cut_rows cut rows = map (content_cut (tree_of cut.projection)) rows
 
 abbrev pub selected_rows : Bound → List Content → List Content
 selected_rows predicate rows = filter (is_selected predicate) rows
@@ -24,4 +24,4 @@ selected_rows predicate rows = filter (is_selected predicate) rows
 -- each row can be cut to a value of the cut's type
 abbrev pub CanBeCut : Cut → List ScalarValue → Type 0
 CanBeCut cut rows = (i : ℕ) (d : ScalarValue) → i < length rows →
-    IsTrue (valid (kind_of cut.dtype) (raw_picked cut.positions.items (raw_of (slice_index_or rows i d))))
+    IsTrue (valid (kind_of cut.dtype) (raw_cut (tree_of cut.projection) (raw_of (slice_index_or rows i d))))

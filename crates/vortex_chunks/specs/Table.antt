@@ -1,20 +1,19 @@
 -- What is true of each table.
-use Rattle.std.specs.Prelude.{ℕ, suc, length, Bool, ◌&&◌, ◌==◌, nat_lt}
+use Rattle.std.specs.Prelude.{List, [], ◌∷◌, length, Bool, true, false, ◌&&◌, nat_lt}
 use Rattle.std.specs.List.{list_all}
-use Rattle.vortex_model.specs.Kind.{Kind, Fields, no_fields, field, struct}
+use Rattle.vortex_model.specs.Kind.{Kind}
+use Rattle.vortex_model.specs.Path.{Positions, same_positions}
 use Rattle.vortex_model.specs.Valid.{valid}
 use Rattle.vortex_scalar.specs.View.{raw_of}
+use Rattle.vortex_chunks.specs.Leaves.{leaf_positions}
 use Rattle.vortex_chunks.specs.declared.chunk.Chunk.{Chunk}
 
-abbrev pub field_count : Fields → ℕ
-field_count no_fields = 0
-field_count (field x k fs) = suc (field_count fs)
+-- the leaves are equal, one by one
+abbrev pub same_leaves : List Positions → List Positions → Bool
+same_leaves [] [] = true
+same_leaves (is ∷ xs) (js ∷ ys) = same_positions is js && same_leaves xs ys
+same_leaves xs ys = false
 
--- how many columns a record has
-abbrev pub column_count : Kind → ℕ
-column_count (struct fs n) = field_count fs
-column_count k = 0
-
--- the chunk has rows, these are of the type, and each column has its bounds
+-- the chunk has rows, these are of the type, and its leaves are the type's
 abbrev pub is_formed : Kind → Chunk → Bool
-is_formed k c = nat_lt 0 (length c.rows.items) && (list_all (λ row. valid k (raw_of row)) c.rows.items && (length c.bounds.items == column_count k))
+is_formed k c = nat_lt 0 (length c.rows.items) && (list_all (λ row. valid k (raw_of row)) c.rows.items && same_leaves c.leaves.value.items (leaf_positions k))

@@ -11,13 +11,14 @@ ghost use Rattle.vortex_dtype.specs.View.{kind_of};
 ghost use Rattle.vortex_scalar.specs.View.{raw_of, raw_in, content_at};
 ghost use Rattle.vortex_chunks.specs.Bounds.{row_content};
 ghost use Rattle.vortex_chunks.specs.Error.{Explains};
-ghost use Rattle.vortex_chunks.specs.Table.{column_count};
 
 use crate::bounds::all_bounds;
 use crate::check::check_type;
 use crate::chunk::Chunk;
 use crate::error::TableError;
+use crate::leaves::Positions;
 use std::alloc::{AllocError, Global};
+use std::rc::Rc;
 use vortex_dtype::dtype::DType;
 use vortex_scalar::cast::cast_value;
 use vortex_scalar::error::ScalarError;
@@ -129,23 +130,20 @@ pub fn convert_owned_rows(
     Ok(rows)
 }
 
-// How many columns records of the type have.
-#[tactic(auto, using(vortex_dtype::proofs::Views::one_level))]
-fn columns_in(dtype: &DType) -> usize
-    ensures { result ≡ column_count (kind_of dtype.now) }
-{
-    match dtype {
-        DType::Struct(fields, _) => fields.nfields(),
-        DType::Bool(_) => 0,
-        DType::Primitive(_, _) => 0,
-    }
-}
-
-/// The rows, which are of the type, as a chunk.
-pub fn new_chunk(alloc: Global, dtype: &DType, rows: Vec<ScalarValue>) -> Result<Chunk, AllocError>
+/// The rows as a chunk, with the bounds of these leaves.
+pub fn new_chunk(
+    alloc: Global,
+    leaves: &Rc<Vec<Positions>>,
+    rows: Vec<ScalarValue>,
+) -> Result<Chunk, AllocError>
     ensures rows { IfOk result (λ chunk. chunk.rows.items ≡ rows.items) }
-    ensures columns { IfOk result (λ chunk. length chunk.bounds.items ≡ column_count (kind_of dtype.now)) }
+    ensures leaves { IfOk result (λ chunk. chunk.leaves.value.items ≡ leaves.now.value.items) }
 {
-    let bounds = all_bounds(alloc, &rows, columns_in(dtype))?;
-    Ok(Chunk { rows, bounds })
+    let bounds = all_bounds(alloc, &rows, leaves)?;
+    let leaves = leaves.clone()?;
+    Ok(Chunk {
+        rows,
+        leaves,
+        bounds,
+    })
 }

@@ -1,20 +1,18 @@
-//! What a chunk's bounds say of its columns.
+//! What a chunk's bounds say of its leaves.
 ghost use Rattle.std.specs.Prelude.{◌≡◌, Some};
 ghost use Rattle.vortex_model.specs.Content.{truth};
-ghost use Rattle.vortex_model.specs.Path.{positions};
-ghost use Rattle.vortex_dtype.specs.View.{kind_of};
 ghost use Rattle.vortex_expr.specs.Stats.{IsAnswer};
 ghost use Rattle.vortex_expr.specs.Tree.{aggregate_of};
-ghost use Rattle.vortex_chunks.specs.Given.{number_or_null, said_by, own_position};
+ghost use Rattle.vortex_chunks.specs.Given.{number_or_null, said_by};
 
 use crate::bounds::ColumnBounds;
-use crate::chunk::Chunk;
+use crate::chunk::{Chunk, bounds_at};
 use std::alloc::{AllocError, Global};
 use vortex_dtype::dtype::DType;
-use vortex_dtype::field_names::FieldNames;
 use vortex_dtype::nullability::Nullability;
 use vortex_dtype::ptype::PType;
 use vortex_expr::aggregate::AggregateFn;
+use vortex_expr::bind::column_positions;
 use vortex_expr::expression::{Expression, lit};
 use vortex_expr::stats::StatBinder;
 use vortex_scalar::pvalue::PValue;
@@ -68,23 +66,7 @@ fn statistic(bounds: ColumnBounds, rows: usize, aggregate: AggregateFn) -> Optio
     }
 }
 
-// The position of a column of the record itself.
-#[tactic(auto, using(vortex_dtype::proofs::Views::one_level))]
-fn own_position(dtype: &DType, path: &FieldNames) -> Option<usize>
-    ensures { result ≡ own_position (positions (kind_of dtype.now) path.now) }
-{
-    let names = path.as_slice();
-    if names.len() != 1 {
-        return None;
-    }
-    match dtype {
-        DType::Struct(fields, _) => fields.find(&names[0]),
-        DType::Bool(_) => None,
-        DType::Primitive(_, _) => None,
-    }
-}
-
-/// What a chunk of a table of this type knows of its columns: the least and the greatest value, and how many are null.
+/// What a chunk of a table of this type knows of its leaves: the least and the greatest value, and how many are null.
 #[derive(Clone, Copy, Drop)]
 pub struct ChunkBinder<'a> {
     pub dtype: &'a DType,
@@ -96,7 +78,7 @@ impl StatBinder for ChunkBinder<'_> {
     ghost use Rattle.vortex_dtype.specs.View.{kind_of};
     ghost use Rattle.vortex_chunks.specs.Given.{given_by};
 
-    ghost meaning = { λ b. given_by (kind_of b.dtype.now) b.chunk.now.bounds.items (length b.chunk.now.rows.items) };
+    ghost meaning = { λ b. given_by (kind_of b.dtype.now) b.chunk.now.leaves.value.items b.chunk.now.bounds.items (length b.chunk.now.rows.items) };
 
     fn bind_aggregate(
         &self,
@@ -104,15 +86,14 @@ impl StatBinder for ChunkBinder<'_> {
         input: &Expression,
         aggregate: AggregateFn,
     ) -> Result<Option<Expression>, AllocError> {
-        let _ = alloc;
         let Some(path) = input.as_column() else {
             return Ok(None);
         };
-        let Some(position) = own_position(self.dtype, path) else {
+        let Some(positions) = column_positions(alloc, self.dtype, path)? else {
             return Ok(None);
         };
-        match self.chunk.bounds.get(position) {
-            Some(bounds) => Ok(statistic(*bounds, self.chunk.rows.len(), aggregate)),
+        match bounds_at(&self.chunk.leaves, &self.chunk.bounds, &positions) {
+            Some(bounds) => Ok(statistic(bounds, self.chunk.rows.len(), aggregate)),
             None => Ok(None),
         }
     }

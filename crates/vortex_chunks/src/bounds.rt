@@ -1,15 +1,16 @@
-//! The least and the greatest number of a column, and its nulls.
-ghost use Rattle.std.specs.Prelude.{◌≡◌, ◌+◌, ◌<◌, ◌^◌, ◌-◌, [], length, option_map, IfOk};
-ghost use Rattle.vortex_scalar.specs.View.{integer_of, raw_of, raw_at, content_at};
+//! The least and the greatest number of a leaf, and its nulls.
+ghost use Rattle.std.specs.Prelude.{◌≡◌, ◌+◌, ◌<◌, ◌^◌, ◌-◌, [], option_map, IfOk};
+ghost use Rattle.vortex_scalar.specs.View.{integer_of, content_at};
 ghost use Rattle.vortex_chunks.specs.Bounds.{lesser, greater, behind, with_value, one_null, column_at, IsBoundsOf, AreBoundsOf};
-ghost use Rattle.vortex_chunks.specs.Cut.{raw_part};
 
+use crate::leaves::Positions;
 use std::alloc::{AllocError, Global};
 use std::cmp::Ordering;
+use vortex_expr::bound::part_at;
 use vortex_scalar::pvalue::PValue;
 use vortex_scalar::scalar_value::ScalarValue;
 
-/// What a chunk keeps of a column of integers.
+/// What a chunk keeps of a leaf of integers.
 #[derive(Clone, Copy, Debug)]
 pub struct ColumnBounds {
     /// The least number, if there is one.
@@ -93,44 +94,28 @@ impl ColumnBounds {
     }
 }
 
-/// A row's value in the column, where it has one.
-#[tactic(auto, using(vortex_scalar::proofs::Views::one_level))]
-pub fn cell(row: &ScalarValue, column: usize) -> Option<&ScalarValue>
-    ensures { raw_at result ≡ raw_part (raw_of row.now) column }
-{
-    match row {
-        ScalarValue::Tuple(values) => match values.get(column) {
-            Some(value) => value.as_ref(),
-            None => None,
-        },
-        ScalarValue::Bool(_) => None,
-        ScalarValue::Primitive(_) => None,
-    }
-}
-
-/// The bounds of the column in these rows.
-pub fn column_bounds(rows: &[ScalarValue], column: usize) -> ColumnBounds
-    ensures { IsBoundsOf result (column_at column rows.now) }
+// The bounds of the leaf at these positions in the rows.
+fn leaf_bounds(rows: &[ScalarValue], leaf: &[usize]) -> ColumnBounds
+    ensures { IsBoundsOf result (column_at leaf.now rows.now) }
 {
     let mut bounds = ColumnBounds::none();
     for row in rows {
-        bounds = bounds.with(cell(row, column));
+        bounds = bounds.with(part_at(row, leaf));
     }
     bounds
 }
 
-/// The bounds of so many columns in these rows. Each value is looked at once.
+/// The bounds of these leaves in the rows. Each value is looked at once.
 pub fn all_bounds(
     alloc: Global,
     rows: &[ScalarValue],
-    columns: usize,
+    leaves: &[Positions],
 ) -> Result<Vec<ColumnBounds>, AllocError>
-    ensures bounds { IfOk result (λ all. AreBoundsOf all.items rows.now) }
-    ensures columns { IfOk result (λ all. length all.items ≡ columns) }
+    ensures { IfOk result (λ all. AreBoundsOf leaves.now all.items rows.now) }
 {
-    let mut all = Vec::with_capacity(alloc, columns)?;
-    for column in 0..columns {
-        all.push(column_bounds(rows, column))?;
+    let mut all = Vec::with_capacity(alloc, leaves.len())?;
+    for leaf in leaves {
+        all.push(leaf_bounds(rows, leaf.as_slice()))?;
     }
     Ok(all)
 }

@@ -1,136 +1,210 @@
-//! Types and rows, cut by paths.
-ghost use Rattle.std.specs.Prelude.{◌≡◌, ◌∷◌, [], None, IfOk, IsTrue, map, filter};
+//! What paths ask for of rows.
+ghost use Rattle.std.specs.Prelude.{◌≡◌, [], IfOk, IsTrue, map, option_map};
 ghost use Rattle.vortex_model.specs.Content.{content_of};
 ghost use Rattle.vortex_model.specs.Valid.{valid};
-ghost use Rattle.vortex_model.specs.Kept.{kept_fault};
-ghost use Rattle.vortex_model.specs.Cut.{is_kept, cut_type};
+ghost use Rattle.vortex_model.specs.Cut.{cut_kind, cut_type};
 ghost use Rattle.vortex_model.specs.Command.{names_of};
-ghost use Rattle.vortex_dtype.specs.View.{kind_of, steps_of, field_of, fields_of};
-ghost use Rattle.vortex_chunks.specs.Cut.{paths_of, is_kept_field, kept_fields, kept_positions, raw_part, raw_picked};
-ghost use Rattle.vortex_scalar.specs.View.{raw_of, raw_in};
+ghost use Rattle.vortex_dtype.specs.View.{kind_of, step_of, field_of};
+ghost use Rattle.vortex_scalar.specs.View.{raw_of};
 ghost use Rattle.vortex_scalar.specs.Scalar.{scalar_kind, scalar_content};
+ghost use Rattle.vortex_chunks.specs.Cut.{paths_of, names_at, behind, beyond, is_root, ask_for_all, lead_on, kept_by, whole, cut_named, kept_list, tree_of, part_of_field, raw_cut};
 
-use crate::bounds::cell;
+use crate::projection::{KeptField, Projection, cut_value};
 use std::alloc::{AllocError, Global};
 use vortex_dtype::dtype::DType;
 use vortex_dtype::field::{Field, FieldPath};
 use vortex_dtype::field_names::FieldName;
 use vortex_dtype::struct_fields::{StructField, StructFields};
-use vortex_scalar::clone::copy_value;
 use vortex_scalar::scalar::Scalar;
 use vortex_scalar::scalar_value::ScalarValue;
 
-/// What paths ask for of rows: the type of the cut rows, and which values of a row they keep.
+/// What paths ask for of values: the type of what is kept, and what that is.
 #[derive(Drop)]
 pub struct Cut {
     pub dtype: DType,
-    pub positions: Vec<usize>,
+    pub projection: Projection,
 }
 
-// Whether the path covers this field or begins with it.
-fn reaches(path: &FieldPath, name: &FieldName) -> bool
-    ensures { result ≡ is_kept (names_of (steps_of path.now) ∷ []) (name.now ∷ []) }
-{
-    for step in path.parts() {
-        if let Field::Name(first) = step {
-            return first == name;
-        }
+// The fields that are kept of a record: their types, and their values in rows.
+#[derive(Drop)]
+struct KeptFields {
+    parts: Vec<StructField>,
+    kept: Vec<KeptField>,
+}
+
+impl KeptFields {
+    ghost use Rattle.std.specs.Prelude.{◌≡◌, ◌++◌, ◌∷◌, [], OnOk, map};
+    ghost use Rattle.vortex_dtype.specs.View.{kind_of, field_of};
+    ghost use Rattle.vortex_chunks.specs.Cut.{tree_of, part_of_field};
+
+    // Adds the field at this position, cut.
+    fn push(&mut self, position: usize, name: FieldName, cut: Cut) -> Result<(), AllocError>
+        ensures parts { OnOk result (map field_of self.new.parts.items ≡ map field_of self.old.parts.items ++ (name, kind_of cut.dtype) ∷ []) }
+        ensures kept { OnOk result (map part_of_field self.new.kept.items ≡ map part_of_field self.old.kept.items ++ (position, tree_of cut.projection) ∷ []) }
+    {
+        self.parts.push(StructField {
+            name,
+            dtype: cut.dtype,
+        })?;
+        self.kept.push(KeptField {
+            position,
+            projection: cut.projection,
+        })?;
+        Ok(())
     }
-    true
 }
 
-// Whether one of the paths covers this field or begins with it.
-fn is_kept(paths: &[FieldPath], name: &FieldName) -> bool
-    ensures { result ≡ is_kept (paths_of paths.now) (name.now ∷ []) }
+// Whether the path has no name.
+fn is_root(path: &[Field]) -> bool
+    ensures { result ≡ is_root (names_of (map step_of path.now)) }
+{
+    match path {
+        [] => true,
+        [Field::Name(_), ..] => false,
+        [Field::ElementType, rest @ ..] => is_root(rest),
+    }
+}
+
+// Whether one of the paths asks for all.
+fn ask_for_all(paths: &[&[Field]]) -> bool
+    ensures { result ≡ ask_for_all (map names_at paths.now) }
 {
     for path in paths {
-        if reaches(path, name) {
+        if is_root(path) {
             return true;
         }
     }
     false
 }
 
-// The positions of the fields that the paths ask for.
-fn positions(
-    alloc: Global,
-    fields: &[StructField],
-    paths: &[FieldPath],
-) -> Result<Vec<usize>, AllocError>
-    ensures { IfOk result (λ kept. kept.items ≡ kept_fields (paths_of paths.now) 0 (fields_of fields.now)) }
+// What is left of the path behind a step to this name. A path without a name leads everywhere.
+fn behind<'a>(path: &'a [Field], name: &FieldName) -> Option<&'a [Field]>
+    ensures { option_map names_at result ≡ behind name.now (names_of (map step_of path.now)) }
 {
-    let mut kept = Vec::new(alloc);
-    for (position, field) in fields.iter().enumerate() {
-        if is_kept(paths, &field.name) {
-            kept.push(position)?;
-        }
+    match path {
+        [] => Some(path),
+        [Field::Name(first), rest @ ..] => { if first == name { Some(rest) } else { None } }
+        [Field::ElementType, rest @ ..] => behind(rest, name),
     }
-    Ok(kept)
 }
 
-// The fields that the paths ask for.
-fn parts(
+// What is left of the paths that lead through this name.
+fn beyond<'a>(
     alloc: Global,
-    fields: &[StructField],
-    paths: &[FieldPath],
-) -> Result<Vec<StructField>, AllocError>
-    ensures { IfOk result (λ kept. map field_of kept.items ≡ filter (is_kept_field (paths_of paths.now)) (map field_of fields.now)) }
+    paths: &[&'a [Field]],
+    name: &FieldName,
+) -> Result<Vec<&'a [Field]>, AllocError>
+    ensures { IfOk result (λ left. map names_at left.items ≡ beyond name.now (map names_at paths.now)) }
 {
-    let mut kept = Vec::new(alloc);
-    for field in fields {
-        if is_kept(paths, &field.name) {
-            let name = field.name.clone()?;
-            let dtype = field.dtype.clone()?;
-            kept.push(StructField { name, dtype })?;
+    let mut left = Vec::new(alloc);
+    for path in paths {
+        match behind(path, name) {
+            Some(rest) => left.push(rest)?,
+            None => {}
         }
     }
-    Ok(kept)
+    Ok(left)
 }
 
-/// Cuts a type that a table can hold.
-#[tactic(auto, using(vortex_dtype::proofs::Views::one_level))]
-pub fn make_cut(alloc: Global, dtype: &DType, paths: &[FieldPath]) -> Result<Cut, AllocError>
-    requires { kept_fault (kind_of dtype.now) ≡ None }
-    ensures dtype { IfOk result (λ cut. kind_of cut.dtype ≡ cut_type (paths_of paths.now) (kind_of dtype.now)) }
-    ensures positions { IfOk result (λ cut. cut.positions.items ≡ kept_positions (paths_of paths.now) (kind_of dtype.now)) }
+// Whether there are paths.
+fn lead_on(paths: &[&[Field]]) -> bool
+    ensures { result ≡ lead_on (map names_at paths.now) }
 {
+    match paths {
+        [] => false,
+        [_, ..] => true,
+    }
+}
+
+// A value of this type as it is.
+fn whole(dtype: &DType) -> Result<Cut, AllocError>
+    ensures dtype { IfOk result (λ cut. kind_of cut.dtype ≡ kind_of dtype.now) }
+    ensures projection { IfOk result (λ cut. tree_of cut.projection ≡ whole) }
+{
+    Ok(Cut {
+        dtype: dtype.clone()?,
+        projection: Projection::Whole,
+    })
+}
+
+// What the paths ask for of values of the type.
+#[cycle(cut)]
+#[tactic(auto, using(vortex_dtype::proofs::Views::one_level, crate::proofs::Projections::levels))]
+fn cut_part(alloc: Global, dtype: &DType, paths: &[&[Field]]) -> Result<Cut, AllocError>
+    ensures dtype { IfOk result (λ cut. kind_of cut.dtype ≡ cut_kind (map names_at paths.now) [] (kind_of dtype.now)) }
+    ensures projection { IfOk result (λ cut. tree_of cut.projection ≡ kept_by (map names_at paths.now) (kind_of dtype.now)) }
+{
+    if ask_for_all(paths) {
+        return whole(dtype);
+    }
     match dtype {
         DType::Struct(fields, nullability) => {
-            let positions = positions(alloc, fields.as_slice(), paths)?;
-            let parts = StructFields::new(parts(alloc, fields.as_slice(), paths)?)?;
-            let dtype = DType::Struct(parts, *nullability);
-            Ok(Cut { dtype, positions })
+            let kept = cut_fields(alloc, fields.as_slice(), paths)?;
+            let parts = StructFields::new(kept.parts)?;
+            Ok(Cut {
+                dtype: DType::Struct(parts, *nullability),
+                projection: Projection::Fields(kept.kept),
+            })
         }
-        _ => Ok(Cut {
-            dtype: dtype.clone()?,
-            positions: Vec::new(alloc),
-        }),
+        DType::Bool(_) => whole(dtype),
+        DType::Primitive(_, _) => whole(dtype),
     }
 }
 
-// The row's values at these positions.
-fn cut_values(
+// What the paths ask for of these fields.
+#[cycle(cut)]
+#[tactic(auto, using(vortex_dtype::proofs::Views::one_level))]
+fn cut_fields(
     alloc: Global,
-    positions: &[usize],
-    row: &ScalarValue,
-) -> Result<Vec<Option<ScalarValue>>, AllocError>
-    ensures { IfOk result (λ values. map raw_in values.items ≡ map (raw_part (raw_of row.now)) positions.now) }
+    fields: &[StructField],
+    paths: &[&[Field]],
+) -> Result<KeptFields, AllocError>
+    ensures parts { IfOk result (λ all. map field_of all.parts.items ≡ cut_named (map names_at paths.now) (map field_of fields.now)) }
+    ensures kept { IfOk result (λ all. map part_of_field all.kept.items ≡ kept_list (map names_at paths.now) 0 (map field_of fields.now)) }
 {
-    let mut values = Vec::with_capacity(alloc, positions.len())?;
-    for position in positions {
-        let value = copy_value(cell(row, *position))?;
-        values.push(value)?;
+    let mut all = KeptFields {
+        parts: Vec::new(alloc),
+        kept: Vec::new(alloc),
+    };
+    for (position, field) in fields.iter().enumerate() {
+        let left = beyond(alloc, paths, &field.name)?;
+        if lead_on(&left) {
+            let cut = cut_part(alloc, &field.dtype, &left)?;
+            let name = field.name.clone()?;
+            all.push(position, name, cut)?;
+        }
     }
-    Ok(values)
+    Ok(all)
 }
 
-/// The row's values at the cut's positions, as a record of the cut's type.
-pub fn cut_row(alloc: Global, cut: &Cut, row: &ScalarValue) -> Result<Scalar, AllocError>
-    requires { IsTrue (valid (kind_of cut.now.dtype) (raw_picked cut.now.positions.items (raw_of row.now))) }
-    ensures kind { IfOk result (λ cut_row. scalar_kind cut_row ≡ kind_of cut.now.dtype) }
-    ensures content { IfOk result (λ cut_row. scalar_content cut_row ≡ content_of (raw_picked cut.now.positions.items (raw_of row.now))) }
+// The steps of each path.
+fn steps_in<'a>(alloc: Global, paths: &'a [FieldPath]) -> Result<Vec<&'a [Field]>, AllocError>
+    ensures { IfOk result (λ all. map names_at all.items ≡ paths_of paths.now) }
 {
-    let values = cut_values(alloc, &cut.positions, row)?;
+    let mut all = Vec::with_capacity(alloc, paths.len())?;
+    for path in paths {
+        all.push(path.parts())?;
+    }
+    Ok(all)
+}
+
+/// What the paths ask for of values of the type. It is made once a scan, in the kept fields and all paths.
+pub fn make_cut(alloc: Global, dtype: &DType, paths: &[FieldPath]) -> Result<Cut, AllocError>
+    ensures dtype { IfOk result (λ cut. kind_of cut.dtype ≡ cut_type (paths_of paths.now) (kind_of dtype.now)) }
+    ensures projection { IfOk result (λ cut. tree_of cut.projection ≡ kept_by (paths_of paths.now) (kind_of dtype.now)) }
+{
+    let steps = steps_in(alloc, paths)?;
+    let cut = cut_part(alloc, dtype, &steps)?;
+    Ok(cut)
+}
+
+/// What the cut keeps of the row, as a value of the cut's type.
+pub fn cut_row(alloc: Global, cut: &Cut, row: &ScalarValue) -> Result<Scalar, AllocError>
+    requires { IsTrue (valid (kind_of cut.now.dtype) (raw_cut (tree_of cut.now.projection) (raw_of row.now))) }
+    ensures kind { IfOk result (λ cut_row. scalar_kind cut_row ≡ kind_of cut.now.dtype) }
+    ensures content { IfOk result (λ cut_row. scalar_content cut_row ≡ content_of (raw_cut (tree_of cut.now.projection) (raw_of row.now))) }
+{
+    let value = cut_value(&cut.projection, alloc, row)?;
     let dtype = cut.dtype.clone()?;
-    Ok(Scalar::new_unchecked(dtype, Some(ScalarValue::Tuple(values))))
+    Ok(Scalar::new_unchecked(dtype, Some(value)))
 }

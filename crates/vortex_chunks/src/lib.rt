@@ -1,4 +1,4 @@
-//! Tables of rows in chunks, each with bounds for its columns, and scans that skip chunks.
+//! Tables of rows in chunks, each with bounds for its leaves, and scans that skip chunks.
 #![tactic(auto)]
 
 pub mod answer;
@@ -9,8 +9,10 @@ mod check;
 pub mod chunk;
 mod cut;
 pub mod error;
+pub mod leaves;
 mod make;
 mod plan;
+mod projection;
 pub mod scan;
 mod select;
 pub mod table;

@@ -4,13 +4,16 @@ ghost use Rattle.std.specs.List.{list_all};
 ghost use Rattle.vortex_model.specs.Kept.{kept_fault};
 ghost use Rattle.vortex_dtype.specs.View.{kind_of};
 ghost use Rattle.vortex_chunks.specs.Chunk.{row_count};
-ghost use Rattle.vortex_chunks.specs.Table.{is_formed};
+ghost use Rattle.vortex_chunks.specs.Leaves.{leaf_positions};
+ghost use Rattle.vortex_chunks.specs.Table.{is_formed, same_leaves};
 
 use crate::append::{check_batch, convert_owned_rows, convert_rows, new_chunk};
 use crate::check::check_type;
 use crate::chunk::Chunk;
 use crate::error::TableError;
+use crate::leaves::{Positions, leaf_positions};
 use std::alloc::Global;
+use std::rc::Rc;
 use vortex_dtype::dtype::DType;
 use vortex_scalar::scalar_value::ScalarValue;
 
@@ -19,9 +22,11 @@ use vortex_scalar::scalar_value::ScalarValue;
 pub struct Table {
     pub(crate) dtype: DType,
     pub(crate) bound_length: usize,
+    pub(crate) leaves: Rc<Vec<Positions>>,
     pub(crate) len: usize,
     pub(crate) chunks: Vec<Chunk>,
     pub ghost kept: { IsTrue (is_none (kept_fault (kind_of dtype))) },
+    pub ghost led: { IsTrue (same_leaves leaves.value.items (leaf_positions (kind_of dtype))) },
     pub ghost formed: { IsTrue (list_all (is_formed (kind_of dtype)) chunks.items) },
     pub ghost counted: { row_count chunks.items ≡ len },
 }
@@ -57,9 +62,11 @@ impl Table {
         ensures refused { IfErr result (λ e. Explains ⊥ (create_fault (kind_of dtype) []) e) }
     {
         check_type(alloc, &dtype)?;
+        let leaves = leaf_positions(alloc, &dtype)?;
         Ok(Table {
             dtype,
             bound_length,
+            leaves,
             len: 0,
             chunks: Vec::new(alloc),
         })
@@ -131,7 +138,7 @@ impl Table {
         if rows.is_empty() {
             return Ok(());
         }
-        let chunk = new_chunk(alloc, &self.dtype, rows)?;
+        let chunk = new_chunk(alloc, &self.leaves, rows)?;
         self.chunks.push(chunk)?;
         self.len = len;
         Ok(())

@@ -1,3 +1,4 @@
 pub mod Distinct
-pub mod Unkept
+pub mod KeptParts
+pub mod Sizes
 pub mod Views

@@ -224,7 +224,7 @@ fn resolve_column(
 }
 
 /// The positions that a path of names stands for, where it is in the type.
-fn column_positions(
+pub fn column_positions(
     alloc: Global,
     dtype: &DType,
     path: &FieldNames,

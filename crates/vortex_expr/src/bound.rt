@@ -119,8 +119,8 @@ fn value_at_row<'a>(e: &'a BoundExpression, row: &'a ScalarValue) -> Value<'a>
     }
 }
 
-/// What a row has at these positions.
-fn part_at<'a>(row: &'a ScalarValue, path: &[usize]) -> Option<&'a ScalarValue>
+/// What a row has at these positions, and nothing where a record on the way is null.
+pub fn part_at<'a>(row: &'a ScalarValue, path: &[usize]) -> Option<&'a ScalarValue>
     ensures { content_at result ≡ at (content_of (raw_of row.now)) path.now }
 {
     let mut current = Some(row);

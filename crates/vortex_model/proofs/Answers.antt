@@ -27,26 +27,36 @@ true_answers t paths = ap (λ rows. map (cut_row paths t.kind) rows) (all_select
 pub false_answers : (t : Table) (paths : List Names) → answer t paths (truth_value false) ≡ []
 false_answers t paths = ap (λ rows. map (cut_row paths t.kind) rows) (none_selected t.kind (rows_of t))
 
-mutual
-  pub uncut : (here : Names) (k : Kind) (c : Content) → Holds (stored k) c → cut_content ([] ∷ []) here k c ≡ c
-  uncut here (struct fs n) (tuple cs) h = ap (λ ds. tuple ds) (all_uncut here fs cs h)
-  uncut here k c h = refl
-
-  all_uncut : (here : Names) (fs : Fields) (cs : Contents) → FieldsHold fs cs → cut_contents ([] ∷ []) here fs cs ≡ cs
-  all_uncut here no_fields nothing h = refl
-  all_uncut here (field x k fs) (first c cs) h =
-      ap (λ d. first d (cut_contents ([] ∷ []) here fs cs)) (uncut (here ++ x ∷ []) k c h.0) ∙ ap (λ ds. first c ds) (all_uncut here fs cs h.1)
-  all_uncut here fs cs h = absurd h
+-- where the paths keep whatever stands below a place, nothing is cut there
+abbrev pub KeepAll : List Names → Type 0
+KeepAll paths = (here : Names) → is_kept paths here ≡ true
 
 mutual
-  pub uncut_kind : (here : Names) (k : Kind) → cut_kind ([] ∷ []) here k ≡ k
-  uncut_kind here (struct fs n) = ap (λ gs. struct gs n) (all_uncut_kinds here fs)
-  uncut_kind here k = refl
+  pub uncut : (paths : List Names) → KeepAll paths → (here : Names) (k : Kind) (c : Content) → Holds (stored k) c → cut_content paths here k c ≡ c
+  uncut paths all here (struct fs n) (tuple cs) h = ap (λ ds. tuple ds) (all_uncut paths all here fs cs h)
+  uncut paths all here k c h = refl
 
-  all_uncut_kinds : (here : Names) (fs : Fields) → cut_fields ([] ∷ []) here fs ≡ fs
-  all_uncut_kinds here no_fields = refl
-  all_uncut_kinds here (field x k fs) =
-      ap (λ l. field x l (cut_fields ([] ∷ []) here fs)) (uncut_kind (here ++ x ∷ []) k) ∙ ap (λ gs. field x k gs) (all_uncut_kinds here fs)
+  all_uncut : (paths : List Names) → KeepAll paths → (here : Names) (fs : Fields) (cs : Contents) → FieldsHold fs cs → cut_contents paths here fs cs ≡ cs
+  all_uncut paths all here no_fields nothing h = refl
+  all_uncut paths all here (field x k fs) (first c cs) h =
+      ap (λ b. if b then first (cut_content paths (here ++ x ∷ []) k c) (cut_contents paths here fs cs) else cut_contents paths here fs cs) (all (here ++ x ∷ []))
+      ∙ ap (λ d. first d (cut_contents paths here fs cs)) (uncut paths all (here ++ x ∷ []) k c h.0) ∙ ap (λ ds. first c ds) (all_uncut paths all here fs cs h.1)
+  all_uncut paths all here fs cs h = absurd h
+
+mutual
+  pub uncut_kind : (paths : List Names) → KeepAll paths → (here : Names) (k : Kind) → cut_kind paths here k ≡ k
+  uncut_kind paths all here (struct fs n) = ap (λ gs. struct gs n) (all_uncut_kinds paths all here fs)
+  uncut_kind paths all here k = refl
+
+  all_uncut_kinds : (paths : List Names) → KeepAll paths → (here : Names) (fs : Fields) → cut_fields paths here fs ≡ fs
+  all_uncut_kinds paths all here no_fields = refl
+  all_uncut_kinds paths all here (field x k fs) =
+      ap (λ b. if b then field x (cut_kind paths (here ++ x ∷ []) k) (cut_fields paths here fs) else cut_fields paths here fs) (all (here ++ x ∷ []))
+      ∙ ap (λ l. field x l (cut_fields paths here fs)) (uncut_kind paths all (here ++ x ∷ []) k) ∙ ap (λ gs. field x k gs) (all_uncut_kinds paths all here fs)
+
+-- the root path does
+pub root_keeps : KeepAll ([] ∷ [])
+root_keeps here = refl
 
 -- ---- the type of an answer
 

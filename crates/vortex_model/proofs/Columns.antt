@@ -1,13 +1,14 @@
 -- What stands in a column of rows of a type.
-use Rattle.std.proofs.Common.{◌≡◌, refl, sym, ap, subst, ℕ, zero, suc, List, [], ◌∷◌, Bool, true, false, Option, Some, None, option_map, option_and_then, map, if◌then◌else◌}
+use Rattle.std.proofs.Common.{◌≡◌, refl, sym, ap, ◌∙◌, subst, ℕ, zero, suc, List, [], ◌∷◌, true, Option, Some, None, option_map, option_and_then, map}
 use Rattle.std.specs.List.{AllByRecursion}
-use Rattle.vortex_model.specs.Kind.{Kind, boolean, integer, struct, extension, Fields, no_fields, field, Nullability, non_nullable, nullable, stored, within, with_nullability}
+use Rattle.vortex_model.specs.Kind.{Kind, integer, struct, extension, Fields, no_fields, field, Nullability, non_nullable, nullable, stored, within, with_nullability}
 use Rattle.vortex_model.specs.Content.{Content, null, tuple, Contents, nothing, first, nth}
 use Rattle.vortex_model.specs.Valid.{IsContent, Holds, FieldsHold}
 use Rattle.vortex_model.specs.Path.{Positions, field_at, type_at, at}
-use Rattle.vortex_model.specs.Kept.{kept_fault, first_unkept, names_distinct, is_leaf}
+use Rattle.vortex_model.specs.Kept.{kept_fault, kept_part_fault, kept_fields_fault, names_distinct, is_leaf}
 use Rattle.vortex_model.specs.Refusal.{repeated_name}
 use Rattle.vortex_model.specs.Pruning.{is_never_shortened}
+use Rattle.vortex_model.proofs.Held.{first_none, second_none, parts_faultless}
 use Rattle.vortex_model.proofs.Kept.{loosened}
 
 some_same : {X : Type 0} (x y : X) → Some x ≡ Some y → x ≡ y
@@ -32,18 +33,18 @@ field_content no_fields cs i part h e = absurd (cc (e))
 field_content (field x k fs) nothing i part h e = absurd h
 
 -- of a type at positions behind a first step: the part and the type within it
-record Stepped (n : Nullability) (o : Option Kind) (is : Positions) (t : Kind) : Type 0 where
-  part : Kind
-  inner : Kind
-  there : o ≡ Some part
-  type : type_at part is ≡ Some inner
-  result : within n inner ≡ t
+pub record Stepped (n : Nullability) (o : Option Kind) (is : Positions) (t : Kind) : Type 0 where
+  pub part : Kind
+  pub inner : Kind
+  pub there : o ≡ Some part
+  pub type : type_at part is ≡ Some inner
+  pub result : within n inner ≡ t
 
 stepped_within : (n : Nullability) (part : Kind) (is : Positions) (t : Kind) (p : Option Kind) → type_at part is ≡ p → option_map (within n) p ≡ Some t → Stepped n (Some part) is t
 stepped_within n part is t None e h = absurd (cc (h))
 stepped_within n part is t (Some inner) e h = record { part = part; inner = inner; there = refl; type = e; result = some_same (within n inner) t h }
 
-stepped : (n : Nullability) (o : Option Kind) (is : Positions) (t : Kind) → option_map (within n) (option_and_then (λ part. type_at part is) o) ≡ Some t → Stepped n o is t
+pub stepped : (n : Nullability) (o : Option Kind) (is : Positions) (t : Kind) → option_map (within n) (option_and_then (λ part. type_at part is) o) ≡ Some t → Stepped n o is t
 stepped n None is t e = absurd (cc (e))
 stepped n (Some part) is t e = stepped_within n part is t (type_at part is) refl e
 
@@ -68,28 +69,42 @@ pub all_at_type : (k : Kind) (is : Positions) (t : Kind) (rows : List Content) �
 all_at_type k is t [] e h = tt
 all_at_type k is t (row ∷ rows) e h = (at_type k is t row e h.0, all_at_type k is t rows e h.1)
 
--- ---- the columns of what tables hold so far
+-- the same is a leaf within a record
+pub leaf_within : (n : Nullability) (k : Kind) → is_leaf (within n k) ≡ is_leaf k
+leaf_within non_nullable k = refl
+leaf_within nullable (extension id meta k) = refl
+leaf_within nullable k = refl
 
-none_so : (b : Bool) (fs : Fields) → (if b then first_unkept fs else Some repeated_name) ≡ None → first_unkept fs ≡ None
-none_so true fs e = e
-none_so false fs e = absurd (cc (e))
+-- ---- the leaves of what tables hold so far
 
-field_kept : (fs : Fields) (i : ℕ) (part : Kind) → first_unkept fs ≡ None → field_at fs i ≡ Some part → is_never_shortened part ≡ true
-field_kept (field x (integer j n) fs) zero part h e = ap is_never_shortened (sym (some_same (integer j n) part e))
-field_kept (field x (integer j n) fs) (suc i) part h e = field_kept fs i part h e
-field_kept (field x k fs) i part h e = absurd (cc (h))
+kept_within : (n : Nullability) (k : Kind) → kept_part_fault (within n k) ≡ kept_part_fault k
+kept_within non_nullable k = refl
+kept_within nullable (extension id meta k) = refl
+kept_within nullable k = refl
+
+field_kept : (fs : Fields) (i : ℕ) (part : Kind) → kept_fields_fault fs ≡ None → field_at fs i ≡ Some part → kept_part_fault part ≡ None
+field_kept (field x k fs) zero part h e = ap kept_part_fault (sym (some_same k part e)) ∙ first_none (kept_part_fault k) (kept_fields_fault fs) h
+field_kept (field x k fs) (suc i) part h e = field_kept fs i part (second_none (kept_part_fault k) (kept_fields_fault fs) h) e
 field_kept no_fields i part h e = absurd (cc (e))
 
-leaf_kept : (part : Kind) (is : Positions) (inner : Kind) → is_never_shortened part ≡ true → type_at part is ≡ Some inner → is_never_shortened inner ≡ true
-leaf_kept part [] inner w e = subst (λ l. is_never_shortened l ≡ true) (some_same part inner e) w
-leaf_kept (integer j n) (i ∷ is) inner w e = absurd (cc (e))
-leaf_kept (boolean n) (i ∷ is) inner w e = absurd (cc (e))
-leaf_kept part (i ∷ is) inner w e = absurd (cc (w))
+-- tables hold each part of what they hold
+part_kept : (k : Kind) (is : Positions) (t : Kind) → kept_part_fault k ≡ None → type_at k is ≡ Some t → kept_part_fault t ≡ None
+part_kept k [] t h e = ap kept_part_fault (sym (some_same k t e)) ∙ h
+part_kept (struct fs n) (i ∷ is) t h e =
+    let s = stepped n (field_at fs i) is t e in
+    ap kept_part_fault (sym s.result) ∙ kept_within n s.inner
+    ∙ part_kept s.part is s.inner (field_kept fs i s.part (parts_faultless (names_distinct fs) (kept_fields_fault fs) repeated_name h) s.there) s.type
+part_kept k (i ∷ is) t h e = absurd (cc (e))
+
+pub at_kept : (k : Kind) (is : Positions) (t : Kind) → kept_fault k ≡ None → type_at k is ≡ Some t → kept_part_fault t ≡ None
+at_kept (struct fs non_nullable) is t h e = part_kept (struct fs non_nullable) is t h e
+at_kept k is t h e = absurd (cc (h))
+
+never_shortened : (t : Kind) → kept_part_fault t ≡ None → is_leaf t ≡ true → is_never_shortened t ≡ true
+never_shortened (integer j n) h w = refl
+never_shortened (struct fs n) h w = absurd (cc (w))
+never_shortened t h w = absurd (cc (h))
 
 -- a leaf of a table is of integers so far
 pub kept_leaf : (k : Kind) (is : Positions) (t : Kind) → kept_fault k ≡ None → type_at k is ≡ Some t → is_leaf t ≡ true → is_never_shortened t ≡ true
-kept_leaf (struct fs non_nullable) [] t h e w = absurd (let f : is_leaf t ≡ false = ap is_leaf (sym (some_same (struct fs non_nullable) t e)) in cc (f, w))
-kept_leaf (struct fs non_nullable) (i ∷ is) t h e w =
-    let s = stepped non_nullable (field_at fs i) is t e in
-    subst (λ l. is_never_shortened l ≡ true) s.result (leaf_kept s.part is s.inner (field_kept fs i s.part (none_so (names_distinct fs) fs h) s.there) s.type)
-kept_leaf k is t h e w = absurd (cc (h))
+kept_leaf k is t h e w = never_shortened t (at_kept k is t h e) w

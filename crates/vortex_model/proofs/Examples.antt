@@ -184,6 +184,9 @@ above_five_of_none : answer_of (made (create A 16 [] ∷ append A [] ∷ [])) (p
     ≡ Some (record { rows = []; kind = A; skipped = []; whole = []; rows_tested = 0; proofs = 0 })
 above_five_of_none = refl
 
+abbrev pub s : List ℕ
+s = codes "s"
+
 told_number : told (create_fault (number non_nullable) []) ≡ Some (2, None)
 told_number = refl
 
@@ -194,17 +197,27 @@ told_null_record = refl
 told_names : told (create_fault (struct (field a (utf8 nullable) (field a (number nullable) no_fields)) non_nullable) []) ≡ Some (4, None)
 told_names = refl
 
--- a record is no part so far, whatever its names
-told_record : told (create_fault (one a (struct (field a (number nullable) (field a (number nullable) no_fields)) nullable)) []) ≡ Some (3, None)
+-- the names of a record inside
+abbrev pub twice : Kind
+twice = struct (field a (number nullable) (field a (number nullable) no_fields)) nullable
+
+told_record : told (create_fault (one a twice) []) ≡ Some (4, None)
 told_record = refl
+
+-- from left to right
+told_behind : told (create_fault (struct (field a (boolean nullable) (field s twice no_fields)) non_nullable) []) ≡ Some (3, None)
+told_behind = refl
+
+told_before : told (create_fault (struct (field a twice (field s (boolean nullable) no_fields)) non_nullable) []) ≡ Some (4, None)
+told_before = refl
+
+kept_record : create_fault (one a (struct (field a (number nullable) (field s (one a (number non_nullable)) no_fields)) nullable)) [] ≡ None
+kept_record = refl
 
 told_truth : told (create_fault (one a (boolean nullable)) []) ≡ Some (3, None)
 told_truth = refl
 
 -- ---- shortened bounds
-
-abbrev pub s : List ℕ
-s = codes "s"
 
 abbrev pub S : Kind
 S = one s (utf8 non_nullable)

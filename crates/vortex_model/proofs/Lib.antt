@@ -1,16 +1,16 @@
-mod Answers
+pub mod Answers
 pub mod Batches
 mod Bounded
 pub mod Columns
 pub mod ContentOrder
-mod Contents
+pub mod Contents
 mod Conversions
 mod CountUp
 mod Edges
 mod Examples
+pub mod Held
 pub mod Honesty
 pub mod Hopeless
-mod Integers
 mod Kept
 mod MoreExamples
 mod NoColumns

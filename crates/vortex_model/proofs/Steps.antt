@@ -14,7 +14,7 @@ use Rattle.vortex_model.specs.Command.{Command, create, append, append_array, jo
 use Rattle.vortex_model.specs.Laws.{IsFormed}
 use Rattle.vortex_model.proofs.Contents.{said}
 use Rattle.vortex_model.proofs.Kept.{kept}
-use Rattle.vortex_model.proofs.Integers.{can_hold}
+use Rattle.vortex_model.proofs.Held.{can_hold}
 use Rattle.vortex_model.proofs.Tests.{has_so, converts_so}
 
 none_first : (p q : Option Refusal) → or_else p q ≡ None → p ≡ None

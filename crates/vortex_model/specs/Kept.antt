@@ -40,15 +40,24 @@ type_fault k = Some not_a_record
 abbrev pub CanHold : Kind → Type 0
 CanHold k = type_fault k ≡ None
 
--- the first part that is no integer
-abbrev pub first_unkept : Fields → Option Refusal
-first_unkept no_fields = None
-first_unkept (field x (integer i n) fs) = first_unkept fs
-first_unkept (field x k fs) = Some unkept_type
+-- what tables hold so far beside records
+abbrev pub is_kept_leaf : Kind → Bool
+is_kept_leaf (integer i n) = true
+is_kept_leaf k = false
 
--- Why a table can't hold the type so far: tables hold a record of integers. Names go before parts.
+-- The same faults, where tables hold such leaves and records so far.
+abbrev mutual
+  pub kept_part_fault : Kind → Option Refusal
+  kept_part_fault (struct fs n) = if names_distinct fs then kept_fields_fault fs else Some repeated_name
+  kept_part_fault k = if is_kept_leaf k then None else Some unkept_type
+
+  pub kept_fields_fault : Fields → Option Refusal
+  kept_fields_fault no_fields = None
+  kept_fields_fault (field x k fs) = or_else (kept_part_fault k) (kept_fields_fault fs)
+
+-- why a table can't hold the type so far
 abbrev pub kept_fault : Kind → Option Refusal
-kept_fault (struct fs non_nullable) = if names_distinct fs then first_unkept fs else Some repeated_name
+kept_fault (struct fs non_nullable) = kept_part_fault (struct fs non_nullable)
 kept_fault k = Some not_a_record
 
 -- a Bool, an integer, a text or bytes

@@ -273,6 +273,55 @@ fn scan(alloc: Global, table: &Table, predicate: &Expression) -> Result<ScanAnsw
     table.scan(alloc, &paths, predicate)
 }
 
+/// A non-nullable record of two parts.
+fn record(alloc: Global, names: [&str; 2], parts: [DType; 2]) -> Result<DType, AllocError> {
+    let [first, second] = parts;
+    let mut fields = Vec::new(alloc);
+    fields.push(StructField {
+        name: FieldName::new(alloc, names[0])?,
+        dtype: first,
+    })?;
+    fields.push(StructField {
+        name: FieldName::new(alloc, names[1])?,
+        dtype: second,
+    })?;
+    Ok(DType::Struct(StructFields::new(fields)?, Nullability::NonNullable))
+}
+
+// A line names no type yet that tables don't hold.
+#[test]
+fn the_first_fault_of_a_type_is_told(rt: HostRuntime) -> Result<(), Fail> {
+    let alloc = rt.alloc();
+    let truth = DType::Bool(Nullability::Nullable);
+    let number = DType::Primitive(PType::I8, Nullability::NonNullable);
+    let twice = record(alloc, ["q", "q"], [number.clone()?, number.clone()?])?;
+
+    let nested = record(alloc, ["a", "p"], [number.clone()?, two_columns(alloc)?])?;
+    assert!(rt; Table::create(alloc, nested, 16).is_ok());
+    let behind = record(alloc, ["a", "p"], [truth.clone()?, twice.clone()?])?;
+    assert!(rt;
+        matches!(
+            Table::create(alloc, behind, 16),
+            Err(TableError::UnkeptType)
+        )
+    );
+    let before = record(alloc, ["p", "a"], [twice, truth.clone()?])?;
+    assert!(rt;
+        matches!(
+            Table::create(alloc, before, 16),
+            Err(TableError::RepeatedName)
+        )
+    );
+    let names = record(alloc, ["a", "a"], [truth, number])?;
+    assert!(rt;
+        matches!(
+            Table::create(alloc, names, 16),
+            Err(TableError::RepeatedName)
+        )
+    );
+    Ok(())
+}
+
 // A line says none of these predicates yet.
 #[test]
 fn the_library_joins_predicates(rt: HostRuntime) -> Result<(), Fail> {

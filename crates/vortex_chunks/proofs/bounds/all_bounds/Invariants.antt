@@ -1,9 +1,6 @@
-use Rattle.std.proofs.Common.{◌≡◌, length}
+use Rattle.std.proofs.Common.{take}
 use Rattle.vortex_chunks.specs.Bounds.{AreBoundsOf}
 use Rattle.vortex_chunks.proofs.bounds.all_bounds.Given as goal
 
-abbrev pub invariant-loop-column : goal.invariant-loop-column
-invariant-loop-column l = record {
-  count : length l.all.items ≡ l.column;
-  bounds : AreBoundsOf l.all.items l.rows;
-}
+abbrev pub invariant-loop-leaf : goal.invariant-loop-leaf
+invariant-loop-leaf l = AreBoundsOf (take l.leaf-index l.leaves) l.all.items l.rows

@@ -4,7 +4,7 @@ use Rattle.vortex_dtype.specs.View.{kind_of, fields_of, nullability_of_flag}
 use Rattle.vortex_dtype.proofs.Views.{kind_of-Struct}
 use Rattle.vortex_replies.specs.Text.{kind_text}
 use Rattle.vortex_replies.proofs.Pieces.{one_more_child, three_pieces}
-use Rattle.vortex_replies.proofs.Sizes.{kind_size, fields_size, field_smaller}
+use Rattle.vortex_dtype.proofs.Sizes.{kind_size, fields_size, field_smaller}
 use Rattle.vortex_replies.proofs.kinds.+kind.Goals as goal
 
 pub push_children-push_dtype-requires : goal.push_children-push_dtype-requires

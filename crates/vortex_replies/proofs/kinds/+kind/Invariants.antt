@@ -1,7 +1,7 @@
 use Rattle.std.proofs.Common.{◌≡◌, ◌++◌, false, drop}
 use Rattle.vortex_dtype.specs.View.{kind_of, fields_of}
 use Rattle.vortex_replies.specs.Text.{children_text}
-use Rattle.vortex_replies.proofs.Sizes.{kind_size, fields_size}
+use Rattle.vortex_dtype.proofs.Sizes.{kind_size, fields_size}
 use Rattle.vortex_replies.proofs.kinds.+kind.Given as goal
 
 abbrev pub decreases-push_dtype : goal.decreases-push_dtype
