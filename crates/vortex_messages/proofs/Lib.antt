@@ -5,4 +5,3 @@ pub mod Plugins
 pub mod Readings
 pub mod Rows
 pub mod Shaped
-pub mod Sizes

@@ -10,7 +10,7 @@ use Rattle.vortex_types.specs.declared.struct_fields.StructField.{StructField}
 use Rattle.vortex_types.specs.declared.union_variants.UnionVariant.{UnionVariant}
 use Rattle.vortex_types.proofs.Views.{field_of-parts, variant_of-parts}
 use Rattle.vortex_records.proofs.Pieces.{first_left}
-use Rattle.vortex_records.proofs.Sizes.{levels}
+use Rattle.vortex_types.proofs.Sizes.{levels}
 use Rattle.std.specs.Hash as fed
 
 -- what is fed doesn't tell nullability

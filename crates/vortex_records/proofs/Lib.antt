@@ -6,4 +6,3 @@ pub mod Fits
 pub mod Lawful
 pub mod Pieces
 pub mod Projections
-pub mod Sizes

@@ -8,7 +8,7 @@ use vortex_types::struct_fields::StructField;
 
 /// Whether each value takes as many bytes.
 #[cycle(fixed)]
-#[tactic(auto, using(crate::proofs::Sizes::levels))]
+#[tactic(auto, using(vortex_types::proofs::Sizes::levels))]
 pub(crate) fn has_fixed_width(dtype: &DType) -> bool
     ensures { result ≡ is_fixed (kind_of dtype.now) }
 {
@@ -23,7 +23,7 @@ pub(crate) fn has_fixed_width(dtype: &DType) -> bool
 }
 
 #[cycle(fixed)]
-#[tactic(auto, using(crate::proofs::Sizes::levels))]
+#[tactic(auto, using(vortex_types::proofs::Sizes::levels))]
 fn have_fixed_widths(fields: &[StructField]) -> bool
     ensures { result ≡ are_fixed (fields_of fields.now) }
 {
@@ -37,7 +37,7 @@ fn have_fixed_widths(fields: &[StructField]) -> bool
 
 /// The bytes that a value takes, where these and those of each part can be counted.
 #[cycle(bytes)]
-#[tactic(auto, using(crate::proofs::Sizes::levels))]
+#[tactic(auto, using(vortex_types::proofs::Sizes::levels))]
 pub(crate) fn counted_bytes(dtype: &DType) -> Option<usize>
     ensures { SomeIff result (is_countable (kind_of dtype.now) ≡ true) (bytes_of (kind_of dtype.now)) }
 {
@@ -58,7 +58,7 @@ pub(crate) fn counted_bytes(dtype: &DType) -> Option<usize>
 }
 
 #[cycle(bytes)]
-#[tactic(auto, using(crate::proofs::Sizes::levels))]
+#[tactic(auto, using(vortex_types::proofs::Sizes::levels))]
 fn counted_bytes_of_fields(fields: &[StructField]) -> Option<usize>
     ensures { SomeIff result ((are_countable (fields_of fields.now) && nat_lt (bytes_of_fields (fields_of fields.now)) (2 ^ 64)) ≡ true) (bytes_of_fields (fields_of fields.now)) }
 {

@@ -2,7 +2,7 @@ use Rattle.std.proofs.Common.{◌≡◌, ◌<◌, arith, ap, sym, ◌∙◌}
 use Rattle.vortex_types.specs.View.{kind_of, fields_of, variants_of}
 use Rattle.vortex_messages.specs.View.{tree_of, trees_from}
 use Rattle.vortex_messages.proofs.Parts.{one_more_seen, all_taken, written_field, written_variant, written_fields-fields_of, written_variants-variants_of}
-use Rattle.vortex_messages.proofs.Sizes.{kind_size, fields_size, variants_size, field_smaller, variant_smaller}
+use Rattle.vortex_types.proofs.Sizes.{kind_size, fields_size, variants_size, field_smaller, choice_smaller}
 use Rattle.vortex_messages.proofs.write.+to_proto.Goals as goal
 
 pub write_fields-to_proto-requires : goal.write_fields-to_proto-requires
@@ -13,7 +13,7 @@ write_fields-to_proto-requires t c =
 
 pub write_variants-to_proto-requires : goal.write_variants-to_proto-requires
 write_variants-to_proto-requires t c =
-    let e : kind_size (kind_of c.variant-item.result.dtype) < variants_size (variants_of c.args.variants.now) = variant_smaller c.args.variants.now c.loop-variant.variant-index c.variant-item.result (omega arith) c.variant-item.is in
+    let e : kind_size (kind_of c.variant-item.result.dtype) < variants_size (variants_of c.args.variants.now) = choice_smaller c.args.variants.now c.loop-variant.variant-index c.variant-item.result (omega arith) c.variant-item.is in
     let d : variants_size (variants_of c.args.variants.now) ≡ t = c.decreases in
     (omega (arith, e, d), tt)
 

@@ -2,7 +2,7 @@ use Rattle.std.proofs.Common.{◌≡◌, map, take}
 use Rattle.vortex_types.specs.View.{kind_of, fields_of, variants_of}
 use Rattle.vortex_messages.specs.View.{tree_of}
 use Rattle.vortex_messages.proofs.Parts.{written_field, written_variant}
-use Rattle.vortex_messages.proofs.Sizes.{kind_size, fields_size, variants_size}
+use Rattle.vortex_types.proofs.Sizes.{kind_size, fields_size, variants_size}
 use Rattle.vortex_messages.proofs.write.+to_proto.Given as goal
 
 abbrev pub decreases-to_proto : goal.decreases-to_proto

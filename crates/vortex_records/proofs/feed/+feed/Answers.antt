@@ -3,7 +3,7 @@ use Rattle.std.specs.List.{fold}
 use Rattle.std.specs.Hash as fed
 use Rattle.vortex_types.specs.View.{kind_of, fields_of, variants_of}
 use Rattle.vortex_records.proofs.Fed.{field_fed, choice_fed}
-use Rattle.vortex_records.proofs.Sizes.{kind_size, fields_size, variants_size, field_smaller, choice_smaller}
+use Rattle.vortex_types.proofs.Sizes.{kind_size, fields_size, variants_size, field_smaller, choice_smaller}
 use Rattle.vortex_records.proofs.feed.+feed.Goals as goal
 
 pub feed_fields-feed_type-requires : goal.feed_fields-feed_type-requires

@@ -2,7 +2,7 @@ use Rattle.std.proofs.Common.{◌≡◌, drop}
 use Rattle.std.specs.List.{fold}
 use Rattle.vortex_types.specs.View.{kind_of, fields_of, variants_of}
 use Rattle.vortex_records.specs.Feeding.{fields_writes, variants_writes}
-use Rattle.vortex_records.proofs.Sizes.{kind_size, fields_size, variants_size}
+use Rattle.vortex_types.proofs.Sizes.{kind_size, fields_size, variants_size}
 use Rattle.vortex_records.proofs.feed.+feed.Given as goal
 
 abbrev pub decreases-feed_type : goal.decreases-feed_type

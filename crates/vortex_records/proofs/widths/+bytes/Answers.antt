@@ -6,7 +6,7 @@ use Rattle.vortex_types.specs.View.{kind_of, fields_of}
 use Rattle.vortex_types.proofs.Views.{kind_of-Primitive, kind_of-FixedSizeList}
 use Rattle.vortex_records.proofs.Counted.{list_counted, field_uncounted, sum_uncounted, sum_next, still_countable, all_counted}
 use Rattle.vortex_records.proofs.Digits.{numbers_counted}
-use Rattle.vortex_records.proofs.Sizes.{kind_size, fields_size, field_smaller}
+use Rattle.vortex_types.proofs.Sizes.{kind_size, fields_size, field_smaller}
 use Rattle.vortex_records.proofs.widths.+bytes.Goals as goal
 
 pub counted_bytes-returns-in-Primitive : goal.counted_bytes-returns-in-Primitive

@@ -1,7 +1,7 @@
 use Rattle.std.proofs.Common.{◌≡◌, ◌<◌, ◌+◌, ◌^◌, drop}
 use Rattle.vortex_types.specs.View.{kind_of, fields_of}
 use Rattle.vortex_records.specs.Widths.{are_countable, bytes_of_fields}
-use Rattle.vortex_records.proofs.Sizes.{kind_size, fields_size}
+use Rattle.vortex_types.proofs.Sizes.{kind_size, fields_size}
 use Rattle.vortex_records.proofs.widths.+bytes.Given as goal
 
 abbrev pub decreases-counted_bytes : goal.decreases-counted_bytes

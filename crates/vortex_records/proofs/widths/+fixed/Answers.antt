@@ -1,7 +1,7 @@
 use Rattle.std.proofs.Common.{◌≡◌, ◌<◌, arith, sym}
 use Rattle.vortex_types.specs.View.{kind_of, fields_of}
 use Rattle.vortex_records.proofs.Counted.{not_fixed, still_fixed}
-use Rattle.vortex_records.proofs.Sizes.{kind_size, fields_size, field_smaller}
+use Rattle.vortex_types.proofs.Sizes.{kind_size, fields_size, field_smaller}
 use Rattle.vortex_records.proofs.widths.+fixed.Goals as goal
 
 pub have_fixed_widths-has_fixed_width-requires : goal.have_fixed_widths-has_fixed_width-requires
