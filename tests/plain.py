@@ -74,20 +74,55 @@ def keys(value, needed, free=()):
     need(isinstance(value, dict) and set(needed) <= set(value) <= set(needed) | set(free))
 
 
+# The keys of their own that kinds of types have beside `kind`, and those that may be missing.
+OWN = {
+    "decimal": ["precision", "scale"], "fixed_size_list": ["size"], "map": ["sorted"], "struct": ["names"], "union": ["names", "tags"],
+    "extension": ["id"],
+}
+FREE = {"extension": ["metadata"]}
+CHILDREN = {"list": 1, "fixed_size_list": 1, "map": 2, "extension": 1}
+CHILDLESS = {*RANGES, "f16", "f32", "f64", "null", "bool", "utf8", "binary", "variant", "decimal"}
+
+
+def is_between(value, low, high):
+    return is_number(value) and low <= value <= high
+
+
+def are_texts(values):
+    return isinstance(values, list) and all(isinstance(value, str) for value in values)
+
+
 def read_type(value):
+    """A type as its kind, the fields of a record, and whether null is a value."""
     need(isinstance(value, dict) and isinstance(value.get("kind"), str))
+    kind = value["kind"]
+    keys(value, ["kind", *OWN.get(kind, [])], ["nullable", "children", *FREE.get(kind, [])])
     nullable = value.get("nullable", False)
-    need(isinstance(nullable, bool))
-    children = value.get("children", [])
-    need(isinstance(children, list))
-    if value["kind"] == "struct":
-        keys(value, ["kind", "names"], ["nullable", "children"])
-        names = value["names"]
-        need(isinstance(names, list) and all(isinstance(name, str) for name in names) and len(names) == len(children))
-        return ("struct", list(zip(names, map(read_type, children))), nullable)
-    keys(value, ["kind"], ["nullable", "children"])
-    need(value["kind"] in RANGES and not children)
-    return (value["kind"], None, nullable)
+    need(isinstance(nullable, bool) and isinstance(value.get("children", []), list))
+    children = [read_type(child) for child in value.get("children", [])]
+    if kind == "struct":
+        need(are_texts(value["names"]) and len(value["names"]) == len(children))
+        return (kind, list(zip(value["names"], children)), nullable)
+    if kind == "union":
+        tags = value["tags"]
+        need(are_texts(value["names"]) and isinstance(tags, list) and len(value["names"]) == len(tags) == len(children))
+        need(all(is_between(tag, -128, 127) for tag in tags) and len(set(tags)) == len(tags))
+        return (kind, None, nullable)
+    need(kind in CHILDLESS or kind in CHILDREN)
+    need(len(children) == CHILDREN.get(kind, 0))
+    if kind == "null":
+        need(nullable)
+    if kind == "decimal":
+        need(is_between(value["precision"], 1, 76) and is_between(value["scale"], -76, 76))
+    if kind == "fixed_size_list":
+        need(is_between(value["size"], 0, 2**32 - 1))
+    if kind == "map":
+        need(isinstance(value["sorted"], bool) and not children[0][2])
+    if kind == "extension":
+        metadata = value.get("metadata", "")
+        need(isinstance(value["id"], str) and isinstance(metadata, str) and len(metadata) % 2 == 0)
+        need(all(digit in "0123456789abcdefABCDEF" for digit in metadata) and nullable == children[0][2])
+    return (kind, None, nullable)
 
 
 def is_number(value):
@@ -101,7 +136,7 @@ def is_value(value, dtype):
         return nullable
     if kind == "struct":
         return isinstance(value, list) and len(value) == len(fields) and all(is_value(v, f[1]) for v, f in zip(value, fields))
-    return is_number(value) and RANGES[kind][0] <= value <= RANGES[kind][1]
+    return kind in RANGES and is_between(value, *RANGES[kind])
 
 
 def read_path(value):
@@ -116,7 +151,7 @@ def read_operand(value):
         return ("col", value[1:])
     need(value[0] == "lit" and len(value) == 3)
     dtype = read_type(value[1])
-    need(dtype[0] != "struct" and is_value(value[2], dtype))
+    need(dtype[0] in RANGES and is_value(value[2], dtype))
     return ("lit", dtype, value[2])
 
 
@@ -152,6 +187,8 @@ def read_command(line):
 def check_part(dtype):
     """A record's names go before its parts, and these from left to right."""
     kind, fields, _ = dtype
+    if kind != "struct" and kind not in RANGES:
+        raise Refused(3)
     if kind == "struct":
         if len({name for name, _ in fields}) != len(fields):
             raise Refused(4)
@@ -333,15 +370,33 @@ def random_record(chance, width, depth):
     return dtype
 
 
+def other_kind(chance):
+    """A type that tables don't hold, or none at all."""
+    child = random_kind(chance)
+    dtype = chance.choice([
+        {"kind": "null", "nullable": True}, {"kind": "null"}, {"kind": "bool"}, {"kind": "utf8"}, {"kind": "binary"}, {"kind": "variant"},
+        {"kind": "f64"}, {"kind": "decimal", "precision": chance.randint(0, 77), "scale": chance.choice([-76, 0, 76, 77])},
+        {"kind": "list", "children": [child]}, {"kind": "list"}, {"kind": "fixed_size_list", "size": 2, "children": [child]},
+        {"kind": "map", "sorted": False, "children": [child, child]}, {"kind": "union", "names": ["a", "b"], "tags": [0, chance.randint(0, 1)], "children": [child, child]},
+        {"kind": "extension", "id": "x", "children": [child]},
+        {"kind": "extension", "id": "x", "metadata": chance.choice(["", "0aFF", "0"]), "nullable": child.get("nullable", False), "children": [child]},
+    ])
+    return {**dtype, **({"more": 0} if chance.random() < 0.05 else {})}
+
+
 def random_type(chance, width):
     dtype = random_record(chance, width, chance.choice([0, 1, 2, 3]))
     if chance.random() < 0.98:
         dtype.pop("nullable", None)
+    if dtype["children"] and chance.random() < 0.1:
+        dtype["children"][-1] = other_kind(chance)
     return dtype
 
 
 def alike(chance, dtype):
     """The same records, of other names, kinds and nullability; mostly so that rows can be converted."""
+    if dtype["kind"] not in RANGES and dtype["kind"] != "struct":
+        return dtype
     if dtype["kind"] != "struct":
         return {"kind": chance.choice(list(RANGES)), "nullable": True} if chance.random() < 0.3 else dtype
     names = chance.sample(["a", "b", "c", "\u00e9", "d\"e"], len(dtype["names"]))

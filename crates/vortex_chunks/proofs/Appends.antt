@@ -1,8 +1,8 @@
 -- Rows that are judged and converted, one by one.
-use Rattle.std.proofs.Common.{◌≡◌, refl, sym, ◌∙◌, ap, subst, ℕ, ◌+◌, ◌<◌, List, [], ◌∷◌, ◌++◌, length, drop, get_or, map, Bool, true, false, Option, Some, if◌then◌else◌, add-one}
+use Rattle.std.proofs.Common.{◌≡◌, refl, sym, ◌∙◌, ap, subst, ℕ, zero, suc, ◌+◌, ◌<◌, List, [], ◌∷◌, ◌++◌, length, drop, get_or, map, Bool, true, false, Option, Some, None, if◌then◌else◌, add-one, arith}
 use Rattle.std.proofs.lemmas.List.{append_assoc, drop_more, length-map, length_push}
 use Rattle.vortex_model.specs.Kind.{Kind}
-use Rattle.vortex_model.specs.Content.{Content, content_of}
+use Rattle.vortex_model.specs.Content.{Content, content_of, Raw}
 use Rattle.vortex_model.specs.Valid.{valid}
 use Rattle.vortex_model.specs.Convert.{converts}
 use Rattle.vortex_model.specs.Refusal.{Refusal, invalid_value, not_convertible, or_else}
@@ -38,6 +38,36 @@ module _ (k : Kind) (vs : List (Option ScalarValue)) (i : ℕ) (v : Option Scala
 
   pub valid_here : valid k (raw_in v) ≡ true → first_invalid i k (map raw_in (drop i vs)) ≡ first_invalid (i + 1) k (map raw_in (drop (i + 1) vs))
   valid_here holds = first_here ∙ ap (λ b. if b then first_invalid (i + 1) k (map raw_in (drop (i + 1) vs)) else Some (invalid_value i)) holds
+
+-- ---- rows of which none is invalid
+
+invalid_first : (b : Bool) (r : Refusal) (q : Option Refusal) → (if b then q else Some r) ≡ None → b ≡ true
+invalid_first true r q e = refl
+invalid_first false r q e = absurd (cc (e))
+
+none_behind : (b : Bool) (r : Refusal) (q : Option Refusal) → (if b then q else Some r) ≡ None → q ≡ None
+none_behind true r q e = e
+none_behind false r q e = absurd (cc (e))
+
+-- wherever the count begins, none is invalid
+counted_from : (i j : ℕ) (k : Kind) (rs : List Raw) → first_invalid i k rs ≡ None → first_invalid j k rs ≡ None
+counted_from i j k [] e = refl
+counted_from i j k (r ∷ rs) e =
+    (λ t. if invalid_first (valid k r) (invalid_value i) (first_invalid (suc i) k rs) e t then first_invalid (suc j) k rs else Some (invalid_value j))
+    ∙ counted_from (suc i) (suc j) k rs (none_behind (valid k r) (invalid_value i) (first_invalid (suc i) k rs) e)
+
+module _ (k : Kind) (v : Option ScalarValue) (behind : List (Option ScalarValue)) (none : first_invalid 0 k (map raw_in (v ∷ behind)) ≡ None) where
+  pub first_valid : valid k (raw_in v) ≡ true
+  first_valid = invalid_first (valid k (raw_in v)) (invalid_value 0) (first_invalid 1 k (map raw_in behind)) none
+
+  pub rest_valid : first_invalid 0 k (map raw_in behind) ≡ None
+  rest_valid = counted_from 1 0 k (map raw_in behind) (none_behind (valid k (raw_in v)) (invalid_value 0) (first_invalid 1 k (map raw_in behind)) none)
+
+pub valid_at : (k : Kind) (vs : List (Option ScalarValue)) (i : ℕ) (v : Option ScalarValue) → i < length vs → v ≡ get_or vs i v →
+    first_invalid 0 k (map raw_in vs) ≡ None → valid k (raw_in v) ≡ true
+valid_at k [] i v inside is none = absurd (omega (arith, inside))
+valid_at k (u ∷ vs) zero v inside is none = ap (λ w. valid k (raw_in w)) is ∙ first_valid k u vs none
+valid_at k (u ∷ vs) (suc i) v inside is none = valid_at k vs i v (omega (arith, inside)) is (rest_valid k u vs none)
 
 -- The value behind these rows, and the values behind it. Once it is converted, the rows are `more`.
 module _ (s t : Kind) (rows : List ScalarValue) (v : Option ScalarValue) (behind : List (Option ScalarValue)) where

@@ -14,15 +14,15 @@ use Rattle.vortex_model.proofs.ContentOrder.{true_left, true_right}
 use Rattle.vortex_scalar.specs.View.{raw_of}
 use Rattle.vortex_scalar.specs.declared.scalar_value.ScalarValue.{ScalarValue}
 use Rattle.vortex_chunks.specs.Chunk.{chunk_rows}
-use Rattle.vortex_chunks.specs.Cut.{content_cut, kept_by, raw_cut}
+use Rattle.vortex_cuts.specs.Cut.{content_cut, kept_by, raw_cut}
 use Rattle.vortex_chunks.specs.Plan.{IsPlan, table_in, paths_in, predicate_in}
 use Rattle.vortex_chunks.specs.Progress.{found_rows}
 use Rattle.vortex_chunks.specs.Selected.{is_selected, cut_rows, selected_rows, CanBeCut}
-use Rattle.vortex_chunks.specs.Leaves.{leaf_positions}
+use Rattle.vortex_schema.specs.Leaves.{leaf_positions}
 use Rattle.vortex_chunks.specs.Table.{is_formed, same_leaves}
 use Rattle.vortex_chunks.specs.declared.chunk.Chunk.{Chunk}
 use Rattle.vortex_chunks.specs.declared.plan.Plan.{Plan}
-use Rattle.vortex_chunks.proofs.Cuts.{cut_is_valid}
+use Rattle.vortex_cuts.proofs.Cuts.{cut_is_valid}
 use Rattle.vortex_chunks.proofs.Rows.{list_all_at, rows_said, kept_each, kept_all}
 
 pub asked_of : (plan : Plan) → IsPlan plan → IsAsked (table_in plan) (predicate_in plan)

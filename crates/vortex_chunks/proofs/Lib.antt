@@ -3,15 +3,13 @@ pub mod Agreement
 pub mod Appends
 pub mod Best
 pub mod Counts
-pub mod Cuts
 pub mod Explained
 pub mod Found
 pub mod KnownBounds
 pub mod LeafBounds
 pub mod Literals
-pub mod Paths
+pub mod NamedParts
 pub mod Progress
-pub mod Projections
 pub mod Proven
 pub mod Rows
 pub mod Run

@@ -26,12 +26,13 @@ use Rattle.vortex_chunks.specs.declared.plan.Plan.{Plan}
 use Rattle.vortex_chunks.specs.Bounds.{row_content, column_at}
 use Rattle.vortex_chunks.specs.Chunk.{chunk_rows}
 use Rattle.vortex_chunks.specs.Given.{said_if_there, said_at, given_by}
-use Rattle.vortex_chunks.specs.Leaves.{leaf_positions}
+use Rattle.vortex_schema.specs.Leaves.{leaf_positions}
 use Rattle.vortex_chunks.specs.Plan.{IsPlan, table_in, predicate_in}
 use Rattle.vortex_chunks.specs.Proved.{proved_by}
 use Rattle.vortex_chunks.specs.Table.{is_formed, same_leaves}
 use Rattle.vortex_chunks.proofs.Agreement.{AgreeIn, falsifiers_agree, satisfiers_agree, same_value}
-use Rattle.vortex_chunks.proofs.LeafBounds.{Found, found_among, is_among, leaf_there, leaves_so}
+use Rattle.vortex_schema.proofs.Places.{is_among, leaf_there}
+use Rattle.vortex_chunks.proofs.LeafBounds.{Found, found_among, leaves_so}
 use Rattle.vortex_chunks.proofs.Rows.{rows_said}
 use Rattle.vortex_chunks.proofs.KnownBounds.{IsNumber, said_rightly}
 

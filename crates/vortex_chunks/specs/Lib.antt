@@ -1,10 +1,8 @@
 pub mod AnswerView
 pub mod Bounds
 pub mod Chunk
-pub mod Cut
 pub mod Error
 pub mod Given
-pub mod Leaves
 pub mod Outcome
 pub mod Plan
 pub mod Progress

@@ -10,11 +10,11 @@ use Rattle.vortex_model.specs.Kept.{kept_fault}
 use Rattle.vortex_model.specs.Command.{predicate_fault}
 use Rattle.vortex_model.specs.Pruning.{has_no_like}
 use Rattle.vortex_model.specs.Table as model
-use Rattle.vortex_dtype.specs.View.{kind_of}
+use Rattle.vortex_types.specs.View.{kind_of}
 use Rattle.vortex_expr.specs.Bound.{bound_value}
-use Rattle.vortex_chunks.specs.Cut.{paths_of, tree_of, kept_by}
+use Rattle.vortex_cuts.specs.Cut.{paths_of, tree_of, kept_by}
 use Rattle.vortex_chunks.specs.TableView.{table_of}
-use Rattle.vortex_dtype.specs.declared.field.FieldPath.{FieldPath}
+use Rattle.vortex_paths.specs.declared.path.FieldPath.{FieldPath}
 use Rattle.vortex_chunks.specs.declared.table.Table.{Table}
 use Rattle.vortex_chunks.specs.declared.plan.Plan.{Plan}
 

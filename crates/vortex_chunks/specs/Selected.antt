@@ -3,12 +3,12 @@ use Rattle.std.specs.Prelude.{ℕ, ◌<◌, List, length, map, filter, slice_ind
 use Rattle.vortex_model.specs.Content.{Content}
 use Rattle.vortex_model.specs.Truth.{is_true}
 use Rattle.vortex_model.specs.Valid.{valid}
-use Rattle.vortex_dtype.specs.View.{kind_of}
+use Rattle.vortex_types.specs.View.{kind_of}
 use Rattle.vortex_scalar.specs.View.{raw_of}
 use Rattle.vortex_scalar.specs.declared.scalar_value.ScalarValue.{ScalarValue}
 use Rattle.vortex_expr.specs.Bound.{Bound, bound_value}
-use Rattle.vortex_chunks.specs.Cut.{tree_of, content_cut, raw_cut}
-use Rattle.vortex_chunks.specs.declared.cut.Cut.{Cut}
+use Rattle.vortex_cuts.specs.Cut.{tree_of, content_cut, raw_cut}
+use Rattle.vortex_cuts.specs.declared.cut.Cut.{Cut}
 
 -- the bound predicate is true of the row
 abbrev pub is_selected : Bound → Content → Bool

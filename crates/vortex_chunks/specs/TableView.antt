@@ -1,7 +1,7 @@
 -- What tables and answers stand for.
 use Rattle.std.specs.Prelude.{[], map}
 use Rattle.vortex_model.specs.Table as model
-use Rattle.vortex_dtype.specs.View.{kind_of}
+use Rattle.vortex_types.specs.View.{kind_of}
 use Rattle.vortex_chunks.specs.Chunk.{chunk_rows}
 use Rattle.vortex_chunks.specs.declared.table.Table.{Table}
 

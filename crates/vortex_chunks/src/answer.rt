@@ -1,7 +1,7 @@
 //! What a scan answers.
 
-use vortex_dtype::dtype::DType;
 use vortex_scalar::scalar::Scalar;
+use vortex_types::dtype::DType;
 
 /// The rows that a scan selected, and how it found them.
 #[derive(Drop)]

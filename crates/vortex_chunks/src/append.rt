@@ -7,8 +7,8 @@ ghost use Rattle.vortex_model.specs.Convert.{converts};
 ghost use Rattle.vortex_model.specs.Kept.{kept_fault};
 ghost use Rattle.vortex_model.specs.Refusal.{invalid_value, not_convertible, or_else};
 ghost use Rattle.vortex_model.specs.Command.{unless, first_invalid, first_unconvertible};
-ghost use Rattle.vortex_dtype.specs.View.{kind_of};
-ghost use Rattle.vortex_scalar.specs.View.{raw_of, raw_in, content_at};
+ghost use Rattle.vortex_types.specs.View.{kind_of};
+ghost use Rattle.vortex_scalar.specs.View.{raw_of, raw_in, raw_at, content_at};
 ghost use Rattle.vortex_chunks.specs.Bounds.{row_content};
 ghost use Rattle.vortex_chunks.specs.Error.{Explains};
 
@@ -16,14 +16,14 @@ use crate::bounds::all_bounds;
 use crate::check::check_type;
 use crate::chunk::Chunk;
 use crate::error::TableError;
-use crate::leaves::Positions;
 use std::alloc::{AllocError, Global};
 use std::rc::Rc;
-use vortex_dtype::dtype::DType;
 use vortex_scalar::cast::cast_value;
 use vortex_scalar::error::ScalarError;
 use vortex_scalar::scalar_value::ScalarValue;
 use vortex_scalar::validate::validate;
+use vortex_schema::leaves::Positions;
+use vortex_types::dtype::DType;
 
 // The first row, by its index, that isn't valid for the type.
 fn first_invalid(dtype: &DType, values: &[Option<ScalarValue>]) -> Option<usize>
@@ -55,7 +55,8 @@ pub fn check_batch(
     }
 }
 
-// Puts the value behind the rows, as one of the target type, which a table can hold. A refusal names its place there.
+// Puts the value, which is valid for the source type, behind the rows, as one of the target type, which a table can hold.
+// A refusal names its place there.
 fn push_converted(
     alloc: Global,
     source: &DType,
@@ -63,7 +64,8 @@ fn push_converted(
     value: Option<&ScalarValue>,
     rows: &mut Vec<ScalarValue>,
 ) -> Result<(), TableError>
-    requires { kept_fault (kind_of target.now) ≡ None }
+    requires kept { kept_fault (kind_of target.now) ≡ None }
+    requires valid { valid (kind_of source.now) (raw_at value) ≡ true }
     ensures converts { OnOk result (converts (kind_of source.now) (kind_of target.now) (content_at value.entry) ≡ true) }
     ensures content { OnOk result (map row_content rows.new.items ≡ map row_content rows.old.items ++ content_at value.entry ∷ []) }
     ensures valid { OnOk result (IsTrue (list_all (λ row. valid (kind_of target.now) (raw_of row)) rows.old.items)
@@ -84,15 +86,16 @@ fn push_converted(
     }
 }
 
-/// The rows as those of the target type, which a table can hold. Each is looked at once, up to the first that it can't
-/// hold: `NotConvertible` with its index.
+/// The rows, which are of the source type, as those of the target type, which a table can hold. Each is looked at once,
+/// up to the first that it can't hold: `NotConvertible` with its index.
 pub fn convert_rows(
     alloc: Global,
     source: &DType,
     target: &DType,
     values: &[Option<ScalarValue>],
 ) -> Result<Vec<ScalarValue>, TableError>
-    requires { kept_fault (kind_of target.now) ≡ None }
+    requires kept { kept_fault (kind_of target.now) ≡ None }
+    requires valid { first_invalid 0 (kind_of source.now) (map raw_in values.now) ≡ None }
     ensures converts { OnOk result (first_unconvertible 0 (kind_of source.now) (kind_of target.now)
         (map content_of (map raw_in values.now)) ≡ None) }
     ensures content { IfOk result (λ rows. map row_content rows.items ≡ map content_of (map raw_in values.now)) }
@@ -115,7 +118,8 @@ pub fn convert_owned_rows(
     target: &DType,
     values: Vec<Option<ScalarValue>>,
 ) -> Result<Vec<ScalarValue>, TableError>
-    requires { kept_fault (kind_of target.now) ≡ None }
+    requires kept { kept_fault (kind_of target.now) ≡ None }
+    requires valid { first_invalid 0 (kind_of source.now) (map raw_in values.items) ≡ None }
     ensures converts { OnOk result (first_unconvertible 0 (kind_of source.now) (kind_of target.now)
         (map content_of (map raw_in values.items)) ≡ None) }
     ensures content { IfOk result (λ rows. map row_content rows.items ≡ map content_of (map raw_in values.items)) }

@@ -8,19 +8,18 @@ ghost use Rattle.vortex_chunks.specs.Given.{number_or_null, said_by};
 use crate::bounds::ColumnBounds;
 use crate::chunk::{Chunk, bounds_at};
 use std::alloc::{AllocError, Global};
-use vortex_dtype::dtype::DType;
-use vortex_dtype::nullability::Nullability;
-use vortex_dtype::ptype::PType;
 use vortex_expr::aggregate::AggregateFn;
 use vortex_expr::bind::column_positions;
 use vortex_expr::expression::{Expression, lit};
 use vortex_expr::stats::StatBinder;
+use vortex_kinds::nullability::Nullability;
 use vortex_scalar::pvalue::PValue;
 use vortex_scalar::scalar::Scalar;
 use vortex_scalar::scalar_value::ScalarValue;
+use vortex_types::dtype::DType;
 
 // A literal of the number.
-#[tactic(auto, using(vortex_dtype::proofs::Views::one_level, vortex_scalar::proofs::Views::one_level, crate::proofs::Literals::numbers))]
+#[tactic(auto, using(vortex_types::proofs::Views::one_level, vortex_scalar::proofs::Views::one_level, crate::proofs::Literals::numbers))]
 fn number(value: PValue) -> Expression
     ensures { IsAnswer (Some result) (number_or_null (Some value)) }
 {
@@ -39,7 +38,7 @@ fn number_if_there(value: Option<PValue>) -> Option<Expression>
 }
 
 // A literal of the truth value.
-#[tactic(auto, using(vortex_dtype::proofs::Views::one_level, vortex_scalar::proofs::Views::one_level))]
+#[tactic(auto, using(vortex_types::proofs::Views::one_level, vortex_scalar::proofs::Views::one_level))]
 fn truth(value: bool) -> Expression
     ensures { IsAnswer (Some result) (truth value) }
 {
@@ -75,7 +74,7 @@ pub struct ChunkBinder<'a> {
 
 impl StatBinder for ChunkBinder<'_> {
     ghost use Rattle.std.specs.Prelude.{length};
-    ghost use Rattle.vortex_dtype.specs.View.{kind_of};
+    ghost use Rattle.vortex_types.specs.View.{kind_of};
     ghost use Rattle.vortex_chunks.specs.Given.{given_by};
 
     ghost meaning = { λ b. given_by (kind_of b.dtype.now) b.chunk.now.leaves.value.items b.chunk.now.bounds.items (length b.chunk.now.rows.items) };

@@ -3,12 +3,12 @@ ghost use Rattle.std.specs.Prelude.{◌≡◌, ◌+◌, ◌<◌, ◌^◌, ◌-�
 ghost use Rattle.vortex_scalar.specs.View.{integer_of, content_at};
 ghost use Rattle.vortex_chunks.specs.Bounds.{lesser, greater, behind, with_value, one_null, column_at, IsBoundsOf, AreBoundsOf};
 
-use crate::leaves::Positions;
 use std::alloc::{AllocError, Global};
 use std::cmp::Ordering;
 use vortex_expr::bound::part_at;
 use vortex_scalar::pvalue::PValue;
 use vortex_scalar::scalar_value::ScalarValue;
+use vortex_schema::leaves::Positions;
 
 /// What a chunk keeps of a leaf of integers.
 #[derive(Clone, Copy, Debug)]

@@ -2,16 +2,18 @@
 ghost use Rattle.std.specs.Prelude.{◌≡◌, Some, None, OnOk, IfErr, map, option_map};
 ghost use Rattle.vortex_model.specs.Kept.{kept_fault};
 ghost use Rattle.vortex_model.specs.Command.{part_named, path_fault, paths_fault};
-ghost use Rattle.vortex_dtype.specs.View.{kind_of, steps_of};
-ghost use Rattle.vortex_dtype.specs.Fault.{refusal_of_fault};
+ghost use Rattle.vortex_types.specs.View.{kind_of};
+ghost use Rattle.vortex_paths.specs.View.{steps_of};
+ghost use Rattle.vortex_schema.specs.Fault.{refusal_of_fault};
 ghost use Rattle.vortex_chunks.specs.Error.{refusal_of, Explains};
 
 use crate::error::TableError;
 use std::alloc::Global;
-use vortex_dtype::dtype::DType;
-use vortex_dtype::field::{Field, FieldPath};
-use vortex_dtype::field_names::FieldName;
-use vortex_dtype::kept::{TypeFault, kept_fault};
+use vortex_kinds::field_names::FieldName;
+use vortex_paths::field::Field;
+use vortex_paths::path::FieldPath;
+use vortex_schema::kept::{TypeFault, kept_fault};
+use vortex_types::dtype::DType;
 
 fn type_error(fault: TypeFault) -> TableError
     ensures { refusal_of result ≡ Some (refusal_of_fault fault) }
@@ -35,18 +37,13 @@ pub fn check_type(alloc: Global, dtype: &DType) -> Result<(), TableError>
 }
 
 // The type of the record's first field of this name.
-#[tactic(auto, using(vortex_dtype::proofs::Views::one_level))]
+#[tactic(auto, using(crate::proofs::NamedParts::named))]
 fn named_part<'a>(dtype: &'a DType, name: &FieldName) -> Option<&'a DType>
     ensures { option_map (λ part. kind_of part.now) result ≡ part_named (kind_of dtype.now) name.now }
 {
-    match dtype {
-        DType::Struct(fields, _) => match fields.find(name) {
-            Some(position) => fields.field_by_index(position),
-            None => None,
-        },
-        DType::Bool(_) => None,
-        DType::Primitive(_, _) => None,
-    }
+    let fields = dtype.as_struct_fields_opt()?;
+    let position = fields.find(name)?;
+    fields.field_by_index(position)
 }
 
 // Tests whether the path at this index leads, by names alone, to a part of the type.

@@ -4,9 +4,9 @@ ghost use Rattle.vortex_chunks.specs.Bounds.{AreBoundsOf, AreBoundsOf-prop};
 ghost use Rattle.vortex_chunks.specs.Given.{bounds_at};
 
 use crate::bounds::ColumnBounds;
-use crate::leaves::Positions;
 use std::rc::Rc;
 use vortex_scalar::scalar_value::ScalarValue;
+use vortex_schema::leaves::Positions;
 
 /// Rows that were appended at once, with the bounds of their leaves.
 #[derive(Drop)]

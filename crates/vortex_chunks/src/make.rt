@@ -6,24 +6,25 @@ ghost use Rattle.vortex_model.specs.Pruning.{has_no_like};
 ghost use Rattle.vortex_expr.specs.Bound.{bound_value};
 ghost use Rattle.vortex_model.specs.Refusal.{Refusal};
 ghost use Rattle.vortex_model.specs.Command.{predicate_fault, scan_fault};
-ghost use Rattle.vortex_dtype.specs.View.{kind_of, steps_of};
+ghost use Rattle.vortex_types.specs.View.{kind_of};
+ghost use Rattle.vortex_paths.specs.View.{steps_of};
 ghost use Rattle.vortex_expr.specs.Faults.{IsReason};
 ghost use Rattle.vortex_chunks.specs.Error.{Explains};
 ghost use Rattle.vortex_chunks.specs.Plan.{IsPlanOf};
 ghost use Rattle.vortex_chunks.specs.TableView.{table_of};
 
 use crate::check::check_paths;
-use crate::cut::make_cut;
 use crate::error::TableError;
 use crate::plan::Plan;
 use crate::table::Table;
 use std::alloc::Global;
-use vortex_dtype::dtype::DType;
-use vortex_dtype::field::FieldPath;
+use vortex_cuts::cut::make_cut;
 use vortex_expr::bind::{PredicateError, bind};
 use vortex_expr::bound::BoundExpression;
 use vortex_expr::expression::Expression;
 use vortex_expr::rewrite::{falsify, satisfy};
+use vortex_paths::path::FieldPath;
+use vortex_types::dtype::DType;
 
 fn predicate_error(error: PredicateError) -> TableError
     ensures { (fault : Option Refusal) → IsReason error fault → Explains ⊥ fault result }

@@ -7,14 +7,14 @@ ghost use Rattle.vortex_chunks.specs.Outcome.{outcome_of};
 use crate::answer::ScanAnswer;
 use crate::binder::ChunkBinder;
 use crate::chunk::Chunk;
-use crate::cut::Cut;
 use crate::select::{select_rows, take_rows};
 use crate::table::Table;
 use std::alloc::{AllocError, Global};
-use vortex_dtype::field::FieldPath;
+use vortex_cuts::cut::Cut;
 use vortex_expr::bound::BoundExpression;
 use vortex_expr::expression::Expression;
 use vortex_expr::stats::prove_with;
+use vortex_paths::path::FieldPath;
 use vortex_scalar::scalar::Scalar;
 
 /// What becomes of a chunk.
@@ -43,7 +43,7 @@ pub struct Plan<'a> {
 impl Plan<'_> {
     ghost use Rattle.std.specs.Prelude.{◌≡◌, ◌++◌, All, IfOk, OnOk, IsTrue, is_some, map};
     ghost use Rattle.vortex_model.specs.Scan.{chunk_outcome, scanned};
-    ghost use Rattle.vortex_dtype.specs.View.{kind_of};
+    ghost use Rattle.vortex_types.specs.View.{kind_of};
     ghost use Rattle.vortex_scalar.specs.Scalar.{scalar_kind, scalar_content};
     ghost use Rattle.vortex_chunks.specs.AnswerView.{answer_of, IsTyped};
     ghost use Rattle.vortex_chunks.specs.Chunk.{chunk_rows};

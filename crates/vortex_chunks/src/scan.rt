@@ -5,14 +5,14 @@ use crate::error::TableError;
 use crate::make::make_plan;
 use crate::table::Table;
 use std::alloc::Global;
-use vortex_dtype::field::FieldPath;
 use vortex_expr::expression::Expression;
+use vortex_paths::path::FieldPath;
 
 impl Table {
     ghost use Rattle.std.specs.Prelude.{◌≡◌, None, map, IfOk, OnOk, IfErr};
     ghost use Rattle.vortex_model.specs.Scan.{scanned};
     ghost use Rattle.vortex_model.specs.Command.{scan, names_of, refusal};
-    ghost use Rattle.vortex_dtype.specs.View.{steps_of};
+    ghost use Rattle.vortex_paths.specs.View.{steps_of};
     ghost use Rattle.vortex_chunks.specs.Error.{Explains};
     ghost use Rattle.vortex_chunks.specs.TableView.{table_of};
     ghost use Rattle.vortex_chunks.specs.AnswerView.{answer_of, IsTyped};

@@ -2,20 +2,20 @@
 ghost use Rattle.std.specs.Prelude.{◌≡◌, IsTrue, is_none};
 ghost use Rattle.std.specs.List.{list_all};
 ghost use Rattle.vortex_model.specs.Kept.{kept_fault};
-ghost use Rattle.vortex_dtype.specs.View.{kind_of};
+ghost use Rattle.vortex_types.specs.View.{kind_of};
 ghost use Rattle.vortex_chunks.specs.Chunk.{row_count};
-ghost use Rattle.vortex_chunks.specs.Leaves.{leaf_positions};
+ghost use Rattle.vortex_schema.specs.Leaves.{leaf_positions};
 ghost use Rattle.vortex_chunks.specs.Table.{is_formed, same_leaves};
 
 use crate::append::{check_batch, convert_owned_rows, convert_rows, new_chunk};
 use crate::check::check_type;
 use crate::chunk::Chunk;
 use crate::error::TableError;
-use crate::leaves::{Positions, leaf_positions};
 use std::alloc::Global;
 use std::rc::Rc;
-use vortex_dtype::dtype::DType;
 use vortex_scalar::scalar_value::ScalarValue;
+use vortex_schema::leaves::{Positions, leaf_positions};
+use vortex_types::dtype::DType;
 
 /// A type, and rows of it in chunks.
 #[derive(Drop)]
@@ -47,7 +47,7 @@ impl Table {
     ghost use Rattle.vortex_model.specs.Table.{rows_of};
     ghost use Rattle.vortex_model.specs.Valid.{valid};
     ghost use Rattle.vortex_model.specs.Command.{create, append, appended, create_fault, created, refusal, after};
-    ghost use Rattle.vortex_dtype.specs.View.{kind_of};
+    ghost use Rattle.vortex_types.specs.View.{kind_of};
     ghost use Rattle.vortex_scalar.specs.View.{raw_in, raw_of};
     ghost use Rattle.vortex_chunks.specs.Bounds.{row_content};
     ghost use Rattle.vortex_chunks.specs.Error.{Explains};

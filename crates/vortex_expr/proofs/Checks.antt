@@ -1,18 +1,20 @@
 -- Faults of predicates, arm by arm, and what a bound predicate says.
-use Rattle.std.proofs.Common.{◌≡◌, ◌≢◌, Option, Some, None, Result, Ok, Err, true, false, not, ◌&&◌, refl, sym, ap, ◌∙◌, subst}
-use Rattle.vortex_model.specs.Kind.{Kind, boolean, integer, struct, nullable, same_int_kind}
+use Rattle.std.proofs.Common.{◌≡◌, ◌≢◌, Option, Some, None, Result, Ok, Err, Bool, true, false, not, ◌&&◌, refl, sym, ap, ◌∙◌, subst}
+use Rattle.vortex_model.specs.Kind.{Kind, boolean, integer, float, decimal, utf8, binary, nullable, same_int_kind, IntKind, u8, u16, u32, u64, i8, i16, i32, i64}
 use Rattle.vortex_model.specs.Content.{Content, null, truth, is_null as is_null_content}
-use Rattle.vortex_model.specs.Refusal.{Refusal, or_else, not_boolean, unequal_types}
+use Rattle.vortex_model.specs.Refusal.{Refusal, or_else, not_boolean, unequal_types, not_a_leaf, unsupported_predicate}
 use Rattle.vortex_model.specs.Path.{Names, Positions, at, positions, type_of_column}
 use Rattle.vortex_model.specs.Expression.{Expression, literal, column, compare, both, either, negation, is_null, is_not_null, is_nan, between, like, row_count, statistic, Comparison}
-use Rattle.vortex_model.specs.Typing.{type_of}
+use Rattle.vortex_model.specs.Typing.{type_of, has_bounds}
 use Rattle.vortex_model.specs.Truth.{compared, kleene_and, kleene_or, kleene_not, value_at, liked, end_of}
 use Rattle.vortex_model.specs.Command.{expression_fault, predicate_fault, column_fault, unless, same_type, is_boolean}
-use Rattle.vortex_dtype.specs.View.{int_kind_of}
-use Rattle.vortex_dtype.specs.declared.ptype.PType.{PType}
-use Rattle.vortex_dtype.specs.declared.ptype.PType.TheVariants as ptype
+use Rattle.vortex_model.specs.Kept.{is_leaf}
+use Rattle.vortex_kinds.specs.Numbers.{NumberKind, whole}
+use Rattle.vortex_kinds.specs.View.{number_kind_of}
+use Rattle.vortex_kinds.specs.declared.ptype.PType.{PType}
+use Rattle.vortex_kinds.specs.declared.ptype.PType.TheVariants as ptype
 use Rattle.vortex_expr.specs.Bound.{Bound, bound_value, bound_of, bound_place}
-use Rattle.vortex_expr.specs.Faults.{IsReason, IsChecked, IsSameOf, refusal_of}
+use Rattle.vortex_expr.specs.Faults.{IsReason, IsChecked, IsSameOf, refusal_of, truths_of}
 use Rattle.vortex_expr.specs.Types.{IsOfLeaf, IsOfClass, IsClass, IsLeaf}
 use Rattle.vortex_expr.specs.declared.bind.PredicateError.{PredicateError}
 use Rattle.vortex_expr.specs.declared.bind.PredicateError.TheVariants as error
@@ -22,32 +24,62 @@ use Rattle.vortex_expr.specs.declared.types.TypeClass.TheVariants as class
 
 -- ---- leaves
 
-pub leaf_literal : (k l : Kind) (c : Content) (t : Leaf) → IsOfLeaf t l → IsChecked k (literal l c) (Ok t)
-leaf_literal k (boolean n) c leaf.Bool h = (refl, tt)
-leaf_literal k (integer i n) c (leaf.Primitive p) h = (refl, h)
-leaf_literal k l c leaf.Bool h = absurd h
-leaf_literal k l c (leaf.Primitive p) h = absurd h
+pub leaf_literal : (k : Kind) (c : Content) (t : Leaf) (l : Kind) → IsOfLeaf t l → IsChecked k (literal l c) (Ok t)
+leaf_literal k c leaf.Bool (boolean n) h = (refl, tt)
+leaf_literal k c (leaf.Primitive p) (integer i n) h = (refl, h)
+leaf_literal k c leaf.Utf8 (utf8 n) h = (refl, tt)
+leaf_literal k c leaf.Binary (binary n) h = (refl, tt)
+leaf_literal k c t l h = absurd h
 
-pub record_literal : (k l : Kind) (c : Content) → IsOfClass class.Record l → IsChecked k (literal l c) (Err error.UnsupportedPredicate)
-record_literal k (struct fs n) c h = refl
-record_literal k l c h = absurd h
-
-fault_of_leaf : (o : Option Kind) (t : Leaf) → IsClass (Some (class.Leaf t)) o → (column_fault o ≡ None) × IsLeaf t o
-fault_of_leaf (Some (boolean n)) leaf.Bool h = (refl, tt)
-fault_of_leaf (Some (integer i n)) (leaf.Primitive p) h = (refl, h)
-fault_of_leaf None t h = absurd h
-fault_of_leaf (Some k) leaf.Bool h = absurd h
-fault_of_leaf (Some k) (leaf.Primitive p) h = absurd h
+fault_of_leaf : (t : Leaf) (o : Option Kind) → IsClass (Some (class.Leaf t)) o → (column_fault o ≡ None) × IsLeaf t o
+fault_of_leaf leaf.Bool (Some (boolean n)) h = (refl, tt)
+fault_of_leaf (leaf.Primitive p) (Some (integer i n)) h = (refl, h)
+fault_of_leaf leaf.Utf8 (Some (utf8 n)) h = (refl, tt)
+fault_of_leaf leaf.Binary (Some (binary n)) h = (refl, tt)
+fault_of_leaf t o h = absurd h
 
 pub leaf_column : (k : Kind) (xs : Names) (t : Leaf) → IsClass (Some (class.Leaf t)) (type_of_column k xs) → IsChecked k (column xs) (Ok t)
-leaf_column k xs t h = fault_of_leaf (type_of_column k xs) t h
+leaf_column k xs t h = fault_of_leaf t (type_of_column k xs) h
 
-fault_of_record : (o : Option Kind) → IsClass (Some class.Record) o → column_fault o ≡ refusal_of error.NotALeaf
-fault_of_record (Some (struct fs n)) h = refl
-fault_of_record o h = absurd h
+-- what has no least and no greatest value is no leaf
+no_leaf : (k : Kind) → has_bounds k ≡ false → is_leaf k ≡ false
+no_leaf (boolean n) h = cc
+no_leaf (integer i n) h = cc
+no_leaf (utf8 n) h = cc
+no_leaf (binary n) h = cc
+no_leaf k h = refl
 
-pub record_column : (k : Kind) (xs : Names) → IsClass (Some class.Record) (type_of_column k xs) → IsChecked k (column xs) (Err error.NotALeaf)
-record_column k xs h = fault_of_record (type_of_column k xs) h
+pub float_literal : (k l : Kind) (c : Content) → IsOfClass class.Float l → IsChecked k (literal l c) (Err error.UnsupportedPredicate)
+float_literal k (float f n) c h = refl
+float_literal k l c h = absurd h
+
+pub decimal_literal : (k l : Kind) (c : Content) → IsOfClass class.Decimal l → IsChecked k (literal l c) (Err error.UnsupportedPredicate)
+decimal_literal k (decimal p s n) c h = refl
+decimal_literal k l c h = absurd h
+
+pub other_literal : (k l : Kind) (c : Content) → IsOfClass class.Other l → IsChecked k (literal l c) (Err error.UnsupportedPredicate)
+other_literal k l c h = ap (λ b. unless b unsupported_predicate) (no_leaf l h)
+
+fault_of_float : (o : Option Kind) → IsClass (Some class.Float) o → column_fault o ≡ refusal_of error.NotALeaf
+fault_of_float (Some (float f n)) h = refl
+fault_of_float o h = absurd h
+
+pub float_column : (k : Kind) (xs : Names) → IsClass (Some class.Float) (type_of_column k xs) → IsChecked k (column xs) (Err error.NotALeaf)
+float_column k xs h = fault_of_float (type_of_column k xs) h
+
+fault_of_decimal : (o : Option Kind) → IsClass (Some class.Decimal) o → column_fault o ≡ refusal_of error.NotALeaf
+fault_of_decimal (Some (decimal p s n)) h = refl
+fault_of_decimal o h = absurd h
+
+pub decimal_column : (k : Kind) (xs : Names) → IsClass (Some class.Decimal) (type_of_column k xs) → IsChecked k (column xs) (Err error.NotALeaf)
+decimal_column k xs h = fault_of_decimal (type_of_column k xs) h
+
+fault_of_other : (o : Option Kind) → IsClass (Some class.Other) o → column_fault o ≡ refusal_of error.NotALeaf
+fault_of_other (Some k) h = ap (λ b. unless b not_a_leaf) (no_leaf k h)
+fault_of_other None h = absurd h
+
+pub other_column : (k : Kind) (xs : Names) → IsClass (Some class.Other) (type_of_column k xs) → IsChecked k (column xs) (Err error.NotALeaf)
+other_column k xs h = fault_of_other (type_of_column k xs) h
 
 fault_of_none : (o : Option Kind) → IsClass None o → column_fault o ≡ refusal_of error.UnknownColumn
 fault_of_none None h = refl
@@ -56,7 +88,9 @@ fault_of_none (Some k) h = absurd h
 pub no_column : (k : Kind) (xs : Names) → IsClass None (type_of_column k xs) → IsChecked k (column xs) (Err error.UnknownColumn)
 no_column k xs h = fault_of_none (type_of_column k xs) h
 
-pub ruleset of_leaves = (leaf_literal, record_literal, leaf_column, record_column, no_column)
+pub ruleset of_literals = (leaf_literal, float_literal, decimal_literal, other_literal)
+
+pub ruleset of_columns = (leaf_column, float_column, decimal_column, other_column, no_column)
 
 -- ---- reasons
 
@@ -71,17 +105,22 @@ first_reason error.UnsupportedPredicate p q h = ap (λ o. or_else o q) h
 
 -- ---- two types
 
-same_primitive : (p : PType) → same_int_kind (int_kind_of p) (int_kind_of p) ≡ true
-same_primitive ptype.U8 = refl
-same_primitive ptype.U16 = refl
-same_primitive ptype.U32 = refl
-same_primitive ptype.U64 = refl
-same_primitive ptype.I8 = refl
-same_primitive ptype.I16 = refl
-same_primitive ptype.I32 = refl
-same_primitive ptype.I64 = refl
+same_int_kind-refl : (i : IntKind) → same_int_kind i i ≡ true
+same_int_kind-refl u8 = refl
+same_int_kind-refl u16 = refl
+same_int_kind-refl u32 = refl
+same_int_kind-refl u64 = refl
+same_int_kind-refl i8 = refl
+same_int_kind-refl i16 = refl
+same_int_kind-refl i32 = refl
+same_int_kind-refl i64 = refl
 
-unlike_primitive : (p q : PType) → p ≢ q → same_int_kind (int_kind_of p) (int_kind_of q) ≡ false
+-- two kinds of integers are equal
+abbrev same_whole : NumberKind → NumberKind → Bool
+same_whole (whole i) (whole j) = same_int_kind i j
+same_whole k l = false
+
+unlike_primitive : (p q : PType) → p ≢ q → same_whole (number_kind_of p) (number_kind_of q) ≡ false
 unlike_primitive ptype.U8 ptype.U8 h = absurd (h refl)
 unlike_primitive ptype.U16 ptype.U16 h = absurd (h refl)
 unlike_primitive ptype.U32 ptype.U32 h = absurd (h refl)
@@ -94,24 +133,43 @@ unlike_primitive p q h = refl
 
 same_leaf : (a : Leaf) (s t : Option Kind) → IsLeaf a s → IsLeaf a t → same_type s t ≡ true
 same_leaf leaf.Bool (Some (boolean n)) (Some (boolean m)) h g = refl
+same_leaf leaf.Utf8 (Some (utf8 n)) (Some (utf8 m)) h g = refl
+same_leaf leaf.Binary (Some (binary n)) (Some (binary m)) h g = refl
 same_leaf (leaf.Primitive p) (Some (integer i n)) (Some (integer j m)) h g =
-    ap (λ x. same_int_kind x j && true) h ∙ ap (λ x. same_int_kind (int_kind_of p) x && true) g ∙ ap (λ b. b && true) (same_primitive p)
+    ap (λ k. same_whole (whole i) k && true) (g ∙ sym h) ∙ ap (λ b. b && true) (same_int_kind-refl i)
 same_leaf a s None h g = absurd g
 same_leaf a None t h g = absurd h
 same_leaf leaf.Bool (Some (boolean n)) t h g = absurd g
+same_leaf leaf.Utf8 (Some (utf8 n)) t h g = absurd g
+same_leaf leaf.Binary (Some (binary n)) t h g = absurd g
 same_leaf (leaf.Primitive p) (Some (integer i n)) t h g = absurd g
 same_leaf a s t h g = absurd h
 
 unlike_leaf : (a b : Leaf) (s t : Option Kind) → a ≢ b → IsLeaf a s → IsLeaf b t → same_type s t ≡ false
 unlike_leaf leaf.Bool leaf.Bool s t u h g = absurd (u refl)
-unlike_leaf leaf.Bool (leaf.Primitive q) (Some (boolean n)) (Some (integer j m)) u h g = refl
-unlike_leaf (leaf.Primitive p) leaf.Bool (Some (integer i n)) (Some (boolean m)) u h g = refl
+unlike_leaf leaf.Utf8 leaf.Utf8 s t u h g = absurd (u refl)
+unlike_leaf leaf.Binary leaf.Binary s t u h g = absurd (u refl)
 unlike_leaf (leaf.Primitive p) (leaf.Primitive q) (Some (integer i n)) (Some (integer j m)) u h g =
-    ap (λ x. same_int_kind x j && true) h ∙ ap (λ x. same_int_kind (int_kind_of p) x && true) g ∙ ap (λ b. b && true) (unlike_primitive p q (λ e. u (ap leaf.Primitive e)))
+    ap (λ k. same_whole k (whole j) && true) h ∙ ap (λ k. same_whole (number_kind_of p) k && true) g
+    ∙ ap (λ b. b && true) (unlike_primitive p q (λ e. u (ap leaf.Primitive e)))
+unlike_leaf leaf.Bool (leaf.Primitive q) (Some (boolean n)) (Some (integer j m)) u h g = refl
+unlike_leaf leaf.Bool leaf.Utf8 (Some (boolean n)) (Some (utf8 m)) u h g = refl
+unlike_leaf leaf.Bool leaf.Binary (Some (boolean n)) (Some (binary m)) u h g = refl
+unlike_leaf (leaf.Primitive p) leaf.Bool (Some (integer i n)) (Some (boolean m)) u h g = refl
+unlike_leaf (leaf.Primitive p) leaf.Utf8 (Some (integer i n)) (Some (utf8 m)) u h g = refl
+unlike_leaf (leaf.Primitive p) leaf.Binary (Some (integer i n)) (Some (binary m)) u h g = refl
+unlike_leaf leaf.Utf8 leaf.Bool (Some (utf8 n)) (Some (boolean m)) u h g = refl
+unlike_leaf leaf.Utf8 (leaf.Primitive q) (Some (utf8 n)) (Some (integer j m)) u h g = refl
+unlike_leaf leaf.Utf8 leaf.Binary (Some (utf8 n)) (Some (binary m)) u h g = refl
+unlike_leaf leaf.Binary leaf.Bool (Some (binary n)) (Some (boolean m)) u h g = refl
+unlike_leaf leaf.Binary (leaf.Primitive q) (Some (binary n)) (Some (integer j m)) u h g = refl
+unlike_leaf leaf.Binary leaf.Utf8 (Some (binary n)) (Some (utf8 m)) u h g = refl
 unlike_leaf a b s None u h g = absurd g
 unlike_leaf a b None t u h g = absurd h
 unlike_leaf leaf.Bool b (Some (boolean n)) t u h g = absurd g
 unlike_leaf (leaf.Primitive p) b (Some (integer i n)) t u h g = absurd g
+unlike_leaf leaf.Utf8 b (Some (utf8 n)) t u h g = absurd g
+unlike_leaf leaf.Binary b (Some (binary n)) t u h g = absurd g
 unlike_leaf a b s t u h g = absurd h
 
 -- ---- arms
@@ -131,21 +189,52 @@ compare_checked k o x y a b (Err r) h g s =
     (joined_fault (expression_fault k x) (expression_fault k y) (unless (same_type (type_of k x) (type_of k y)) unequal_types) h.0 g.0
     ∙ ap (λ c. unless c unequal_types) (unlike_leaf a b (type_of k x) (type_of k y) s.1 h.1 g.1))
 
-is_boolean-Bool : (o : Option Kind) → IsLeaf leaf.Bool o → is_boolean o ≡ true
-is_boolean-Bool (Some (boolean n)) h = refl
-is_boolean-Bool o h = absurd h
+-- the leaf of truth values
+abbrev is_truth : Leaf → Bool
+is_truth leaf.Bool = true
+is_truth l = false
 
-is_boolean-Primitive : (p : PType) (o : Option Kind) → IsLeaf (leaf.Primitive p) o → is_boolean o ≡ false
-is_boolean-Primitive p (Some (integer i n)) h = refl
-is_boolean-Primitive p o h = absurd h
+is_boolean-leaf : (l : Leaf) (o : Option Kind) → IsLeaf l o → is_boolean o ≡ is_truth l
+is_boolean-leaf leaf.Bool (Some (boolean n)) h = refl
+is_boolean-leaf (leaf.Primitive p) (Some (integer i n)) h = refl
+is_boolean-leaf leaf.Utf8 (Some (utf8 n)) h = refl
+is_boolean-leaf leaf.Binary (Some (binary n)) h = refl
+is_boolean-leaf l o h = absurd h
+
+joined_checked : (k : Kind) (e : Expression) (a b : Leaf) → type_of k e ≡ Some (boolean nullable) → expression_fault k e ≡ unless (is_truth a && is_truth b) not_boolean → IsChecked k e (truths_of a b)
+joined_checked k e leaf.Bool leaf.Bool t h = (h, subst (IsLeaf leaf.Bool) (sym t) tt)
+joined_checked k e a b t h = h
+
+fault_of_truths : (k : Kind) (x y : Expression) (a b : Leaf) → IsChecked k x (Ok a) → IsChecked k y (Ok b) →
+    expression_fault k (both x y) ≡ unless (is_truth a && is_truth b) not_boolean
+fault_of_truths k x y a b h g =
+    joined_fault (expression_fault k x) (expression_fault k y) (unless (is_boolean (type_of k x) && is_boolean (type_of k y)) not_boolean) h.0 g.0
+    ∙ (λ i. unless (is_boolean-leaf a (type_of k x) h.1 i && is_boolean-leaf b (type_of k y) g.1 i) not_boolean)
+
+pub both_checked : (k : Kind) (x y : Expression) (a b : Leaf) (r : Result Leaf PredicateError) →
+    IsChecked k x (Ok a) → IsChecked k y (Ok b) → r ≡ truths_of a b → IsChecked k (both x y) r
+both_checked k x y a b r h g s = subst (IsChecked k (both x y)) (sym s) (joined_checked k (both x y) a b refl (fault_of_truths k x y a b h g))
+
+pub either_checked : (k : Kind) (x y : Expression) (a b : Leaf) (r : Result Leaf PredicateError) →
+    IsChecked k x (Ok a) → IsChecked k y (Ok b) → r ≡ truths_of a b → IsChecked k (either x y) r
+either_checked k x y a b r h g s = subst (IsChecked k (either x y)) (sym s) (joined_checked k (either x y) a b refl (fault_of_truths k x y a b h g))
 
 -- ---- the whole predicate
 
+whole_fault : (k : Kind) (e : Expression) (l : Leaf) → IsChecked k e (Ok l) → predicate_fault k e ≡ unless (is_truth l) not_boolean
+whole_fault k e l h = ap (λ o. or_else o (unless (is_boolean (type_of k e)) not_boolean)) h.0 ∙ ap (λ b. unless b not_boolean) (is_boolean-leaf l (type_of k e) h.1)
+
 pub faultless : (k : Kind) (e : Expression) → IsChecked k e (Ok leaf.Bool) → predicate_fault k e ≡ None
-faultless k e h = ap (λ o. or_else o (unless (is_boolean (type_of k e)) not_boolean)) h.0 ∙ ap (λ b. unless b not_boolean) (is_boolean-Bool (type_of k e) h.1)
+faultless k e h = whole_fault k e leaf.Bool h
 
 pub no_truth : (k : Kind) (e : Expression) (p : PType) → IsChecked k e (Ok (leaf.Primitive p)) → IsReason error.NotBoolean (predicate_fault k e)
-no_truth k e p h = ap (λ o. or_else o (unless (is_boolean (type_of k e)) not_boolean)) h.0 ∙ ap (λ b. unless b not_boolean) (is_boolean-Primitive p (type_of k e) h.1)
+no_truth k e p h = whole_fault k e (leaf.Primitive p) h
+
+pub text_no_truth : (k : Kind) (e : Expression) → IsChecked k e (Ok leaf.Utf8) → IsReason error.NotBoolean (predicate_fault k e)
+text_no_truth k e h = whole_fault k e leaf.Utf8 h
+
+pub bytes_no_truth : (k : Kind) (e : Expression) → IsChecked k e (Ok leaf.Binary) → IsReason error.NotBoolean (predicate_fault k e)
+bytes_no_truth k e h = whole_fault k e leaf.Binary h
 
 pub fault_inside : (k : Kind) (e : Expression) (r : PredicateError) → IsChecked k e (Err r) → IsReason r (predicate_fault k e)
 fault_inside k e r h = first_reason r (expression_fault k e) (unless (is_boolean (type_of k e)) not_boolean) h
@@ -175,4 +264,4 @@ bound_value-bound_of k (statistic x a) row = refl
 pub bound_says : (k : Kind) (e : Expression) (b : Bound) (row : Content) → b ≡ bound_of k e → bound_value b row ≡ value_at k e row
 bound_says k e b row p = ap (λ b. bound_value b row) p ∙ bound_value-bound_of k e row
 
-pub ruleset binding = (faultless, no_truth, fault_inside, bound_says)
+pub ruleset binding = (faultless, no_truth, text_no_truth, bytes_no_truth, fault_inside, bound_says)

@@ -5,11 +5,15 @@ use Rattle.vortex_model.specs.Content.{Content, null, truth, whole, text, blob, 
 use Rattle.vortex_model.specs.Expression.{Expression, literal, Comparison}
 use Rattle.vortex_model.specs.Rewrite.{is_bounded, is_float_placeholder, comparison_falsifier, comparison_falsifiers, guarded, no_nan_by_count, no_nan_by_flag, joined_proofs, falsifier, satisfier}
 use Rattle.vortex_expr.specs.Literals.{literal_falsifier, literal_satisfier}
+use Rattle.vortex_expr.specs.Guards.{kept_from_nan}
 
-joined_if : (a b f g : Bool) (guards : List Expression) (p : Expression) → a ≡ true → b ≡ true → f ≡ false → g ≡ false →
-    joined_proofs (if not (a && b) then [] else (if f || g then guards else p ∷ [])) ≡ Some p
-joined_if true true false false guards p h i j k = refl
-joined_if a b f g guards p h i j k = cc
+joined_if : (a b f g : Bool) (l r p : Expression) → a ≡ true → b ≡ true →
+    joined_proofs (if not (a && b) then [] else (if f || g then guarded no_nan_by_count f g l r p ∷ guarded no_nan_by_flag f g l r p ∷ [] else p ∷ [])) ≡ Some (kept_from_nan f g l r p)
+joined_if true true true g l r p h i = refl
+joined_if true true false true l r p h i = refl
+joined_if true true false false l r p h i = refl
+joined_if true false f g l r p h i = cc
+joined_if false b f g l r p h i = cc
 
 left_open : (a b f g : Bool) (guards : List Expression) (p : Expression) → a ≡ false →
     joined_proofs (if not (a && b) then [] else (if f || g then guards else p ∷ [])) ≡ None
@@ -27,9 +31,9 @@ module _ (k : Kind) (op : Comparison) (l r : Expression) where
   guards = guarded no_nan_by_count (is_float_placeholder k l) (is_float_placeholder k r) l r (comparison_falsifier op l r)
       ∷ guarded no_nan_by_flag (is_float_placeholder k l) (is_float_placeholder k r) l r (comparison_falsifier op l r) ∷ []
 
-  pub one_proof : is_bounded k l ≡ true → is_bounded k r ≡ true → is_float_placeholder k l ≡ false → is_float_placeholder k r ≡ false →
-      joined_proofs (comparison_falsifiers k op l r) ≡ Some (comparison_falsifier op l r)
-  one_proof = joined_if (is_bounded k l) (is_bounded k r) (is_float_placeholder k l) (is_float_placeholder k r) guards (comparison_falsifier op l r)
+  pub one_proof : is_bounded k l ≡ true → is_bounded k r ≡ true →
+      joined_proofs (comparison_falsifiers k op l r) ≡ Some (kept_from_nan (is_float_placeholder k l) (is_float_placeholder k r) l r (comparison_falsifier op l r))
+  one_proof = joined_if (is_bounded k l) (is_bounded k r) (is_float_placeholder k l) (is_float_placeholder k r) l r (comparison_falsifier op l r)
 
   pub unbounded_left : is_bounded k l ≡ false → joined_proofs (comparison_falsifiers k op l r) ≡ None
   unbounded_left = left_open (is_bounded k l) (is_bounded k r) (is_float_placeholder k l) (is_float_placeholder k r) guards (comparison_falsifier op l r)

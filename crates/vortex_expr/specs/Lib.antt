@@ -11,5 +11,6 @@ pub mod BoundFalls
 pub mod Seen
 pub mod Types
 pub mod Literals
+pub mod Guards
 pub mod Faults
 pub mod Stats

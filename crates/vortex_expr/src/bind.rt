@@ -7,7 +7,7 @@ ghost use Rattle.vortex_model.specs.Path.{positions};
 ghost use Rattle.vortex_model.specs.Truth.{value_at};
 ghost use Rattle.vortex_model.specs.Command.{predicate_fault};
 ghost use Rattle.vortex_model.specs.Pruning.{has_no_like};
-ghost use Rattle.vortex_dtype.specs.View.{kind_of};
+ghost use Rattle.vortex_types.specs.View.{kind_of};
 ghost use Rattle.vortex_scalar.specs.Scalar.{scalar_kind, scalar_content};
 ghost use Rattle.vortex_expr.specs.Bound.{fixed, bound_value, bound_of, bound_place};
 ghost use Rattle.vortex_expr.specs.Faults.{IsReason, IsChecked, IsSameOf, truths_of};
@@ -17,10 +17,10 @@ use crate::expression::{Expression, Node};
 use crate::types::{Leaf, TypeClass, class_of, column_class, field_named};
 use std::alloc::{AllocError, AllocFailed, Global};
 use thiserror::Error;
-use vortex_dtype::dtype::DType;
-use vortex_dtype::field_names::FieldNames;
+use vortex_kinds::field_names::FieldNames;
 use vortex_scalar::clone::copy_value;
 use vortex_scalar::scalar::Scalar;
+use vortex_types::dtype::DType;
 
 /// Why a predicate is refused.
 #[derive(Clone, Copy, Debug, PartialEq, Eq, Drop, Error)]
@@ -34,7 +34,7 @@ pub enum PredicateError {
     /// The rows have no such column.
     #[error("no such column")]
     UnknownColumn,
-    /// A column is a record.
+    /// A column is of no type that predicates compare: neither truth values, integers, texts nor bytes.
     #[error("a column is no leaf")]
     NotALeaf,
     /// A comparison is of two types, nullability aside.
@@ -80,6 +80,8 @@ pub fn bind(alloc: Global, e: &Expression, dtype: &DType) -> Result<BoundExpress
     match check(dtype, e)? {
         Leaf::Bool => Ok(resolve(alloc, dtype, e)?),
         Leaf::Primitive(_) => Err(PredicateError::NotBoolean),
+        Leaf::Utf8 => Err(PredicateError::NotBoolean),
+        Leaf::Binary => Err(PredicateError::NotBoolean),
     }
 }
 
@@ -113,24 +115,28 @@ fn check(dtype: &DType, e: &Expression) -> Result<Leaf, PredicateError>
 }
 
 /// The type of a literal, which is to be a leaf.
-#[tactic(auto, using(crate::proofs::Checks::of_leaves))]
+#[tactic(auto, using(crate::proofs::Checks::of_literals))]
 fn check_literal(value: &Scalar) -> Result<Leaf, PredicateError>
     ensures { (k : Kind) (c : Content) → IsChecked k (literal (scalar_kind value.now) c) result }
 {
     match class_of(value.dtype()) {
         TypeClass::Leaf(leaf) => Ok(leaf),
-        TypeClass::Record => Err(PredicateError::UnsupportedPredicate),
+        TypeClass::Float => Err(PredicateError::UnsupportedPredicate),
+        TypeClass::Decimal => Err(PredicateError::UnsupportedPredicate),
+        TypeClass::Other => Err(PredicateError::UnsupportedPredicate),
     }
 }
 
 /// The type of a column, which is to be there and a leaf.
-#[tactic(auto, using(crate::proofs::Checks::of_leaves))]
+#[tactic(auto, using(crate::proofs::Checks::of_columns))]
 fn check_column(dtype: &DType, path: &FieldNames) -> Result<Leaf, PredicateError>
     ensures { IsChecked (kind_of dtype.now) (column path.now) result }
 {
     match column_class(dtype, path) {
         Some(TypeClass::Leaf(leaf)) => Ok(leaf),
-        Some(TypeClass::Record) => Err(PredicateError::NotALeaf),
+        Some(TypeClass::Float) => Err(PredicateError::NotALeaf),
+        Some(TypeClass::Decimal) => Err(PredicateError::NotALeaf),
+        Some(TypeClass::Other) => Err(PredicateError::NotALeaf),
         None => Err(PredicateError::UnknownColumn),
     }
 }
@@ -150,10 +156,12 @@ fn check_same(left: Leaf, right: Leaf) -> Result<Leaf, PredicateError>
 fn check_truths(left: Leaf, right: Leaf) -> Result<Leaf, PredicateError>
     ensures { result ≡ truths_of left right }
 {
-    match (left, right) {
-        (Leaf::Bool, Leaf::Bool) => Ok(Leaf::Bool),
-        (Leaf::Primitive(_), _) => Err(PredicateError::NotBoolean),
-        (_, Leaf::Primitive(_)) => Err(PredicateError::NotBoolean),
+    match left {
+        Leaf::Bool => match right {
+            Leaf::Bool => Ok(Leaf::Bool),
+            Leaf::Primitive(_) | Leaf::Utf8 | Leaf::Binary => Err(PredicateError::NotBoolean),
+        },
+        Leaf::Primitive(_) | Leaf::Utf8 | Leaf::Binary => Err(PredicateError::NotBoolean),
     }
 }
 

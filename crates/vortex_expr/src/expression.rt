@@ -8,7 +8,7 @@ use crate::aggregate::AggregateFn;
 use crate::operator::{Comparison, Operator};
 use std::alloc::{AllocError, Global};
 use std::marker::Model;
-use vortex_dtype::field_names::FieldNames;
+use vortex_kinds::field_names::FieldNames;
 use vortex_scalar::scalar::Scalar;
 
 /// An expression over the rows of a table, as Vortex's `Expression`. A clause sees the tree.

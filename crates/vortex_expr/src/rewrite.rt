@@ -2,22 +2,25 @@
 ghost use Rattle.std.specs.Prelude.{◌≡◌, IfOk, Some, None, false, not};
 ghost use Rattle.std.specs.Option.{option_map_or};
 ghost use Rattle.vortex_model.specs.Expression.{compare, equal, not_equal, min, max};
-ghost use Rattle.vortex_model.specs.Typing.{type_of, has_bounds, is_float};
-ghost use Rattle.vortex_model.specs.Rewrite.{truth_literal, bound_of, is_bounded, is_float_placeholder, comparison_falsifier, comparison_falsifiers, joined_proofs, either_there, both_there, falsifier, satisfier};
-ghost use Rattle.vortex_dtype.specs.View.{kind_of};
+ghost use Rattle.vortex_model.specs.Typing.{type_of, has_bounds};
+ghost use Rattle.vortex_model.specs.Rewrite.{truth_literal, count_literal, bound_of, is_bounded, is_of_floats, is_float_placeholder, comparison_falsifier, comparison_falsifiers, guarded, joined_proofs, either_there, both_there, falsifier, satisfier};
+ghost use Rattle.vortex_types.specs.View.{kind_of};
 ghost use Rattle.vortex_scalar.specs.Scalar.{scalar_content};
 ghost use Rattle.vortex_expr.specs.Tree.{comparison_of, aggregate_of};
 ghost use Rattle.vortex_expr.specs.Literals.{literal_falsifier, literal_satisfier};
+ghost use Rattle.vortex_expr.specs.Guards.{guard_of, kept_from_nan};
 
 use crate::aggregate::AggregateFn;
 use crate::expression::{Expression, Node, and, compare, lit, or, stat};
 use crate::operator::Comparison;
 use crate::types::{TypeClass, type_class};
 use std::alloc::{AllocError, Global};
-use vortex_dtype::dtype::DType;
-use vortex_dtype::nullability::Nullability;
+use vortex_kinds::nullability::Nullability;
+use vortex_kinds::ptype::PType;
+use vortex_scalar::pvalue::PValue;
 use vortex_scalar::scalar::Scalar;
 use vortex_scalar::scalar_value::ScalarValue;
+use vortex_types::dtype::DType;
 
 /// A proof, over statistics, that no row satisfies a predicate over rows of this type, as Vortex's `falsify`. There may be none.
 pub fn falsify(
@@ -64,7 +67,7 @@ pub fn satisfy(
 }
 
 /// A truth value, the same for each row.
-#[tactic(auto, using(vortex_dtype::proofs::Views::one_level, vortex_scalar::proofs::Views::one_level))]
+#[tactic(auto, using(vortex_types::proofs::Views::one_level, vortex_scalar::proofs::Views::one_level))]
 fn truth(value: bool) -> Expression
     ensures { result ≡ truth_literal value }
 {
@@ -114,14 +117,15 @@ fn falsify_comparison(
     if !is_bounded(dtype, y) {
         return Ok(None);
     }
-    let proof = compare_bounds(alloc, comparison, x, y)?;
+    let left = is_float_placeholder(dtype, x);
+    let right = is_float_placeholder(dtype, y);
+    let proof = keep_from_nan(alloc, comparison, left, right, x, y)?;
     Ok(Some(proof))
 }
 
 /// Whether an expression is a literal or has a least and a greatest value.
 fn is_bounded(dtype: &DType, e: &Expression) -> bool
-    ensures bounded { result ≡ is_bounded (kind_of dtype.now) e.now }
-    ensures whole { is_float_placeholder (kind_of dtype.now) e.now ≡ false }
+    ensures { result ≡ is_bounded (kind_of dtype.now) e.now }
 {
     match &e.node {
         Node::Literal(_) => true,
@@ -134,16 +138,129 @@ fn is_bounded(dtype: &DType, e: &Expression) -> bool
 }
 
 /// Whether the values of an expression have a least and a greatest one.
-#[tactic(auto, using(crate::proofs::Classes::by_class))]
+#[tactic(auto, using(crate::proofs::Classes::bounded_by_class))]
 fn has_bounds(dtype: &DType, e: &Expression) -> bool
-    ensures bounded { result ≡ option_map_or has_bounds (type_of (kind_of dtype.now) e.now) false }
-    ensures whole { option_map_or is_float (type_of (kind_of dtype.now) e.now) false ≡ false }
+    ensures { result ≡ option_map_or has_bounds (type_of (kind_of dtype.now) e.now) false }
 {
     match type_class(dtype, e) {
         Some(TypeClass::Leaf(_)) => true,
-        Some(TypeClass::Record) => false,
+        Some(TypeClass::Float) => true,
+        Some(TypeClass::Decimal) => true,
+        Some(TypeClass::Other) => false,
         None => false,
     }
+}
+
+/// Whether an expression is no literal and of float type, so that a value may be NaN.
+fn is_float_placeholder(dtype: &DType, e: &Expression) -> bool
+    ensures { result ≡ is_float_placeholder (kind_of dtype.now) e.now }
+{
+    match &e.node {
+        Node::Literal(_) => false,
+        Node::Column(_) => is_of_floats(dtype, e),
+        Node::Compare(_, _, _) => is_of_floats(dtype, e),
+        Node::And(_, _) => is_of_floats(dtype, e),
+        Node::Or(_, _) => is_of_floats(dtype, e),
+        Node::Stat(_, _) => is_of_floats(dtype, e),
+    }
+}
+
+/// Whether the values of an expression are floats.
+#[tactic(auto, using(crate::proofs::Classes::float_by_class))]
+fn is_of_floats(dtype: &DType, e: &Expression) -> bool
+    ensures { result ≡ is_of_floats (kind_of dtype.now) e.now }
+{
+    match type_class(dtype, e) {
+        Some(TypeClass::Leaf(_)) => false,
+        Some(TypeClass::Float) => true,
+        Some(TypeClass::Decimal) => false,
+        Some(TypeClass::Other) => false,
+        None => false,
+    }
+}
+
+/// How a proof asks that no value is NaN.
+#[derive(Clone, Copy, Debug, PartialEq, Eq)]
+pub(crate) enum NanGuard {
+    Count,
+    Flag,
+}
+
+/// The proof that a comparison is true of no row, where the sides that may hold NaN do not.
+fn keep_from_nan(
+    alloc: Global,
+    comparison: Comparison,
+    left: bool,
+    right: bool,
+    x: &Expression,
+    y: &Expression,
+) -> Result<Expression, AllocError>
+    ensures { IfOk result (λ proof. proof ≡ kept_from_nan left right x.now y.now (comparison_falsifier (comparison_of comparison) x.now y.now)) }
+{
+    let proof = compare_bounds(alloc, comparison, x, y)?;
+    if left || right {
+        let again = proof.clone()?;
+        let by_count = guarded(alloc, NanGuard::Count, left, right, x, y, proof)?;
+        let by_flag = guarded(alloc, NanGuard::Flag, left, right, x, y, again)?;
+        or(alloc, by_count, by_flag)
+    } else {
+        Ok(proof)
+    }
+}
+
+/// A proof, where the flagged sides hold no NaN.
+fn guarded(
+    alloc: Global,
+    guard: NanGuard,
+    left: bool,
+    right: bool,
+    x: &Expression,
+    y: &Expression,
+    proof: Expression,
+) -> Result<Expression, AllocError>
+    ensures { IfOk result (λ all. all ≡ guarded (guard_of guard) left right x.now y.now proof) }
+{
+    match (left, right) {
+        (true, true) => {
+            let first = no_nan(alloc, guard, x)?;
+            let second = no_nan(alloc, guard, y)?;
+            let guards = and(alloc, first, second)?;
+            and(alloc, guards, proof)
+        }
+        (true, false) => {
+            let first = no_nan(alloc, guard, x)?;
+            and(alloc, first, proof)
+        }
+        (false, true) => {
+            let second = no_nan(alloc, guard, y)?;
+            and(alloc, second, proof)
+        }
+        (false, false) => Ok(proof),
+    }
+}
+
+/// The proof that no value of an expression is NaN.
+fn no_nan(alloc: Global, guard: NanGuard, e: &Expression) -> Result<Expression, AllocError>
+    ensures { IfOk result (λ proof. proof ≡ guard_of guard e.now) }
+{
+    match guard {
+        NanGuard::Count => {
+            let count = stat(alloc, AggregateFn::NanCount, e.clone()?)?;
+            compare(alloc, Comparison::Eq, count, no_rows())
+        }
+        NanGuard::Flag => stat(alloc, AggregateFn::AllNonNan, e.clone()?),
+    }
+}
+
+/// The literal for a count of none.
+#[tactic(auto, using(vortex_types::proofs::Views::one_level, vortex_scalar::proofs::Views::one_level))]
+fn no_rows() -> Expression
+    ensures { result ≡ count_literal 0 }
+{
+    lit(Scalar::new_unchecked(
+        DType::Primitive(PType::U64, Nullability::NonNullable),
+        Some(ScalarValue::Primitive(PValue::U64(0))),
+    ))
 }
 
 /// The proof, by the bounds of the two sides, that a comparison is true of no row.

@@ -12,10 +12,10 @@ use crate::aggregate::AggregateFn;
 use crate::expression::{Expression, Node, and, col, compare, lit, or};
 use crate::value::{Value, both_hold, compare_values, one_holds, read, truth_value};
 use std::alloc::{AllocError, Global};
-use vortex_dtype::dtype::DType;
-use vortex_dtype::field_names::FieldNames;
-use vortex_dtype::nullability::Nullability;
+use vortex_kinds::field_names::FieldNames;
+use vortex_kinds::nullability::Nullability;
 use vortex_scalar::scalar::Scalar;
+use vortex_types::dtype::DType;
 
 /// What knows statistics, as Vortex's `StatBinder`.
 pub trait StatBinder {
@@ -95,7 +95,7 @@ fn bind_stat<B: StatBinder>(
 }
 
 /// The literal for a statistic that is not known.
-#[tactic(auto, using(vortex_dtype::proofs::Views::one_level, vortex_scalar::proofs::Views::one_level))]
+#[tactic(auto, using(vortex_types::proofs::Views::one_level, vortex_scalar::proofs::Views::one_level))]
 fn missing_stat() -> Expression
     ensures { result ≡ literal (boolean nullable) null }
 {

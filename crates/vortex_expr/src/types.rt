@@ -3,49 +3,69 @@ ghost use Rattle.std.specs.Prelude.{◌≡◌, IfSome, IfNone, Some, None};
 ghost use Rattle.vortex_model.specs.Path.{position_in, part_at, type_of_column};
 ghost use Rattle.vortex_model.specs.Command.{part_named};
 ghost use Rattle.vortex_model.specs.Typing.{type_of};
-ghost use Rattle.vortex_dtype.specs.View.{kind_of};
-ghost use Rattle.vortex_expr.specs.Types.{IsOfClass, IsClass, kind_at, along, step_along, bound_class, bounds_class, sum_ptype, sum_class, aggregate_class};
+ghost use Rattle.vortex_types.specs.View.{kind_of};
+ghost use Rattle.vortex_expr.specs.Types.{IsOfClass, IsClass, kind_at, along, step_along, bound_class, bounds_class, sum_ptype, sum_class, of_floats, aggregate_class};
 
 use crate::aggregate::AggregateFn;
 use crate::expression::{Expression, Node};
-use vortex_dtype::dtype::DType;
-use vortex_dtype::field_names::{FieldName, FieldNames};
-use vortex_dtype::ptype::PType;
+use vortex_kinds::field_names::{FieldName, FieldNames};
+use vortex_kinds::ptype::PType;
+use vortex_types::dtype::DType;
 
-/// A type whose values compare, nullability aside.
+/// A type whose values predicates compare, nullability aside. The kind of numbers is one of integers.
 #[derive(Clone, Copy, Debug, PartialEq, Eq)]
 pub(crate) enum Leaf {
     Bool,
     Primitive(PType),
+    Utf8,
+    Binary,
 }
 
-/// A type, nullability and fields aside.
+/// A type, as far as it takes statistics.
 #[derive(Clone, Copy, Debug, PartialEq, Eq)]
 pub(crate) enum TypeClass {
     Leaf(Leaf),
-    Record,
+    Float,
+    Decimal,
+    Other,
 }
 
 /// The class of a type.
-#[tactic(auto, using(vortex_dtype::proofs::Views::one_level))]
+#[tactic(auto, using(crate::proofs::Classes::of_types))]
 pub(crate) fn class_of(dtype: &DType) -> TypeClass
     ensures { IsOfClass result (kind_of dtype.now) }
 {
     match dtype {
+        DType::Null => TypeClass::Other,
         DType::Bool(_) => TypeClass::Leaf(Leaf::Bool),
-        DType::Primitive(ptype, _) => TypeClass::Leaf(Leaf::Primitive(*ptype)),
-        DType::Struct(_, _) => TypeClass::Record,
+        DType::Primitive(ptype, _) => {
+            if ptype.is_float() {
+                TypeClass::Float
+            } else {
+                TypeClass::Leaf(Leaf::Primitive(*ptype))
+            }
+        }
+        DType::Decimal(_, _) => TypeClass::Decimal,
+        DType::Utf8(_) => TypeClass::Leaf(Leaf::Utf8),
+        DType::Binary(_) => TypeClass::Leaf(Leaf::Binary),
+        DType::List(_, _) => TypeClass::Other,
+        DType::FixedSizeList(_, _, _) => TypeClass::Other,
+        DType::Map(_, _) => TypeClass::Other,
+        DType::Struct(_, _) => TypeClass::Other,
+        DType::Union(_, _) => TypeClass::Other,
+        DType::Variant(_) => TypeClass::Other,
+        DType::Extension(_) => TypeClass::Other,
     }
 }
 
 /// The position and the type of a record's first field of this name.
-#[tactic(auto, using(vortex_dtype::proofs::Views::one_level))]
+#[tactic(auto, using(crate::proofs::Classes::by_fields))]
 pub(crate) fn field_named<'a>(dtype: &'a DType, name: &FieldName) -> Option<(usize, &'a DType)>
     ensures none { IfNone result (part_named (kind_of dtype.now) name.now ≡ None) }
     ensures position { IfSome result (λ found. position_in (kind_of dtype.now) name.now ≡ Some found.0) }
     ensures part { IfSome result (λ found. part_at (kind_of dtype.now) found.0 ≡ Some (kind_of found.1.now)) }
 {
-    let DType::Struct(fields, _) = dtype else {
+    let Some(fields) = dtype.as_struct_fields_opt() else {
         return None;
     };
     let Some(position) = fields.find(name) else {
@@ -123,9 +143,9 @@ fn placeholder_class(aggregate: AggregateFn, class: TypeClass) -> Option<TypeCla
         AggregateFn::UncompressedSizeInBytes => Some(TypeClass::Leaf(Leaf::Primitive(PType::U64))),
         AggregateFn::AllNull => Some(TypeClass::Leaf(Leaf::Bool)),
         AggregateFn::AllNonNull => Some(TypeClass::Leaf(Leaf::Bool)),
-        AggregateFn::NanCount => None,
-        AggregateFn::AllNan => None,
-        AggregateFn::AllNonNan => None,
+        AggregateFn::NanCount => of_floats(class, TypeClass::Leaf(Leaf::Primitive(PType::U64))),
+        AggregateFn::AllNan => of_floats(class, TypeClass::Leaf(Leaf::Bool)),
+        AggregateFn::AllNonNan => of_floats(class, TypeClass::Leaf(Leaf::Bool)),
     }
 }
 
@@ -135,7 +155,9 @@ fn bound_class(class: TypeClass) -> Option<TypeClass>
 {
     match class {
         TypeClass::Leaf(leaf) => Some(TypeClass::Leaf(leaf)),
-        TypeClass::Record => None,
+        TypeClass::Float => Some(TypeClass::Float),
+        TypeClass::Decimal => Some(TypeClass::Decimal),
+        TypeClass::Other => None,
     }
 }
 
@@ -144,8 +166,8 @@ fn bounds_class(class: TypeClass) -> Option<TypeClass>
     ensures { result ≡ bounds_class class }
 {
     match class {
-        TypeClass::Leaf(_) => Some(TypeClass::Record),
-        TypeClass::Record => None,
+        TypeClass::Leaf(_) | TypeClass::Float | TypeClass::Decimal => Some(TypeClass::Other),
+        TypeClass::Other => None,
     }
 }
 
@@ -158,16 +180,29 @@ fn sum_class(class: TypeClass) -> Option<TypeClass>
         TypeClass::Leaf(Leaf::Primitive(ptype)) => Some(TypeClass::Leaf(Leaf::Primitive(sum_ptype(
             ptype,
         )))),
-        TypeClass::Record => None,
+        TypeClass::Leaf(Leaf::Utf8) | TypeClass::Leaf(Leaf::Binary) => None,
+        TypeClass::Float => Some(TypeClass::Float),
+        TypeClass::Decimal | TypeClass::Other => None,
     }
 }
 
-/// The kind of a sum of integers.
+/// The class of what is asked of floats alone.
+fn of_floats(class: TypeClass, answer: TypeClass) -> Option<TypeClass>
+    ensures { result ≡ of_floats class answer }
+{
+    match class {
+        TypeClass::Float => Some(answer),
+        TypeClass::Leaf(_) | TypeClass::Decimal | TypeClass::Other => None,
+    }
+}
+
+/// The kind of a sum of numbers.
 fn sum_ptype(ptype: PType) -> PType
     ensures { result ≡ sum_ptype ptype }
 {
     match ptype {
         PType::U8 | PType::U16 | PType::U32 | PType::U64 => PType::U64,
         PType::I8 | PType::I16 | PType::I32 | PType::I64 => PType::I64,
+        PType::F16 | PType::F32 | PType::F64 => PType::F64,
     }
 }

@@ -1,3 +1,2 @@
-pub mod Readings
 pub mod RowLemmas
-pub mod KindLemmas
+pub mod AtKinds

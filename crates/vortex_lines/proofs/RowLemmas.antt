@@ -4,8 +4,8 @@ use Rattle.serde_json.specs.Data.{Items, no_items}
 use Rattle.serde_json.specs.View.{items_view}
 use Rattle.serde_json.specs.declared.value.Value.{Value}
 use Rattle.vortex_model.specs.Content.{Raw}
-use Rattle.vortex_dtype.specs.View.{fields_of}
-use Rattle.vortex_dtype.specs.declared.struct_fields.StructField.{StructField}
+use Rattle.vortex_types.specs.View.{fields_of}
+use Rattle.vortex_types.specs.declared.struct_fields.StructField.{StructField}
 use Rattle.vortex_lines.specs.Rows.{readings}
 
 none_left : (items : List Value) (i : ℕ) → length items ≤ i → items_view (drop i items) ≡ no_items

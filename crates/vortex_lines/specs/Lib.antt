@@ -1,5 +1,3 @@
-pub mod Parsed
-pub mod Kinds
 pub mod Rows
 pub mod Where
 pub mod Line

@@ -1,13 +1,13 @@
 -- The command that a line is.
-use Rattle.std.specs.Prelude.{◌≡◌, ℕ, ◌+◌, List, [], ◌∷◌, Bool, true, false, ◌==◌, ◌&&◌, ◌||◌, is_some, Option, Some, None, unwrap_or, if◌then◌else◌, option_map, option_and_then, codes}
+use Rattle.std.specs.Prelude.{ℕ, ◌+◌, List, [], ◌∷◌, ◌==◌, is_some, Option, Some, None, if◌then◌else◌, option_map, option_and_then, codes}
 use Rattle.std.specs.Str.{bytes_eq}
 use Rattle.serde_json.specs.Data.{Data, Items, no_items, item}
 use Rattle.serde_json.specs.Find.{get, as_array, as_str}
 use Rattle.vortex_model.specs.Kind.{Kind}
 use Rattle.vortex_model.specs.Content.{Raw}
 use Rattle.vortex_model.specs.Command.{Command, create, append, scan}
-use Rattle.vortex_lines.specs.Parsed.{data_of, size_of, natural_of, keeps_whole}
-use Rattle.vortex_lines.specs.Kinds.{kind_in, one_if}
+use Rattle.vortex_type_lines.specs.Parsed.{data_of, size_of, natural_of, keeps_whole}
+use Rattle.vortex_type_lines.specs.Kinds.{kind_in, one_if}
 use Rattle.vortex_lines.specs.Rows.{rows_at}
 use Rattle.vortex_lines.specs.Where.{paths_in, predicate_in}
 

@@ -1,15 +1,21 @@
 -- The contents that values are, at a type.
-use Rattle.std.specs.Prelude.{◌≡◌, ℕ, ℤ, List, [], ◌∷◌, Bool, Option, Some, None, unwrap_or, if◌then◌else◌, option_map, option_and_then}
-use Rattle.serde_json.specs.Data.{Num, Data, null, boolean as truth, number, string, array, object, Items, no_items, item}
+use Rattle.std.specs.Prelude.{List, [], ◌∷◌, Option, Some, None, unwrap_or, if◌then◌else◌, option_map, option_and_then}
+use Rattle.serde_json.specs.Data.{Num, Data, null, number, array, Items, no_items, item}
 use Rattle.serde_json.specs.Find.{as_integer}
 use Rattle.vortex_model.specs.Kind.{IntKind, Kind, integer, struct, Fields, no_fields, field}
 use Rattle.vortex_model.specs.Content.{Raw, raw_null, raw_number, raw_tuple}
-use Rattle.vortex_scalar.specs.View.{raws_from}
 use Rattle.vortex_model.specs.Valid.{in_range}
+use Rattle.vortex_kinds.specs.Numbers.{NumberKind, whole, real}
+use Rattle.vortex_scalar.specs.View.{raws_from}
 
--- a number of the kind
+-- an integer of the kind
 abbrev pub number_at : IntKind → Num → Option Raw
 number_at i n = option_and_then (λ z. if in_range i z then Some (raw_number i z) else None) (as_integer n)
+
+-- no number of a float is kept
+abbrev pub number_of : NumberKind → Num → Option Raw
+number_of (whole i) n = number_at i n
+number_of (real f) n = None
 
 -- The reading of a value at a type: null anywhere, a number in range at a kind of integers, an array by position at a record.
 abbrev mutual

@@ -1,7 +1,8 @@
 -- What contracts see of a command, without where it lies in memory.
 use Rattle.std.specs.Prelude.{[], map}
 use Rattle.vortex_model.specs.Command as model
-use Rattle.vortex_dtype.specs.View.{kind_of, steps_of}
+use Rattle.vortex_types.specs.View.{kind_of}
+use Rattle.vortex_paths.specs.View.{steps_of}
 use Rattle.vortex_scalar.specs.View.{raw_in}
 use Rattle.vortex_chunks.specs.declared.table.Layout as rows
 use Rattle.vortex_chunks.specs.declared.table.Layout.TheVariants as layout

@@ -1,16 +1,16 @@
 -- The paths and the predicate of a scan.
-use Rattle.std.specs.Prelude.{◌≡◌, ℕ, List, [], ◌∷◌, Bool, false, true, ◌==◌, ◌&&◌, is_some, Option, Some, None, if◌then◌else◌, option_map, option_and_then, codes}
+use Rattle.std.specs.Prelude.{ℕ, List, [], ◌∷◌, ◌==◌, is_some, Option, Some, None, if◌then◌else◌, option_map, option_and_then, codes}
 use Rattle.std.specs.Str.{bytes_eq}
 use Rattle.serde_json.specs.Data.{Data, Items, no_items, item}
 use Rattle.serde_json.specs.Find.{at, as_array, as_null, as_str}
 use Rattle.vortex_model.specs.Kind.{Kind}
-use Rattle.vortex_dtype.specs.Parts.{is_integer_kind}
+use Rattle.vortex_types.specs.Parts.{is_integer_kind}
 use Rattle.vortex_model.specs.Content.{content_of}
 use Rattle.vortex_model.specs.Valid.{valid}
 use Rattle.vortex_model.specs.Path.{Step, name, element}
 use Rattle.vortex_model.specs.Expression.{Comparison, equal, not_equal, greater, at_least, less, at_most, Expression, literal, column, compare}
-use Rattle.vortex_lines.specs.Parsed.{items_size}
-use Rattle.vortex_lines.specs.Kinds.{kind_in, strings_of}
+use Rattle.vortex_type_lines.specs.Parsed.{items_size}
+use Rattle.vortex_type_lines.specs.Kinds.{kind_in, strings_of}
 use Rattle.vortex_lines.specs.Rows.{reading}
 
 -- ---- paths

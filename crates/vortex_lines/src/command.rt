@@ -1,25 +1,23 @@
 //! Commands from JSON.
 ghost use Rattle.std.specs.Prelude.{◌≡◌, map, option_map, Some, None, if◌then◌else◌};
 ghost use Rattle.serde_json.specs.View.{view, items_view};
-ghost use Rattle.vortex_lines.specs.Parsed.{Gives};
+ghost use Rattle.vortex_type_lines.specs.Parsed.{Gives};
 ghost use Rattle.vortex_lines.specs.Line.{layout_named, layouts_of, layouts_in, rows_in, create_in, append_in, scan_in, verb_named, command_in, command_of};
 ghost use Rattle.vortex_lines.specs.View.{layout_of, verb_of, shown};
-ghost use Rattle.vortex_dtype.specs.View.{kind_of};
+ghost use Rattle.vortex_types.specs.View.{kind_of};
 ghost use Rattle.vortex_scalar.specs.View.{raw_in};
 
-use crate::fault::Fault;
-use crate::kinds::{one_if_there, read_dtype};
-use crate::parsed::{is_whole, parse, size};
 use crate::paths::read_paths;
 use crate::predicates::read_predicate;
 use crate::rows::read_rows;
 use serde_json::Value;
 use std::alloc::Global;
 use vortex_chunks::table::Layout;
-use vortex_dtype::dtype::DType;
-use vortex_dtype::field::FieldPath;
 use vortex_expr::expression::Expression;
+use vortex_paths::path::FieldPath;
 use vortex_scalar::scalar_value::ScalarValue;
+use vortex_type_lines::{Fault, is_whole, one_if_there, parse, read_dtype, size};
+use vortex_types::dtype::DType;
 
 /// A command of a line.
 #[derive(Drop)]

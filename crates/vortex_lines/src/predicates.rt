@@ -2,27 +2,25 @@
 ghost use Rattle.std.specs.Prelude.{◌≡◌, is_some, option_map};
 ghost use Rattle.serde_json.specs.View.{view, items_view};
 ghost use Rattle.vortex_model.specs.Expression.{compare};
-ghost use Rattle.vortex_dtype.specs.View.{kind_of};
-ghost use Rattle.vortex_lines.specs.Parsed.{Gives};
+ghost use Rattle.vortex_types.specs.View.{kind_of};
+ghost use Rattle.vortex_type_lines.specs.Parsed.{Gives};
 ghost use Rattle.vortex_lines.specs.Where.{literal_at, literal_in, column_in, operand_named, operand_in, comparison_named, comparison_in, predicate_named, predicate_in};
 
-use crate::fault::Fault;
-use crate::kinds::{read_dtype, read_names};
-use crate::parsed::length;
 use crate::rows::read_value;
 use serde_json::Value;
 use std::alloc::Global;
-use vortex_dtype::dtype::DType;
-use vortex_dtype::field_names::FieldNames;
 use vortex_expr::expression::{Expression, col, eq, gt, gt_eq, lit, lt, lt_eq, not_eq};
+use vortex_kinds::field_names::FieldNames;
 use vortex_scalar::scalar::Scalar;
+use vortex_type_lines::{Fault, length, read_dtype, read_names};
+use vortex_types::dtype::DType;
 
 /// A literal of a kind of integers, whose reading is valid.
 fn read_literal_at(alloc: Global, dtype: DType, value: &Value) -> Result<Expression, Fault>
     ensures { Gives (λ e. e) result (literal_at (kind_of dtype) (view value.now)) }
 {
     let content = read_value(value, alloc, &dtype)?;
-    if !dtype.is_primitive() {
+    if !dtype.is_int() {
         return Err(Fault::Bad);
     }
     match Scalar::try_new(dtype, content) {

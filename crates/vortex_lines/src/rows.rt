@@ -1,23 +1,24 @@
 //! Rows from JSON, as values of a type.
 ghost use Rattle.std.specs.Prelude.{◌≡◌, map, IfOk, IfErr};
 ghost use Rattle.serde_json.specs.View.{view, items_view, number_view};
-ghost use Rattle.vortex_dtype.specs.View.{kind_of, fields_of, int_kind_of};
+ghost use Rattle.vortex_kinds.specs.View.{number_kind_of};
+ghost use Rattle.vortex_types.specs.View.{kind_of, fields_in, fields_of};
 ghost use Rattle.vortex_scalar.specs.View.{raw_in};
-ghost use Rattle.vortex_lines.specs.Parsed.{Gives};
-ghost use Rattle.vortex_lines.specs.Rows.{number_at, reading, readings, row_at, rows_at};
+ghost use Rattle.vortex_type_lines.specs.Parsed.{Gives};
+ghost use Rattle.vortex_lines.specs.Rows.{number_of, reading, readings, row_at, rows_at};
 
-use crate::fault::Fault;
 use serde_json::{Number, Value};
 use std::alloc::Global;
-use vortex_dtype::dtype::DType;
-use vortex_dtype::ptype::PType;
-use vortex_dtype::struct_fields::StructField;
+use vortex_kinds::ptype::PType;
 use vortex_scalar::pvalue::PValue;
 use vortex_scalar::scalar_value::ScalarValue;
+use vortex_type_lines::Fault;
+use vortex_types::dtype::DType;
+use vortex_types::struct_fields::StructField;
 
-/// The number of a kind that a JSON number is, if it is in range.
+/// The number of a kind that a JSON number is, if it is in range. Kinds of floats have none.
 fn read_number(ptype: PType, number: &Number) -> Result<Option<ScalarValue>, Fault>
-    ensures { Gives raw_in result (number_at (int_kind_of ptype) (number_view number.now)) }
+    ensures { Gives raw_in result (number_of (number_kind_of ptype) (number_view number.now)) }
 {
     let whole = number.as_i128().ok_or(Fault::Bad)?;
     match PValue::of(ptype, whole) {
@@ -26,25 +27,23 @@ fn read_number(ptype: PType, number: &Number) -> Result<Option<ScalarValue>, Fau
     }
 }
 
-/// The value of a type that a JSON value is: null, a number in range, or an array by position of a record's fields.
+/// The value of a type that a JSON value is: null, an integer in range, or an array by position of a record's fields.
 #[cycle(row)]
 pub fn read_value(value: &Value, alloc: Global, dtype: &DType) -> Result<Option<ScalarValue>, Fault>
     ensures { Gives raw_in result (reading (kind_of dtype.now) (view value.now)) }
 {
     match value {
-        Value::Array(items) => match dtype {
-            DType::Struct(fields, _) => {
+        Value::Array(items) => match dtype.as_struct_fields_opt() {
+            Some(fields) => {
                 let values = read_fields(items, alloc, fields.as_slice())?;
                 Ok(Some(ScalarValue::Tuple(values)))
             }
-            DType::Bool(_) => Err(Fault::Bad),
-            DType::Primitive(_, _) => Err(Fault::Bad),
+            None => Err(Fault::Bad),
         },
         Value::Null => Ok(None),
-        Value::Number(number) => match dtype {
-            DType::Primitive(ptype, _) => read_number(*ptype, number),
-            DType::Bool(_) => Err(Fault::Bad),
-            DType::Struct(_, _) => Err(Fault::Bad),
+        Value::Number(number) => match dtype.as_ptype_opt() {
+            Some(ptype) => read_number(ptype, number),
+            None => Err(Fault::Bad),
         },
         Value::Bool(_) => Err(Fault::Bad),
         Value::String(_) => Err(Fault::Bad),

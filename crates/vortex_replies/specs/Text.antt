@@ -1,18 +1,11 @@
 -- The texts of answers: compact, with the keys of an object in byte order.
-use Rattle.std.specs.Prelude.{ℕ, ℤ, List, [], ◌∷◌, ◌++◌, Bool, true, false, if◌then◌else◌, codes, decimal, Option, Some, None}
+use Rattle.std.specs.Prelude.{ℕ, List, [], ◌∷◌, ◌++◌, Bool, true, false, codes, decimal, Option, Some, None}
 use Rattle.std.specs.Fmt.{signed_decimal}
 use Rattle.json.specs.Print.{quoted}
-use Rattle.vortex_model.specs.Kind.{Nullability, is_nullable, IntKind, u8, u16, u32, u64, i8, i16, i32, i64, Kind, boolean, integer, utf8, binary, list, fixed_list, struct, Fields, no_fields, field}
 use Rattle.vortex_model.specs.Content.{Content, null, truth, whole, text, tuple, Contents, nothing, first}
 use Rattle.vortex_model.specs.Refusal.{Refusal, not_a_record, unkept_type, repeated_name, invalid_value, not_convertible, total, no_such_group, unknown_path, element_step, placeholder, unknown_column, not_a_leaf, unequal_types, not_boolean, unsupported_like, no_table, unsupported_predicate, repeated_path, number_of}
 use Rattle.vortex_model.specs.Scan.{ScanAnswer}
-
-abbrev pub flag_text : Bool → List ℕ
-flag_text b = if b then codes "true" else codes "false"
-
--- before what is not first
-abbrev pub comma : Bool → List ℕ
-comma later = if later then 44 ∷ [] else []
+use Rattle.vortex_type_texts.specs.Text.{flag_text, comma, kind_text}
 
 -- ---- contents
 
@@ -37,49 +30,6 @@ rows_text later (c ∷ cs) = comma later ++ content_text c ++ rows_text true cs
 abbrev pub numbers_text : Bool → List ℕ → List ℕ
 numbers_text later [] = []
 numbers_text later (n ∷ ns) = comma later ++ decimal n ++ numbers_text true ns
-
--- ---- types
-
-abbrev pub int_kind_text : IntKind → List ℕ
-int_kind_text u8 = codes "u8"
-int_kind_text u16 = codes "u16"
-int_kind_text u32 = codes "u32"
-int_kind_text u64 = codes "u64"
-int_kind_text i8 = codes "i8"
-int_kind_text i16 = codes "i16"
-int_kind_text i32 = codes "i32"
-int_kind_text i64 = codes "i64"
-
-abbrev pub plain_text : List ℕ → Nullability → List ℕ
-plain_text name n = codes "{\"kind\":\"" ++ name ++ codes "\",\"nullable\":" ++ flag_text (is_nullable n) ++ codes "}"
-
-abbrev pub names_text : Bool → Fields → List ℕ
-names_text later no_fields = []
-names_text later (field x k fs) = comma later ++ quoted x ++ names_text true fs
-
--- what stands behind the children of a record
-abbrev pub struct_end_text : Fields → Nullability → List ℕ
-struct_end_text fs n =
-    codes "],\"kind\":\"struct\",\"names\":[" ++ names_text false fs ++ codes "],\"nullable\":" ++ flag_text (is_nullable n) ++ codes "}"
-
--- A type as a table can hold it.
-abbrev mutual
-  pub kind_text : Kind → List ℕ
-  kind_text (boolean n) = plain_text (codes "bool") n
-  kind_text (integer i n) = plain_text (int_kind_text i) n
-  kind_text (utf8 n) = plain_text (codes "utf8") n
-  kind_text (binary n) = plain_text (codes "binary") n
-  kind_text (list k n) =
-      codes "{\"children\":[" ++ kind_text k ++ codes "],\"kind\":\"list\",\"nullable\":" ++ flag_text (is_nullable n) ++ codes "}"
-  kind_text (fixed_list k m n) =
-      codes "{\"children\":[" ++ kind_text k ++ codes "],\"kind\":\"fixed_size_list\",\"nullable\":" ++ flag_text (is_nullable n)
-      ++ codes ",\"size\":" ++ decimal m ++ codes "}"
-  kind_text (struct fs n) = codes "{\"children\":[" ++ children_text false fs ++ struct_end_text fs n
-  kind_text k = []
-
-  pub children_text : Bool → Fields → List ℕ
-  children_text later no_fields = []
-  children_text later (field x k fs) = comma later ++ kind_text k ++ children_text true fs
 
 -- ---- answers
 
@@ -109,6 +59,7 @@ place_of (invalid_value i) = Some i
 place_of (not_convertible i) = Some i
 place_of (unknown_path i) = Some i
 place_of (element_step i) = Some i
+place_of (repeated_path i) = Some i
 place_of r = None
 
 abbrev pub place_text : Option ℕ → List ℕ

@@ -1,44 +1,14 @@
 //! Values as text. Nothing is allocated but for the growth of the buffer.
-ghost use Rattle.std.specs.Prelude.{◌≡◌, ◌++◌, OnOk, false, decimal, pos};
+ghost use Rattle.std.specs.Prelude.{◌≡◌, ◌++◌, OnOk, false};
 ghost use Rattle.std.specs.Fmt.{signed_decimal};
 ghost use Rattle.vortex_model.specs.Content.{content_of, contents_of};
 ghost use Rattle.vortex_scalar.specs.View.{raw_of, raw_at, raws_in, integer_of};
-ghost use Rattle.vortex_replies.specs.Text.{flag_text, comma, content_text, contents_text, numbers_text};
+ghost use Rattle.vortex_replies.specs.Text.{content_text, contents_text, numbers_text};
 
-use itoa::{Buffer, Integer};
 use std::alloc::AllocError;
 use vortex_scalar::pvalue::PValue;
 use vortex_scalar::scalar_value::ScalarValue;
-
-/// Writes `true` or `false`.
-pub fn push_flag(out: &mut Vec<u8>, flag: bool) -> Result<(), AllocError>
-    ensures { OnOk result (out.new.items ≡ out.old.items ++ flag_text flag) }
-{
-    if flag {
-        out.extend_from_slice(b"true")
-    } else {
-        out.extend_from_slice(b"false")
-    }
-}
-
-/// Writes an integer in decimal digits.
-pub fn push_number<I: Integer>(out: &mut Vec<u8>, n: I) -> Result<(), AllocError>
-    ensures { OnOk result (out.new.items ≡ out.old.items ++ I.text n) }
-{
-    let mut buffer = Buffer::new();
-    out.extend_from_slice(buffer.format(n).as_bytes())
-}
-
-/// Writes a comma before what is not first.
-pub(crate) fn push_comma(out: &mut Vec<u8>, later: bool) -> Result<(), AllocError>
-    ensures { OnOk result (out.new.items ≡ out.old.items ++ comma later) }
-{
-    if later {
-        out.extend_from_slice(b",")
-    } else {
-        Ok(())
-    }
-}
+use vortex_type_texts::{push_comma, push_flag, push_number};
 
 /// Writes the numbers with commas between.
 pub fn push_numbers(out: &mut Vec<u8>, numbers: &[usize]) -> Result<(), AllocError>

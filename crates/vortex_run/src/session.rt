@@ -2,7 +2,8 @@
 ghost use Rattle.std.specs.Prelude.{◌≡◌, ℕ, List, [], map, None, OnOk, refl};
 ghost use Rattle.std.proofs.Common.{inl};
 ghost use Rattle.vortex_model.specs.Command.{create, append, scan};
-ghost use Rattle.vortex_dtype.specs.View.{kind_of, steps_of};
+ghost use Rattle.vortex_types.specs.View.{kind_of};
+ghost use Rattle.vortex_paths.specs.View.{steps_of};
 ghost use Rattle.vortex_scalar.specs.View.{raw_in};
 ghost use Rattle.vortex_chunks.specs.AnswerView.{answer_of};
 ghost use Rattle.vortex_replies.specs.Text.{scan_text};
@@ -14,13 +15,14 @@ use crate::refused::{bad_line, fault, without_table};
 use std::alloc::{AllocError, Global};
 use vortex_chunks::answer::ScanAnswer;
 use vortex_chunks::table::{Layout, Table};
-use vortex_dtype::dtype::DType;
-use vortex_dtype::field::FieldPath;
 use vortex_expr::expression::Expression;
-use vortex_lines::{Command, Fault, read_command};
+use vortex_lines::{Command, read_command};
+use vortex_paths::path::FieldPath;
 use vortex_replies::push_scan;
 use vortex_scalar::scalar_value::ScalarValue;
 use vortex_streams::{Machine, Spoken};
+use vortex_type_lines::Fault;
+use vortex_types::dtype::DType;
 
 /// Writes the line of a scan's answer in place of what the buffer holds.
 fn write_found(alloc: Global, answer: &ScanAnswer, out: &mut Vec<u8>) -> Result<(), AllocError>

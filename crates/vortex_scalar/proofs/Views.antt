@@ -1,14 +1,15 @@
 -- One level of a value, and what is left of a list of values.
 use Rattle.std.proofs.Math.Bool.{and-false, true-and, false-and}
-use Rattle.std.proofs.Common.{◌++◌, ◌&&◌, true, ◌≢◌, sym, false, ◌≡◌, suc, List, [], ◌∷◌, length, map, option_map, Option, Some, None, Bool, Vec, Global, refl, ap, ◌∙◌, rules}
-use Rattle.vortex_model.specs.Content.{Raw, content_of, is_null, raw_truth, raw_number, raw_tuple, Raws, no_raws, raw_first, raw_count, count, contents_of, contents_from, first}
-use Rattle.std.specs.Cmp.Derive.{both_true}
-use Rattle.vortex_model.specs.Kind.{stored}
-use Rattle.vortex_model.specs.Valid.{has, valid, fields_have}
-use Rattle.vortex_model.specs.Convert.{fields_convert}
-use Rattle.vortex_dtype.specs.View.{kind_of, fields_of}
-use Rattle.vortex_dtype.specs.declared.struct_fields.StructField.{StructField}
-use Rattle.vortex_dtype.proofs.Views as types
+use Rattle.std.proofs.Common.{◌≡◌, ◌≢◌, ℤ, sym, false, suc, List, [], ◌∷◌, length, map, option_map, Option, Some, None, Bool, Vec, Global, refl, ap, ◌∙◌, rules}
+use Rattle.vortex_model.specs.Kind.{Kind, IntKind, Nullability, null_only, boolean, integer, float, decimal, utf8, binary, list, fixed_list, mapping, struct, union, variant, extension, stored, is_nullable, nullability_of}
+use Rattle.vortex_model.specs.Content.{Raw, content_of, is_null, raw_null, raw_truth, raw_number, raw_tuple, Raws, no_raws, raw_first, raw_count, count, contents_of, contents_from, first}
+use Rattle.vortex_model.specs.Valid.{has, fields_have}
+use Rattle.vortex_kinds.specs.Numbers.{NumberKind, whole, real, type_of_numbers}
+use Rattle.vortex_types.specs.Parts.{is_boolean_kind, numbers_in_kind}
+use Rattle.vortex_types.specs.View.{fields_of}
+use Rattle.vortex_types.specs.declared.struct_fields.StructField.{StructField}
+use Rattle.vortex_types.proofs.Views as types
+use Rattle.vortex_scalar.specs.Numbers.{is_number_of}
 use Rattle.vortex_scalar.specs.View.{kind_of_number, integer_of, or_null, raws_from, raw_step, raw_of, raw_in, raws_in, content_in}
 use Rattle.vortex_scalar.specs.declared.pvalue.PValue.{PValue}
 use Rattle.vortex_scalar.specs.declared.scalar_value.ScalarValue as value
@@ -50,13 +51,61 @@ count-contents_of (raw_first r rs) = ap suc (count-contents_of rs)
 
 pub ruleset one_level = (is_null-raw_of, raw_of-Bool, raw_of-Primitive, raw_of-Tuple, raw_count-raws_in, count-contents_of)
 
+-- whether a type has null is said by its outer nullability, also under an extension
+pub has-null : (k : Kind) → has (stored k) raw_null ≡ is_nullable (nullability_of k)
+has-null null_only = refl
+has-null (boolean n) = refl
+has-null (integer i n) = refl
+has-null (float f n) = refl
+has-null (decimal p s n) = refl
+has-null (utf8 n) = refl
+has-null (binary n) = refl
+has-null (list k n) = refl
+has-null (fixed_list k m n) = refl
+has-null (mapping k v s n) = refl
+has-null (struct fs n) = refl
+has-null (union vs n) = refl
+has-null (variant n) = refl
+has-null (extension id meta k) = has-null k
+
+pub ruleset nulls = (one_level, has-null)
+
 pub unequal_lengths : (fs : List StructField) (vs : List (Option ScalarValue)) → length fs ≢ length vs → false ≡ fields_have (fields_of fs) (raws_in vs)
 unequal_lengths [] [] n = absurd (n refl)
 unequal_lengths [] (v ∷ vs) n = refl
 unequal_lengths (f ∷ fs) [] n = refl
 unequal_lengths (f ∷ fs) (v ∷ vs) n = rw (← unequal_lengths fs vs (λ e. n (ap suc e))) (sym (and-false _))
 
-pub ruleset levels = (types.one_level, types.stored-kind_of, one_level, unequal_lengths, true-and, false-and)
+-- only the type of truth values has a truth value, and only types of numbers have a number
+pub has-truth : (k : Kind) (b : Bool) → has k (raw_truth b) ≡ is_boolean_kind k
+has-truth null_only b = refl
+has-truth (boolean n) b = refl
+has-truth k b = refl
+
+abbrev number_in : Option NumberKind → IntKind → ℤ → Bool
+number_in None j z = false
+number_in (Some p) j z = is_number_of p j z
+
+pub has-number : (k : Kind) (j : IntKind) (z : ℤ) → has k (raw_number j z) ≡ number_in (numbers_in_kind k) j z
+has-number (integer i n) j z = refl
+has-number (float f n) j z = refl
+has-number k j z = refl
+
+pub no_tuple_in_numbers : (k : NumberKind) (n : Nullability) (rs : Raws) → has (type_of_numbers k n) (raw_tuple rs) ≡ false
+no_tuple_in_numbers (whole i) n rs = refl
+no_tuple_in_numbers (real f) n rs = refl
+
+pub stored-numbers : (k : NumberKind) (n : Nullability) → stored (type_of_numbers k n) ≡ type_of_numbers k n
+stored-numbers (whole i) n = refl
+stored-numbers (real f) n = refl
+
+pub ruleset valid_values = (nulls, has-truth, has-number)
+
+pub ruleset valid_tuples = (types.one_level, one_level, no_tuple_in_numbers, types.extension_kind-parts, true-and, false-and)
+
+pub ruleset valid_fields = (types.one_level, types.field_of-parts, one_level, unequal_lengths, true-and, false-and)
+
+pub ruleset unwrapped = (types.one_level, types.extension_kind-parts, stored-numbers)
 
 -- the contents of a list of values, value by value
 pub contents_of-raws_in : (vs : List (Option ScalarValue)) → contents_of (raws_in vs) ≡ contents_from (map content_in vs)
@@ -65,37 +114,3 @@ contents_of-raws_in (v ∷ vs) = ap (λ cs. first (content_in v) cs) (contents_o
 
 pub same_contents : (vs ws : List (Option ScalarValue)) → map content_in vs ≡ map content_in ws → contents_of (raws_in vs) ≡ contents_of (raws_in ws)
 same_contents vs ws e = contents_of-raws_in vs ∙ ap (λ cs. contents_from cs) e ∙ sym (contents_of-raws_in ws)
-
-pub unequal_sources : (fs gs : List StructField) (vs : List (Option ScalarValue)) → length fs ≢ length vs → fields_convert (fields_of fs) (fields_of gs) (contents_of (raws_in vs)) ≡ false
-unequal_sources [] [] [] n = absurd (n refl)
-unequal_sources [] [] (v ∷ vs) n = refl
-unequal_sources [] (g ∷ gs) vs n = refl
-unequal_sources (f ∷ fs) [] vs n = refl
-unequal_sources (f ∷ fs) (g ∷ gs) [] n = refl
-unequal_sources (f ∷ fs) (g ∷ gs) (v ∷ vs) n = rw (unequal_sources fs gs vs (λ e. n (ap suc e))) (and-false _)
-
-pub unequal_targets : (fs gs : List StructField) (vs : List (Option ScalarValue)) → length gs ≢ length vs → fields_convert (fields_of fs) (fields_of gs) (contents_of (raws_in vs)) ≡ false
-unequal_targets [] [] [] n = absurd (n refl)
-unequal_targets [] [] (v ∷ vs) n = refl
-unequal_targets [] (g ∷ gs) vs n = refl
-unequal_targets (f ∷ fs) [] vs n = refl
-unequal_targets (f ∷ fs) (g ∷ gs) [] n = refl
-unequal_targets (f ∷ fs) (g ∷ gs) (v ∷ vs) n = rw (unequal_targets fs gs vs (λ e. n (ap suc e))) (and-false _)
-
-left_true : (a b : Bool) → a && b ≡ true → a ≡ true
-left_true true b e = refl
-left_true false b e = absurd (cc (e))
-
-right_true : (a b : Bool) → a && b ≡ true → b ≡ true
-right_true true b e = e
-right_true false b e = absurd (cc (e))
-
--- one more valid value
-pub fields_have-more : (fs : List StructField) (vs : List (Option ScalarValue)) (f : StructField) (v : Option ScalarValue) →
-    fields_have (fields_of fs) (raws_in vs) ≡ true → valid (kind_of f.dtype) (raw_in v) ≡ true → fields_have (fields_of (fs ++ f ∷ [])) (raws_in (vs ++ v ∷ [])) ≡ true
-fields_have-more [] [] f v h g = both_true (ap (λ p. has (stored p.1) (raw_in v)) (types.field_of-parts f) ∙ g) refl
-fields_have-more [] (w ∷ vs) f v h g = absurd (cc (h))
-fields_have-more (e ∷ fs) [] f v h g = absurd (cc (h))
-fields_have-more (e ∷ fs) (w ∷ vs) f v h g = both_true (left_true _ _ h) (fields_have-more fs vs f v (right_true _ _ h) g)
-
-pub ruleset casts = (levels, same_contents, unequal_sources, unequal_targets, fields_have-more)

@@ -1,2 +1,4 @@
+pub mod Converting
+pub mod Numbers
 pub mod Scalar
 pub mod View

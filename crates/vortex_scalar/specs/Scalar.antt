@@ -1,7 +1,7 @@
 -- What a value with its type stands for.
 use Rattle.vortex_model.specs.Kind.{Kind}
 use Rattle.vortex_model.specs.Content.{Content, Raw}
-use Rattle.vortex_dtype.specs.View.{kind_of}
+use Rattle.vortex_types.specs.View.{kind_of}
 use Rattle.vortex_scalar.specs.View.{raw_in, content_in}
 use Rattle.vortex_scalar.specs.declared.scalar.Scalar.{Scalar}
 

@@ -1,21 +1,25 @@
 //! Conversion between types, which keeps what a value says.
 ghost use Rattle.std.specs.Prelude.{◌≡◌, true, false, IfOk, IsErrOf};
-ghost use Rattle.vortex_model.specs.Valid.{valid, fields_have};
-ghost use Rattle.vortex_model.specs.Convert.{converts, fields_convert};
-ghost use Rattle.vortex_model.specs.Content.{contents_of};
-ghost use Rattle.vortex_dtype.specs.View.{kind_of, fields_of};
-ghost use Rattle.vortex_scalar.specs.View.{raw_in, raws_in, content_in, content_at};
+ghost use Rattle.vortex_model.specs.Content.{contents_of, tuple, raw_tuple};
+ghost use Rattle.vortex_model.specs.Valid.{valid, all_have, fields_have};
+ghost use Rattle.vortex_model.specs.Convert.{converts, all_convert, fields_convert};
+ghost use Rattle.vortex_types.specs.View.{kind_of, fields_of};
+ghost use Rattle.vortex_scalar.specs.Converting.{is_kept};
+ghost use Rattle.vortex_scalar.specs.View.{raw_in, raw_at, raws_in, content_in, content_at};
 
 use crate::error::ScalarError;
+use crate::kept::{is_kept, keep_value};
+use crate::leaves::{cast_number, converts_truth, list_element, takes_length};
 use crate::scalar_value::ScalarValue;
 use std::alloc::Global;
-use vortex_dtype::dtype::DType;
-use vortex_dtype::struct_fields::StructField;
+use vortex_types::dtype::DType;
+use vortex_types::struct_fields::StructField;
 
 /// The value as one of the target type, with the same content. `None` is null. It is refused by `NotConvertible`
-/// where the target can't hold the content, and takes time linear in the value.
+/// where the target can't hold the content, and takes time linear in the value. `Invalid` says that the source
+/// does not have the value; it is looked for only where the value is kept as it is.
 #[cycle(cast)]
-#[tactic(auto, using(crate::proofs::Views::casts))]
+#[tactic(auto, using(crate::proofs::Casts::values))]
 pub fn cast_value(
     alloc: Global,
     source: &DType,
@@ -28,7 +32,7 @@ pub fn cast_value(
     ensures valid { IfOk result (λ new. valid (kind_of target.now) (raw_in new) ≡ true) }
     ensures refused { IsErrOf result ScalarError.NotConvertible
         → converts (kind_of source.now) (kind_of target.now) (content_at value.entry) ≡ false }
-    ensures never_invalid { IsErrOf result ScalarError.Invalid → ⊥ }
+    ensures invalid { IsErrOf result ScalarError.Invalid → valid (kind_of source.now) (raw_at value.entry) ≡ false }
 {
     let Some(value) = value else {
         if target.is_nullable() {
@@ -36,31 +40,94 @@ pub fn cast_value(
         }
         return Err(ScalarError::NotConvertible);
     };
-    match (source, target, value) {
-        (DType::Bool(_), DType::Bool(_), ScalarValue::Bool(flag)) => {
+    if is_kept(source) {
+        let kept = keep_value(source, target, value)?;
+        return Ok(Some(kept));
+    }
+    match value {
+        ScalarValue::Bool(flag) => {
+            if !converts_truth(source, target, *flag) {
+                return Err(ScalarError::NotConvertible);
+            }
             Ok(Some(ScalarValue::Bool(*flag)))
         }
-        (DType::Primitive(_, _), DType::Primitive(ptype, _), ScalarValue::Primitive(number)) => {
-            match number.cast(*ptype) {
-                Some(number) => Ok(Some(ScalarValue::Primitive(number))),
-                None => Err(ScalarError::NotConvertible),
-            }
+        ScalarValue::Primitive(number) => {
+            let number = cast_number(source, target, *number)?;
+            Ok(Some(ScalarValue::Primitive(number)))
         }
-        (DType::Struct(sources, _), DType::Struct(targets, _), ScalarValue::Tuple(items)) => {
-            let all = cast_fields(
-                alloc,
-                sources.as_slice(),
-                targets.as_slice(),
-                items.as_slice(),
-            )?;
+        ScalarValue::Tuple(items) => {
+            let all = cast_tuple(alloc, source, target, items.as_slice())?;
             Ok(Some(ScalarValue::Tuple(all)))
         }
-        _ => Err(ScalarError::NotConvertible),
     }
 }
 
+// The same of the values of a list or a record.
 #[cycle(cast)]
-#[tactic(auto, using(crate::proofs::Views::casts))]
+#[tactic(auto, using(crate::proofs::Casts::tuples))]
+fn cast_tuple(
+    alloc: Global,
+    source: &DType,
+    target: &DType,
+    items: &[Option<ScalarValue>],
+) -> Result<Vec<Option<ScalarValue>>, ScalarError>
+    requires { is_kept (kind_of source.now) ≡ false }
+    ensures converts { IfOk result (λ _.
+        converts (kind_of source.now) (kind_of target.now) (tuple (contents_of (raws_in items.now))) ≡ true) }
+    ensures content { IfOk result (λ all. contents_of (raws_in all.items) ≡ contents_of (raws_in items.now)) }
+    ensures valid { IfOk result (λ all. valid (kind_of target.now) (raw_tuple (raws_in all.items)) ≡ true) }
+    ensures refused { IsErrOf result ScalarError.NotConvertible
+        → converts (kind_of source.now) (kind_of target.now) (tuple (contents_of (raws_in items.now))) ≡ false }
+    ensures invalid { IsErrOf result ScalarError.Invalid
+        → valid (kind_of source.now) (raw_tuple (raws_in items.now)) ≡ false }
+{
+    if let Some(source) = list_element(source) {
+        if !takes_length(target, items.len()) {
+            return Err(ScalarError::NotConvertible);
+        }
+        let Some(target) = list_element(target) else {
+            return Err(ScalarError::NotConvertible);
+        };
+        let all = cast_items(alloc, source, target, items)?;
+        return Ok(all);
+    }
+    let Some(sources) = source.as_struct_fields_opt() else {
+        return Err(ScalarError::NotConvertible);
+    };
+    let Some(targets) = target.as_struct_fields_opt() else {
+        return Err(ScalarError::NotConvertible);
+    };
+    let all = cast_fields(alloc, sources.as_slice(), targets.as_slice(), items)?;
+    Ok(all)
+}
+
+#[cycle(cast)]
+#[tactic(auto, using(crate::proofs::Views::one_level))]
+fn cast_items(
+    alloc: Global,
+    source: &DType,
+    target: &DType,
+    items: &[Option<ScalarValue>],
+) -> Result<Vec<Option<ScalarValue>>, ScalarError>
+    ensures converts { IfOk result (λ _. all_convert (kind_of source.now) (kind_of target.now)
+        (contents_of (raws_in items.now)) ≡ true) }
+    ensures content { IfOk result (λ all. contents_of (raws_in all.items) ≡ contents_of (raws_in items.now)) }
+    ensures valid { IfOk result (λ all. all_have (kind_of target.now) (raws_in all.items) ≡ true) }
+    ensures refused { IsErrOf result ScalarError.NotConvertible
+        → all_convert (kind_of source.now) (kind_of target.now) (contents_of (raws_in items.now)) ≡ false }
+    ensures invalid { IsErrOf result ScalarError.Invalid → all_have (kind_of source.now) (raws_in items.now) ≡ false }
+{
+    let mut all = Vec::with_capacity(alloc, items.len())?;
+    for item in items {
+        let item = item.as_ref();
+        let new = cast_value(alloc, source, target, item)?;
+        all.push(new)?;
+    }
+    Ok(all)
+}
+
+#[cycle(cast)]
+#[tactic(auto, using(crate::proofs::Casts::records))]
 fn cast_fields(
     alloc: Global,
     sources: &[StructField],
@@ -73,7 +140,7 @@ fn cast_fields(
     ensures valid { IfOk result (λ all. fields_have (fields_of targets.now) (raws_in all.items) ≡ true) }
     ensures refused { IsErrOf result ScalarError.NotConvertible
         → fields_convert (fields_of sources.now) (fields_of targets.now) (contents_of (raws_in items.now)) ≡ false }
-    ensures never_invalid { IsErrOf result ScalarError.Invalid → ⊥ }
+    ensures invalid { IsErrOf result ScalarError.Invalid → fields_have (fields_of sources.now) (raws_in items.now) ≡ false }
 {
     if sources.len() != items.len() {
         return Err(ScalarError::NotConvertible);

@@ -4,6 +4,8 @@
 pub mod cast;
 pub mod clone;
 pub mod error;
+mod kept;
+mod leaves;
 pub mod pvalue;
 pub mod scalar;
 pub mod scalar_value;

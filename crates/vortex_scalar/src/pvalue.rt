@@ -1,13 +1,14 @@
 //! Integers of the eight kinds.
-ghost use Rattle.std.specs.Prelude.{◌≡◌, ◌&&◌, true, is_some, IfSome};
+ghost use Rattle.std.specs.Prelude.{◌≡◌, true, is_some, IfSome};
 ghost use Rattle.std.specs.Ordering.{int_cmp};
-ghost use Rattle.vortex_model.specs.Kind.{same_int_kind};
 ghost use Rattle.vortex_model.specs.Valid.{in_range};
-ghost use Rattle.vortex_dtype.specs.View.{int_kind_of};
+ghost use Rattle.vortex_kinds.specs.Numbers.{whole};
+ghost use Rattle.vortex_kinds.specs.View.{number_kind_of};
 ghost use Rattle.vortex_scalar.specs.View.{kind_of_number, integer_of};
+ghost use Rattle.vortex_scalar.specs.Numbers.{holds_number, is_number_of};
 
 use std::cmp::Ordering;
-use vortex_dtype::ptype::PType;
+use vortex_kinds::ptype::PType;
 
 /// An integer of a kind, as Vortex's `PValue`.
 #[derive(Clone, Copy, Debug, PartialEq, Eq)]
@@ -25,7 +26,7 @@ pub enum PValue {
 impl PValue {
     /// The kind.
     pub fn ptype(self) -> PType
-        ensures { int_kind_of result ≡ kind_of_number self }
+        ensures { number_kind_of result ≡ whole (kind_of_number self) }
     {
         match self {
             PValue::U8(_) => PType::U8,
@@ -56,10 +57,10 @@ impl PValue {
         }
     }
 
-    /// The number as one of the kind, and `None` where it is out of range.
+    /// The number as one of the kind, and `None` where it is out of range or the kind is one of floats.
     pub fn of(ptype: PType, number: i128) -> Option<PValue>
-        ensures when { is_some result ≡ in_range (int_kind_of ptype) number }
-        ensures kind { IfSome result (λ value. kind_of_number value ≡ int_kind_of ptype) }
+        ensures when { is_some result ≡ holds_number (number_kind_of ptype) number }
+        ensures kind { IfSome result (λ value. whole (kind_of_number value) ≡ number_kind_of ptype) }
         ensures number { IfSome result (λ value. integer_of value ≡ number) }
     {
         match ptype {
@@ -95,13 +96,14 @@ impl PValue {
                 Ok(number) => Some(PValue::I64(number)),
                 Err(_) => None,
             },
+            PType::F16 | PType::F32 | PType::F64 => None,
         }
     }
 
-    /// The same number as one of the kind, and `None` where it is out of range.
+    /// The same number as one of the kind, and `None` where it is out of range or the kind is one of floats.
     pub fn cast(self, ptype: PType) -> Option<PValue>
-        ensures when { is_some result ≡ in_range (int_kind_of ptype) (integer_of self) }
-        ensures kind { IfSome result (λ value. kind_of_number value ≡ int_kind_of ptype) }
+        ensures when { is_some result ≡ holds_number (number_kind_of ptype) (integer_of self) }
+        ensures kind { IfSome result (λ value. whole (kind_of_number value) ≡ number_kind_of ptype) }
         ensures number { IfSome result (λ value. integer_of value ≡ integer_of self) }
     {
         PValue::of(ptype, self.get())
@@ -109,7 +111,7 @@ impl PValue {
 
     /// Whether the number is of the kind.
     pub fn is_of(self, ptype: PType) -> bool
-        ensures { result ≡ (same_int_kind (kind_of_number self) (int_kind_of ptype) && in_range (int_kind_of ptype) (integer_of self)) }
+        ensures { result ≡ is_number_of (number_kind_of ptype) (kind_of_number self) (integer_of self) }
     {
         // Tells the proof that the number is in the range of its own kind.
         let _ = self.get();

@@ -3,7 +3,7 @@ ghost use Rattle.std.specs.Prelude.{◌≡◌, is_ok, IfOk, IfErr, IsTrue};
 ghost use Rattle.vortex_model.specs.Kind.{is_nullable, nullability_of};
 ghost use Rattle.vortex_model.specs.Content.{raw_null, is_null};
 ghost use Rattle.vortex_model.specs.Valid.{valid};
-ghost use Rattle.vortex_dtype.specs.View.{kind_of};
+ghost use Rattle.vortex_types.specs.View.{kind_of};
 ghost use Rattle.vortex_scalar.specs.View.{raw_in, raw_at};
 
 use crate::clone::copy_value;
@@ -11,7 +11,7 @@ use crate::error::ScalarError;
 use crate::scalar_value::ScalarValue;
 use crate::validate::validate;
 use std::alloc::AllocError;
-use vortex_dtype::dtype::DType;
+use vortex_types::dtype::DType;
 
 /// A value of a type, as Vortex's `Scalar`. Null is `None`.
 #[derive(Drop)]
@@ -47,7 +47,7 @@ impl Scalar {
     }
 
     /// Null of the type.
-    #[tactic(auto, using(crate::proofs::Views::levels))]
+    #[tactic(auto, using(crate::proofs::Views::nulls))]
     pub fn null(dtype: DType) -> Scalar
         requires { IsTrue (is_nullable (nullability_of (kind_of dtype))) }
         ensures dtype { scalar_kind result ≡ kind_of dtype }

@@ -1,34 +1,95 @@
 //! Which values a type has.
 ghost use Rattle.std.specs.Prelude.{◌≡◌};
-ghost use Rattle.vortex_model.specs.Valid.{valid, fields_have};
-ghost use Rattle.vortex_dtype.specs.View.{kind_of, fields_of};
+ghost use Rattle.vortex_model.specs.Kind.{stored};
+ghost use Rattle.vortex_model.specs.Content.{raw_tuple, raw_first, no_raws};
+ghost use Rattle.vortex_model.specs.Valid.{valid, has, all_have, entries_have, fields_have};
+ghost use Rattle.vortex_types.specs.View.{kind_of, fields_of};
 ghost use Rattle.vortex_scalar.specs.View.{raw_at, raws_in};
 
 use crate::scalar_value::ScalarValue;
-use vortex_dtype::dtype::DType;
-use vortex_dtype::struct_fields::StructField;
+use vortex_types::dtype::DType;
+use vortex_types::struct_fields::StructField;
 
 /// Whether the type has the value. `None` is null. It takes time linear in the value.
 #[cycle(validate)]
-#[tactic(auto, using(crate::proofs::Views::levels))]
+#[tactic(auto, using(crate::proofs::Views::valid_values))]
 pub fn validate(dtype: &DType, value: Option<&ScalarValue>) -> bool
     ensures { result ≡ valid (kind_of dtype.now) (raw_at value.entry) }
 {
-    match (dtype, value) {
-        (DType::Bool(nullability), None) => nullability.is_nullable(),
-        (DType::Primitive(_, nullability), None) => nullability.is_nullable(),
-        (DType::Struct(_, nullability), None) => nullability.is_nullable(),
-        (DType::Bool(_), Some(ScalarValue::Bool(_))) => true,
-        (DType::Primitive(ptype, _), Some(ScalarValue::Primitive(number))) => number.is_of(*ptype),
-        (DType::Struct(fields, _), Some(ScalarValue::Tuple(items))) => {
-            validate_fields(fields.as_slice(), items.as_slice())
+    let Some(value) = value else {
+        return dtype.is_nullable();
+    };
+    let stored = stored_dtype(dtype);
+    match value {
+        ScalarValue::Bool(_) => stored.is_boolean(),
+        ScalarValue::Primitive(number) => match stored.as_ptype_opt() {
+            Some(ptype) => number.is_of(ptype),
+            None => false,
+        },
+        ScalarValue::Tuple(items) => validate_tuple(stored, items.as_slice()),
+    }
+}
+
+// The same of the values of a list, a map or a record. The type is no extension.
+#[cycle(validate)]
+#[tactic(auto, using(crate::proofs::Views::valid_tuples))]
+fn validate_tuple(dtype: &DType, items: &[Option<ScalarValue>]) -> bool
+    ensures { result ≡ has (kind_of dtype.now) (raw_tuple (raws_in items.now)) }
+{
+    match dtype {
+        DType::List(element, _) => validate_items(element, items),
+        DType::FixedSizeList(element, size, _) => {
+            items.len() == *size as usize && validate_items(element, items)
         }
-        _ => false,
+        DType::Map(map, _) => validate_entries(map.key_dtype(), map.value_dtype(), items),
+        DType::Struct(fields, _) => validate_fields(fields.as_slice(), items),
+        DType::Null | DType::Bool(_) | DType::Primitive(_, _) | DType::Decimal(_, _) => false,
+        DType::Utf8(_) | DType::Binary(_) | DType::Variant(_) => false,
+        DType::Union(_, _) | DType::Extension(_) => false,
     }
 }
 
 #[cycle(validate)]
-#[tactic(auto, using(crate::proofs::Views::levels))]
+fn validate_items(element: &DType, items: &[Option<ScalarValue>]) -> bool
+    ensures { result ≡ all_have (kind_of element.now) (raws_in items.now) }
+{
+    for item in items {
+        if !validate(element, item.as_ref()) {
+            return false;
+        }
+    }
+    true
+}
+
+#[cycle(validate)]
+fn validate_entries(key: &DType, value: &DType, items: &[Option<ScalarValue>]) -> bool
+    ensures { result ≡ entries_have (kind_of key.now) (kind_of value.now) (raws_in items.now) }
+{
+    for item in items {
+        if !validate_entry(key, value, item.as_ref()) {
+            return false;
+        }
+    }
+    true
+}
+
+// Whether the item is a pair of a key and a value.
+#[cycle(validate)]
+#[tactic(auto, using(crate::proofs::Views::one_level))]
+fn validate_entry(key: &DType, value: &DType, item: Option<&ScalarValue>) -> bool
+    ensures { result ≡ entries_have (kind_of key.now) (kind_of value.now) (raw_first (raw_at item.entry) no_raws) }
+{
+    match item {
+        Some(ScalarValue::Tuple(pair)) => match pair.as_slice() {
+            [first, second] => validate(key, first.as_ref()) && validate(value, second.as_ref()),
+            _ => false,
+        },
+        Some(ScalarValue::Bool(_)) | Some(ScalarValue::Primitive(_)) | None => false,
+    }
+}
+
+#[cycle(validate)]
+#[tactic(auto, using(crate::proofs::Views::valid_fields))]
 fn validate_fields(fields: &[StructField], items: &[Option<ScalarValue>]) -> bool
     ensures { result ≡ fields_have (fields_of fields.now) (raws_in items.now) }
 {
@@ -41,4 +102,18 @@ fn validate_fields(fields: &[StructField], items: &[Option<ScalarValue>]) -> boo
         }
     }
     true
+}
+
+// The type whose values the type has: what lies under its extensions.
+#[tactic(auto, using(crate::proofs::Views::unwrapped))]
+fn stored_dtype(dtype: &DType) -> &DType
+    ensures { kind_of result.now ≡ stored (kind_of dtype.now) }
+{
+    match dtype {
+        DType::Extension(extension) => stored_dtype(extension.storage_dtype()),
+        DType::Null | DType::Bool(_) | DType::Primitive(_, _) | DType::Decimal(_, _) => dtype,
+        DType::Utf8(_) | DType::Binary(_) | DType::Variant(_) => dtype,
+        DType::List(_, _) | DType::FixedSizeList(_, _, _) | DType::Map(_, _) => dtype,
+        DType::Struct(_, _) | DType::Union(_, _) => dtype,
+    }
 }

@@ -3,14 +3,22 @@
 //! Each module gathers one layer: types, values, predicates, the table, and the lines.
 #![tactic(auto)]
 
-/// Types, names and paths.
+/// Types, names, paths and messages.
 pub mod dtype {
-    pub use vortex_dtype::dtype::DType;
-    pub use vortex_dtype::field::{Field, FieldPath};
-    pub use vortex_dtype::field_names::{FieldName, FieldNames};
-    pub use vortex_dtype::nullability::Nullability;
-    pub use vortex_dtype::ptype::PType;
-    pub use vortex_dtype::struct_fields::{StructField, StructFields};
+    pub use vortex_dtype::{
+        BufferString, ByteBuffer, DType, DTypeError, DTypeExt, DTypeSession, DecimalDType,
+        DecimalType, DecimalTypeDowncast, DecimalTypeUpcast, ExtDType, ExtDTypePlugin, ExtDTypeRef,
+        ExtVTable, Field, FieldDType, FieldDTypesIter, FieldMask, FieldName, FieldNames,
+        FieldNamesIntoIter, FieldNamesIter, FieldPath, FieldPathSet, FieldPathSetIter,
+        FieldTypesIter, ForeignExtDType, ForeignExtMetadata, IntegerPType, MAX_PRECISION,
+        MAX_SCALE, MapDType, MapDTypeExt, MapEntries, Message, MessageKind, NativeDType,
+        NativeDecimalType, NativePType, Nullability, OffsetBuilderPType, PType, PTypeDowncast,
+        PTypeDowncastExt, PTypeUpcast, PhysicalPType, PrecisionScale, StructField, StructFields,
+        StructFieldsExt, ToBytes, TryFromBytes, UnionVariant, UnionVariants, UnionVariantsExt,
+        UnsignedPType, VariantsIter, field_path, from_proto, match_each_integer_ptype,
+        match_each_native_ptype, match_each_signed_integer_ptype,
+        match_each_unsigned_integer_ptype, to_proto, try_downcast,
+    };
 }
 
 /// Values, their validity and their conversion.

@@ -1,7 +1,7 @@
 //! What no clause says: that calls succeed, the texts as a user reads them, and runs cut and broken anywhere.
 
 use crate::dtype::{
-    DType, FieldName, FieldNames, FieldPath, Nullability, PType, StructField, StructFields,
+    DType, Field, FieldName, FieldNames, FieldPath, Nullability, PType, StructField, StructFields,
 };
 use crate::expr::{AggregateFn, Expression, and, col, eq, gt, lit, lt, or, stat};
 use crate::run::{MemorySink, MemorySource, RunError, run};
@@ -221,7 +221,7 @@ fn two_columns(alloc: Global) -> Result<DType, AllocError> {
         name: FieldName::new(alloc, "b")?,
         dtype,
     })?;
-    Ok(DType::Struct(StructFields::new(fields)?, Nullability::NonNullable))
+    Ok(DType::Struct(StructFields::from_vec(fields)?, Nullability::NonNullable))
 }
 
 fn row(alloc: Global, a: i32, b: Option<u8>) -> Result<Option<ScalarValue>, AllocError> {
@@ -274,8 +274,12 @@ fn scan(alloc: Global, table: &Table, predicate: &Expression) -> Result<ScanAnsw
 }
 
 /// A non-nullable record of two parts.
-fn record(alloc: Global, names: [&str; 2], parts: [DType; 2]) -> Result<DType, AllocError> {
-    let [first, second] = parts;
+fn record(
+    alloc: Global,
+    names: [&str; 2],
+    first: DType,
+    second: DType,
+) -> Result<DType, AllocError> {
     let mut fields = Vec::new(alloc);
     fields.push(StructField {
         name: FieldName::new(alloc, names[0])?,
@@ -285,34 +289,33 @@ fn record(alloc: Global, names: [&str; 2], parts: [DType; 2]) -> Result<DType, A
         name: FieldName::new(alloc, names[1])?,
         dtype: second,
     })?;
-    Ok(DType::Struct(StructFields::new(fields)?, Nullability::NonNullable))
+    Ok(DType::Struct(StructFields::from_vec(fields)?, Nullability::NonNullable))
 }
 
-// A line names no type yet that tables don't hold.
 #[test]
 fn the_first_fault_of_a_type_is_told(rt: HostRuntime) -> Result<(), Fail> {
     let alloc = rt.alloc();
     let truth = DType::Bool(Nullability::Nullable);
     let number = DType::Primitive(PType::I8, Nullability::NonNullable);
-    let twice = record(alloc, ["q", "q"], [number.clone()?, number.clone()?])?;
+    let twice = record(alloc, ["q", "q"], number.clone()?, number.clone()?)?;
 
-    let nested = record(alloc, ["a", "p"], [number.clone()?, two_columns(alloc)?])?;
+    let nested = record(alloc, ["a", "p"], number.clone()?, two_columns(alloc)?)?;
     assert!(rt; Table::create(alloc, nested, 16).is_ok());
-    let behind = record(alloc, ["a", "p"], [truth.clone()?, twice.clone()?])?;
+    let behind = record(alloc, ["a", "p"], truth.clone()?, twice.clone()?)?;
     assert!(rt;
         matches!(
             Table::create(alloc, behind, 16),
             Err(TableError::UnkeptType)
         )
     );
-    let before = record(alloc, ["p", "a"], [twice, truth.clone()?])?;
+    let before = record(alloc, ["p", "a"], twice, truth.clone()?)?;
     assert!(rt;
         matches!(
             Table::create(alloc, before, 16),
             Err(TableError::RepeatedName)
         )
     );
-    let names = record(alloc, ["a", "a"], [truth, number])?;
+    let names = record(alloc, ["a", "a"], truth, number)?;
     assert!(rt;
         matches!(
             Table::create(alloc, names, 16),
@@ -364,5 +367,130 @@ fn the_library_refuses_predicates(rt: HostRuntime) -> Result<(), Fail> {
             Err(TableError::UnsupportedPredicate)
         )
     );
+    Ok(())
+}
+
+/// The value of rows with one field each, as deep as asked for, and one number inside.
+fn nested_row(alloc: Global, depth: usize, number: i32) -> Result<ScalarValue, AllocError> {
+    let mut value = ScalarValue::Primitive(PValue::I32(number));
+    for _ in 0..depth {
+        let mut cells = Vec::new(alloc);
+        cells.push(Some(value))?;
+        value = ScalarValue::Tuple(cells);
+    }
+    Ok(value)
+}
+
+/// A record of one field, so deep, with a kind of integers inside.
+fn nested_type(alloc: Global, depth: usize) -> Result<DType, AllocError> {
+    let mut dtype = DType::Primitive(PType::I32, Nullability::NonNullable);
+    for _ in 0..depth {
+        let mut fields = Vec::new(alloc);
+        fields.push(StructField {
+            name: FieldName::new(alloc, "p")?,
+            dtype,
+        })?;
+        dtype = DType::Struct(StructFields::from_vec(fields)?, Nullability::NonNullable);
+    }
+    Ok(dtype)
+}
+
+// No line nests so deep.
+#[test]
+fn records_may_nest_deep(rt: HostRuntime) -> Result<(), Fail> {
+    let alloc = rt.alloc();
+    const DEPTH: usize = 100;
+    let dtype = nested_type(alloc, DEPTH)?;
+    let mut table = Table::create(alloc, dtype.clone()?, 16)?;
+    let mut values = Vec::new(alloc);
+    for number in 0..3 {
+        values.push(Some(nested_row(alloc, DEPTH, number)?))?;
+    }
+    table.append_owned(&dtype, values, &[])?;
+    let mut names = Vec::new(alloc);
+    let mut steps = Vec::new(alloc);
+    for _ in 0..DEPTH {
+        names.push(FieldName::new(alloc, "p")?)?;
+        steps.push(Field::Name(FieldName::new(alloc, "p")?))?;
+    }
+    let above = gt(alloc, col(FieldNames::new(names)), number(1)?)?;
+    let mut paths = Vec::new(alloc);
+    paths.push(FieldPath::new(steps))?;
+    let answer = table.scan(alloc, &paths, &above)?;
+    assert!(rt; answer.rows.len() == 1 && answer.dtype == dtype && answer.rows_tested == 3);
+    Ok(())
+}
+
+/// An i32 without null.
+fn integers() -> DType {
+    DType::Primitive(PType::I32, Nullability::NonNullable)
+}
+
+/// A table of {a={b=i32, c=i32}, d=i32} with the row ((1, 2), 3).
+fn with_inner_record(alloc: Global) -> Result<Table, TableError> {
+    let inner = record(alloc, ["b", "c"], integers(), integers())?;
+    let dtype = record(alloc, ["a", "d"], inner, integers())?;
+    let mut pair = Vec::new(alloc);
+    pair.push(Some(ScalarValue::Primitive(PValue::I32(1))))?;
+    pair.push(Some(ScalarValue::Primitive(PValue::I32(2))))?;
+    let mut cells = Vec::new(alloc);
+    cells.push(Some(ScalarValue::Tuple(pair)))?;
+    cells.push(Some(ScalarValue::Primitive(PValue::I32(3))))?;
+    let mut rows = Vec::new(alloc);
+    rows.push(Some(ScalarValue::Tuple(cells)))?;
+    let mut table = Table::create(alloc, dtype.clone()?, 16)?;
+    table.append_owned(&dtype, rows, &[])?;
+    Ok(table)
+}
+
+/// How many chunks a scan along these paths takes whole, and how many parts its rows have. Nothing unless both proofs are tried and no row tested.
+fn widths_along(alloc: Global, table: &Table, paths: &[&[&str]]) -> Result<Vec<usize>, TableError> {
+    let mut all = Vec::new(alloc);
+    for names in paths {
+        all.push(FieldPath::from_names(alloc, names)?)?;
+    }
+    let everything = lit(Scalar::new_unchecked(
+        DType::Bool(Nullability::NonNullable),
+        Some(ScalarValue::Bool(true)),
+    ));
+    let answer = table.scan(alloc, &all, &everything)?;
+    if answer.proofs != 2 || answer.rows_tested != 0 {
+        return Ok(Vec::new(alloc));
+    }
+    let mut widths = Vec::new(alloc);
+    widths.push(answer.whole.len())?;
+    for row in &answer.rows {
+        width_of(row.value(), &mut widths)?;
+    }
+    Ok(widths)
+}
+
+/// Writes how many parts a record has, and each record inside.
+fn width_of(value: Option<&ScalarValue>, widths: &mut Vec<usize>) -> Result<(), AllocError> {
+    let Some(ScalarValue::Tuple(cells)) = value else {
+        return Ok(());
+    };
+    widths.push(cells.len())?;
+    for cell in cells {
+        if let Some(ScalarValue::Tuple(inner)) = cell {
+            widths.push(inner.len())?;
+        }
+    }
+    Ok(())
+}
+
+// A path does not hide what another asks for, whichever comes first.
+#[test]
+fn paths_cut_rows_together(rt: HostRuntime) -> Result<(), Fail> {
+    let alloc = rt.alloc();
+    let table = with_inner_record(alloc)?;
+    let both = widths_along(alloc, &table, &[&["a", "b"], &["a"]])?;
+    assert!(rt; both.as_slice() == [1, 1, 2].as_slice());
+    let deeper = widths_along(alloc, &table, &[&["a", "b"]])?;
+    assert!(rt; deeper.as_slice() == [1, 1, 1].as_slice());
+    let none = widths_along(alloc, &table, &[])?;
+    assert!(rt; none.as_slice() == [1, 0].as_slice());
+    let all = widths_along(alloc, &table, &[&["d"], &[]])?;
+    assert!(rt; all.as_slice() == [1, 2, 2].as_slice());
     Ok(())
 }

@@ -1,12 +1,25 @@
 use Rattle.std.proofs.Common.{◌≡◌, ◌∙◌, ap, rules, ◌∷◌}
 use Rattle.std.specs.Vec.Iter.{into_iter_items}
+use Rattle.vortex_model.specs.Content.{content_of}
+use Rattle.vortex_model.specs.Valid.{valid}
 use Rattle.vortex_model.specs.Command.{first_unconvertible}
-use Rattle.vortex_dtype.specs.View.{kind_of}
-use Rattle.vortex_scalar.specs.View.{content_in, content_at}
-use Rattle.vortex_scalar.proofs.Casts.{content_at-copied}
+use Rattle.vortex_types.specs.View.{kind_of}
+use Rattle.vortex_scalar.specs.View.{raw_in, raw_at, content_in, content_at}
+use Rattle.vortex_cuts.proofs.Projections.{raw_copied}
 use Rattle.vortex_chunks.specs.Error.{Explains}
-use Rattle.vortex_chunks.proofs.Appends.{said, refused_here, left_behind, row_moved}
+use Rattle.vortex_chunks.proofs.Appends.{said, first_valid, rest_valid, refused_here, left_behind, row_moved}
 use Rattle.vortex_chunks.proofs.append.convert_owned_rows.Goals as goal
+
+pub push_converted-requires-clause-valid : goal.push_converted-requires-clause-valid
+push_converted-requires-clause-valid c =
+    let at = c.loop-value in
+    let v = c.in-Some.value in
+    let behind = into_iter_items c.next.new.self in
+    let s = kind_of c.args.source.now in
+    let same : raw_at c.as_ref.result ≡ raw_in v = raw_copied c.as_ref.result ∙ ap raw_in c.as_ref.ensures.value in
+    let next : into_iter_items at.value-iterator ≡ v ∷ behind = c.in-Some.ensures.steps.0 in
+    let sources = rw next at at.invariant.sources in
+    ap (valid s) same ∙ first_valid s v behind sources
 
 pub returns-in_err-push_converted-clause-refused :
     goal.returns-in_err-push_converted-clause-refused
@@ -18,7 +31,7 @@ returns-in_err-push_converted-clause-refused c =
     let s = kind_of c.args.source.now in
     let t = kind_of c.args.target.now in
     let e = c.in_err-push_converted.field-0.0 in
-    let same : content_at c.as_ref.result ≡ content_in v = content_at-copied c.as_ref.result ∙ ap (λ w. content_in w) c.as_ref.ensures.value in
+    let same : content_at c.as_ref.result ≡ content_in v = ap content_of (raw_copied c.as_ref.result ∙ ap raw_in c.as_ref.ensures.value) in
     let next : into_iter_items at.value-iterator ≡ v ∷ behind = c.in-Some.ensures.steps.0 in
     let left = rw next at at.invariant.left in
     let why : Explains ⊥ (first_unconvertible 0 s t (said vs)) e
@@ -39,11 +52,13 @@ loop-value-preserved-in_ok-push_converted c =
     let s = kind_of c.args.source.now in
     let t = kind_of c.args.target.now in
     let here = content_at c.as_ref.result in
-    let same : here ≡ content_in v = content_at-copied c.as_ref.result ∙ ap (λ w. content_in w) c.as_ref.ensures.value in
+    let same : here ≡ content_in v = ap content_of (raw_copied c.as_ref.result ∙ ap raw_in c.as_ref.ensures.value) in
     let next : into_iter_items at.value-iterator ≡ v ∷ behind = c.in-Some.ensures.steps.0 in
     let content = rw next at at.invariant.content in
     let left = rw next at at.invariant.left in
+    let sources = rw next at at.invariant.sources in
     record {
+      sources = rest_valid s v behind sources;
       content = row_moved s t rows v behind here same more made.content (said vs) content;
       valid = made.valid at.invariant.valid;
       left = left_behind s t rows v behind here same more made.content (first_unconvertible 0 s t (said vs)) made.converts left;

@@ -1,12 +1,24 @@
 use Rattle.std.proofs.Common.{◌≡◌, ◌∙◌, ap, sym, arith, rules, ◌<◌, ◌+◌, ◌∷◌, ◌++◌, length, drop, map}
+use Rattle.vortex_model.specs.Content.{content_of}
+use Rattle.vortex_model.specs.Valid.{valid}
 use Rattle.vortex_model.specs.Command.{first_unconvertible}
-use Rattle.vortex_dtype.specs.View.{kind_of}
-use Rattle.vortex_scalar.specs.View.{content_in, content_at}
-use Rattle.vortex_scalar.proofs.Casts.{content_at-copied}
+use Rattle.vortex_types.specs.View.{kind_of}
+use Rattle.vortex_scalar.specs.View.{raw_in, raw_at, content_in, content_at}
 use Rattle.vortex_chunks.specs.Bounds.{row_content}
+use Rattle.vortex_cuts.proofs.Projections.{raw_copied}
 use Rattle.vortex_chunks.specs.Error.{Explains}
-use Rattle.vortex_chunks.proofs.Appends.{said, next_is, refused_here, left_behind, row_moved}
+use Rattle.vortex_chunks.proofs.Appends.{said, valid_at, next_is, refused_here, left_behind, row_moved}
 use Rattle.vortex_chunks.proofs.append.convert_rows.Goals as goal
+
+pub push_converted-requires-clause-valid : goal.push_converted-requires-clause-valid
+push_converted-requires-clause-valid c =
+    let i = c.loop-value.value-index in
+    let vs = c.args.values.now in
+    let v = c.value-item.result in
+    let s = kind_of c.args.source.now in
+    let same : raw_at c.as_ref.result ≡ raw_in v = raw_copied c.as_ref.result ∙ ap raw_in c.as_ref.ensures.value in
+    let within : i < length vs = omega arith in
+    ap (valid s) same ∙ valid_at s vs i v within c.value-item.is c.requires.valid
 
 pub returns-in_err-push_converted-clause-refused :
     goal.returns-in_err-push_converted-clause-refused
@@ -18,7 +30,7 @@ returns-in_err-push_converted-clause-refused c =
     let s = kind_of c.args.source.now in
     let t = kind_of c.args.target.now in
     let e = c.in_err-push_converted.field-0.0 in
-    let same : content_at c.as_ref.result ≡ content_in v = content_at-copied c.as_ref.result ∙ ap (λ w. content_in w) c.as_ref.ensures.value in
+    let same : content_at c.as_ref.result ≡ content_in v = ap content_of (raw_copied c.as_ref.result ∙ ap raw_in c.as_ref.ensures.value) in
     let within : i < length vs = omega arith in
     let next = next_is vs i v within c.value-item.is in
     let left : first_unconvertible (length rows) s t (said (v ∷ drop (i + 1) vs)) ≡ first_unconvertible 0 s t (said vs)
@@ -40,7 +52,7 @@ loop-value-preserved c =
     let s = kind_of c.args.source.now in
     let t = kind_of c.args.target.now in
     let here = content_at c.as_ref.result in
-    let same : here ≡ content_in v = content_at-copied c.as_ref.result ∙ ap (λ w. content_in w) c.as_ref.ensures.value in
+    let same : here ≡ content_in v = ap content_of (raw_copied c.as_ref.result ∙ ap raw_in c.as_ref.ensures.value) in
     let within : i < length vs = omega arith in
     let next = next_is vs i v within c.value-item.is in
     let behind = drop (i + 1) vs in

@@ -3,7 +3,7 @@ use Rattle.std.specs.List.{list_all}
 use Rattle.vortex_model.specs.Content.{content_of}
 use Rattle.vortex_model.specs.Valid.{valid}
 use Rattle.vortex_model.specs.Command.{first_unconvertible}
-use Rattle.vortex_dtype.specs.View.{kind_of}
+use Rattle.vortex_types.specs.View.{kind_of}
 use Rattle.vortex_scalar.specs.View.{raw_of, raw_in}
 use Rattle.vortex_chunks.specs.Bounds.{row_content}
 use Rattle.vortex_chunks.proofs.append.convert_rows.Given as goal

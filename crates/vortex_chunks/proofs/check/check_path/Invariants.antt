@@ -1,6 +1,7 @@
 use Rattle.std.proofs.Common.{◌≡◌, drop, map}
 use Rattle.vortex_model.specs.Command.{path_fault}
-use Rattle.vortex_dtype.specs.View.{kind_of, step_of}
+use Rattle.vortex_types.specs.View.{kind_of}
+use Rattle.vortex_paths.specs.View.{step_of}
 use Rattle.vortex_chunks.proofs.check.check_path.Given as goal
 
 abbrev pub invariant-loop-step : goal.invariant-loop-step

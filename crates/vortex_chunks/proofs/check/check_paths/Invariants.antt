@@ -1,6 +1,7 @@
 use Rattle.std.proofs.Common.{◌≡◌, drop, map}
 use Rattle.vortex_model.specs.Command.{paths_fault}
-use Rattle.vortex_dtype.specs.View.{kind_of, steps_of}
+use Rattle.vortex_types.specs.View.{kind_of}
+use Rattle.vortex_paths.specs.View.{steps_of}
 use Rattle.vortex_chunks.proofs.check.check_paths.Given as goal
 
 abbrev pub invariant-loop-index : goal.invariant-loop-index

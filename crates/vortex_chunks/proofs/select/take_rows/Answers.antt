@@ -1,4 +1,4 @@
-use Rattle.vortex_dtype.specs.View.{kind_of}
+use Rattle.vortex_types.specs.View.{kind_of}
 use Rattle.vortex_chunks.proofs.Taken.{taken_more, kinds_more}
 use Rattle.vortex_chunks.proofs.select.take_rows.Goals as goal
 

@@ -1,6 +1,6 @@
 use Rattle.std.proofs.Common.{◌≡◌, ◌++◌, drop, option_map}
 use Rattle.vortex_model.specs.Path.{positions}
-use Rattle.vortex_dtype.specs.View.{kind_of}
+use Rattle.vortex_types.specs.View.{kind_of}
 use Rattle.vortex_expr.proofs.bind.column_positions.Given as goal
 
 abbrev pub invariant-loop-name : goal.invariant-loop-name

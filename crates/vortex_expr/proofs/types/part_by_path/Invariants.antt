@@ -1,5 +1,5 @@
 use Rattle.std.proofs.Common.{◌≡◌, drop, Some}
-use Rattle.vortex_dtype.specs.View.{kind_of}
+use Rattle.vortex_types.specs.View.{kind_of}
 use Rattle.vortex_expr.specs.Types.{kind_at, along}
 use Rattle.vortex_expr.proofs.types.part_by_path.Given as goal
 

@@ -1,7 +1,7 @@
 use Rattle.std.proofs.Common.{◌≡◌, List, ◌++◌, option_map, map, drop}
 use Rattle.serde_json.specs.View.{items_view}
 use Rattle.vortex_model.specs.Path.{Step}
-use Rattle.vortex_dtype.specs.View.{steps_of}
+use Rattle.vortex_paths.specs.View.{steps_of}
 use Rattle.vortex_lines.specs.Where.{paths_in}
 use Rattle.vortex_lines.proofs.paths.read_paths.Given as goal
 

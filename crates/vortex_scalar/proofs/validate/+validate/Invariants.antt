@@ -1,8 +1,33 @@
-use Rattle.std.proofs.Common.{◌≡◌, drop, length}
-use Rattle.vortex_model.specs.Valid.{fields_have}
-use Rattle.vortex_dtype.specs.View.{fields_of}
-use Rattle.vortex_scalar.specs.View.{raws_in}
+use Rattle.std.proofs.Common.{◌≡◌, suc, drop, length}
+use Rattle.vortex_model.specs.Valid.{all_have, entries_have, fields_have}
+use Rattle.vortex_types.specs.View.{kind_of, fields_of}
+use Rattle.vortex_scalar.specs.View.{raw_at, raws_in}
+use Rattle.vortex_scalar.proofs.Sizes.{raw_size, raws_size}
 use Rattle.vortex_scalar.proofs.validate.+validate.Given as goal
+
+abbrev pub decreases-validate : goal.decreases-validate
+decreases-validate l = raw_size (raw_at l.value)
+
+abbrev pub decreases-validate_tuple : goal.decreases-validate_tuple
+decreases-validate_tuple l = suc (raws_size (raws_in l.items.now))
+
+abbrev pub decreases-validate_items : goal.decreases-validate_items
+decreases-validate_items l = raws_size (raws_in l.items.now)
+
+abbrev pub decreases-validate_entries : goal.decreases-validate_entries
+decreases-validate_entries l = raws_size (raws_in l.items.now)
+
+abbrev pub decreases-validate_entry : goal.decreases-validate_entry
+decreases-validate_entry l = raw_size (raw_at l.item)
+
+abbrev pub decreases-validate_fields : goal.decreases-validate_fields
+decreases-validate_fields l = raws_size (raws_in l.items.now)
+
+abbrev pub invariant-validate_items-loop-item : goal.invariant-validate_items-loop-item
+invariant-validate_items-loop-item l = all_have (kind_of l.element) (raws_in (drop l.item-index l.items)) ≡ all_have (kind_of l.element) (raws_in l.items)
+
+abbrev pub invariant-validate_entries-loop-item : goal.invariant-validate_entries-loop-item
+invariant-validate_entries-loop-item l = entries_have (kind_of l.key) (kind_of l.value) (raws_in (drop l.item-index l.items)) ≡ entries_have (kind_of l.key) (kind_of l.value) (raws_in l.items)
 
 abbrev pub invariant-validate_fields-loop-i : goal.invariant-validate_fields-loop-i
 invariant-validate_fields-loop-i l = record {

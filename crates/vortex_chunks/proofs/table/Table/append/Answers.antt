@@ -3,15 +3,15 @@ use Rattle.vortex_model.specs.Content.{content_of}
 use Rattle.vortex_model.specs.Kept.{kept_fault}
 use Rattle.vortex_model.specs.Table.{rows_of}
 use Rattle.vortex_model.specs.Command.{append, refusal, first_invalid, first_unconvertible}
-use Rattle.vortex_dtype.specs.View.{kind_of}
+use Rattle.vortex_types.specs.View.{kind_of}
 use Rattle.vortex_scalar.specs.View.{raw_in}
 use Rattle.vortex_chunks.specs.Error.{Explains}
 use Rattle.vortex_chunks.specs.TableView.{table_of}
 use Rattle.vortex_chunks.proofs.Explained.{none_so, explained_two}
 use Rattle.vortex_chunks.proofs.table.Table.append.Goals as goal
 
-pub convert_rows-requires : goal.convert_rows-requires
-convert_rows-requires c = none_so (kept_fault (kind_of c.args.self.now.dtype)) c.args.self.now.kept
+pub convert_rows-requires-clause-kept : goal.convert_rows-requires-clause-kept
+convert_rows-requires-clause-kept c = none_so (kept_fault (kind_of c.args.self.now.dtype)) c.args.self.now.kept
 
 pub returns-in_err-check_batch-clause-refused : goal.returns-in_err-check_batch-clause-refused
 returns-in_err-check_batch-clause-refused c =

@@ -1,18 +1,22 @@
-use Rattle.std.proofs.Common.{rules, subst, ◌+◌, ◌^◌, ◌≤◌, length, map}
+use Rattle.std.proofs.Common.{◌≡◌, None, rules, subst, ◌+◌, ◌^◌, ◌≤◌, length, map}
 use Rattle.vortex_model.specs.Content.{content_of}
 use Rattle.vortex_model.specs.Refusal.{or_else}
 use Rattle.vortex_model.specs.Kept.{kept_fault}
 use Rattle.vortex_model.specs.Table.{rows_of}
 use Rattle.vortex_model.specs.Command.{append, refusal, first_invalid, first_unconvertible}
-use Rattle.vortex_dtype.specs.View.{kind_of}
+use Rattle.vortex_types.specs.View.{kind_of}
 use Rattle.vortex_scalar.specs.View.{raw_in}
 use Rattle.vortex_chunks.specs.Error.{Explains}
 use Rattle.vortex_chunks.specs.TableView.{table_of}
 use Rattle.vortex_chunks.proofs.Explained.{none_so, explained_two}
 use Rattle.vortex_chunks.proofs.table.Table.append_owned.Goals as goal
 
-pub convert_owned_rows-requires : goal.convert_owned_rows-requires
-convert_owned_rows-requires c = none_so (kept_fault (kind_of c.args.self.now.dtype)) c.args.self.now.kept
+pub convert_owned_rows-requires-clause-kept : goal.convert_owned_rows-requires-clause-kept
+convert_owned_rows-requires-clause-kept c = none_so (kept_fault (kind_of c.args.self.now.dtype)) c.args.self.now.kept
+
+pub convert_owned_rows-requires-clause-valid : goal.convert_owned_rows-requires-clause-valid
+convert_owned_rows-requires-clause-valid c =
+    subst (λ us. first_invalid 0 (kind_of c.args.batch_dtype.now) (map raw_in us) ≡ None) c.deref.ensures.value c.in_ok-check_batch.ensures.valid
 
 pub returns-in_err-check_batch-clause-refused : goal.returns-in_err-check_batch-clause-refused
 returns-in_err-check_batch-clause-refused c =

@@ -1,8 +1,8 @@
 use Rattle.std.proofs.Common.{ap, is_none}
 use Rattle.std.specs.List.{list_all}
-use Rattle.vortex_dtype.specs.View.{kind_of}
+use Rattle.vortex_types.specs.View.{kind_of}
 use Rattle.vortex_chunks.specs.Chunk.{row_count}
-use Rattle.vortex_chunks.specs.Leaves.{leaf_positions}
+use Rattle.vortex_schema.specs.Leaves.{leaf_positions}
 use Rattle.vortex_chunks.specs.Table.{is_formed}
 use Rattle.vortex_chunks.proofs.LeafBounds.{leaves_same}
 use Rattle.vortex_chunks.proofs.table.Table.create.Goals as goal

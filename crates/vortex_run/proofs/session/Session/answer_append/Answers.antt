@@ -3,7 +3,7 @@ use Rattle.std.specs.Prelude.{option_map}
 use Rattle.vortex_model.specs.Command.{append}
 use Rattle.vortex_model.specs.Refusal.{no_table}
 use Rattle.vortex_model.specs.Reply.{refused}
-use Rattle.vortex_dtype.specs.View.{kind_of}
+use Rattle.vortex_types.specs.View.{kind_of}
 use Rattle.vortex_scalar.specs.View.{raw_in}
 use Rattle.vortex_chunks.specs.TableView.{table_of}
 use Rattle.vortex_run.specs.Said.{error_answer}

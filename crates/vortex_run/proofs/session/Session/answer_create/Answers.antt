@@ -1,4 +1,4 @@
-use Rattle.vortex_dtype.specs.View.{kind_of}
+use Rattle.vortex_types.specs.View.{kind_of}
 use Rattle.vortex_run.specs.Said.{error_answer}
 use Rattle.vortex_run.specs.State.{table_in}
 use Rattle.vortex_run.proofs.Responding.{create_refused}

@@ -3,7 +3,7 @@ use Rattle.std.specs.Prelude.{option_map}
 use Rattle.vortex_model.specs.Command.{scan}
 use Rattle.vortex_model.specs.Refusal.{no_table}
 use Rattle.vortex_model.specs.Reply.{refused, found}
-use Rattle.vortex_dtype.specs.View.{steps_of}
+use Rattle.vortex_paths.specs.View.{steps_of}
 use Rattle.vortex_chunks.specs.AnswerView.{answer_of}
 use Rattle.vortex_chunks.specs.TableView.{table_of}
 use Rattle.vortex_run.specs.Said.{error_answer}

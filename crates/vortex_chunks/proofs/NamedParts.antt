@@ -1,0 +1,14 @@
+-- The parts of records by their names.
+use Rattle.std.proofs.Common.{◌≡◌, refl, List, ℕ, Option, option_and_then}
+use Rattle.vortex_model.specs.Kind.{Kind, struct}
+use Rattle.vortex_model.specs.Path.{position_named, field_at}
+use Rattle.vortex_model.specs.Command.{part_named}
+use Rattle.vortex_types.specs.Parts.{fields_in_kind}
+use Rattle.vortex_types.proofs.Views.{one_level}
+
+-- a named part is one of a record's fields
+pub among_fields : (k : Kind) (x : List ℕ) → part_named k x ≡ option_and_then (λ fs. option_and_then (field_at fs) (position_named fs x)) (fields_in_kind k)
+among_fields (struct fs n) x = refl
+among_fields k x = refl
+
+pub ruleset named = (one_level, among_fields)

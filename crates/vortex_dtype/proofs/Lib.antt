@@ -1,4 +1,0 @@
-pub mod Distinct
-pub mod KeptParts
-pub mod Sizes
-pub mod Views

@@ -1,4 +1,0 @@
-pub mod Equal
-pub mod Fault
-pub mod Parts
-pub mod View

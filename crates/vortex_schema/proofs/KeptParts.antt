@@ -1,0 +1,42 @@
+-- What a table can hold, part by part.
+use Rattle.std.proofs.Common.{◌≡◌, refl, ap, sym, ◌∙◌, Bool, true, false, not, Some, List, ◌∷◌, if◌then◌else◌}
+use Rattle.vortex_model.specs.Kind.{struct, Fields, Nullability, non_nullable}
+use Rattle.vortex_model.specs.Refusal.{not_a_record, repeated_name, or_else}
+use Rattle.vortex_model.specs.Kept.{kept_fault, kept_part_fault, kept_fields_fault, names_distinct}
+use Rattle.vortex_kinds.specs.Numbers.{NumberKind, whole, real, type_of_numbers}
+use Rattle.vortex_types.specs.View.{kind_of, fields_of}
+use Rattle.vortex_types.specs.declared.struct_fields.StructField.{StructField}
+use Rattle.vortex_types.proofs.Views.{one_level, field_of-parts, extension_kind-parts}
+use Rattle.vortex_schema.specs.Fault.{fault_of_numbers}
+
+-- the first of these parts goes before the others
+pub first_part : (f : StructField) (fs : List StructField) → kept_fields_fault (fields_of (f ∷ fs)) ≡ or_else (kept_part_fault (kind_of f.dtype)) (kept_fields_fault (fields_of fs))
+first_part f fs = ap (λ p. or_else (kept_part_fault p.1) (kept_fields_fault (fields_of fs))) (field_of-parts f)
+
+pub names_repeat : (fs : Fields) (b : Bool) → b ≡ not (names_distinct fs) → b ≡ true → kept_part_fault (struct fs non_nullable) ≡ Some repeated_name
+names_repeat fs b e h = by_test (names_distinct fs) (sym h ∙ e)
+  where
+    by_test : (d : Bool) → true ≡ not d → (if d then kept_fields_fault fs else Some repeated_name) ≡ Some repeated_name
+    by_test false g = refl
+    by_test true g = absurd (cc (g))
+
+pub names_differ : (fs : Fields) (b : Bool) → b ≡ not (names_distinct fs) → b ≡ false → kept_part_fault (struct fs non_nullable) ≡ kept_fields_fault fs
+names_differ fs b e h = by_test (names_distinct fs) (sym h ∙ e)
+  where
+    by_test : (d : Bool) → false ≡ not d → (if d then kept_fields_fault fs else Some repeated_name) ≡ kept_fields_fault fs
+    by_test true g = refl
+    by_test false g = absurd (cc (g))
+
+-- numbers are no record
+pub numbers_at_root : (k : NumberKind) (n : Nullability) → kept_fault (type_of_numbers k n) ≡ Some not_a_record
+numbers_at_root (whole i) n = refl
+numbers_at_root (real f) n = refl
+
+-- a part of numbers is kept where they are integers
+pub numbers_in_part : (k : NumberKind) (n : Nullability) → kept_part_fault (type_of_numbers k n) ≡ fault_of_numbers k
+numbers_in_part (whole i) n = refl
+numbers_in_part (real f) n = refl
+
+pub ruleset roots = (one_level, extension_kind-parts, numbers_at_root)
+
+pub ruleset parts = (one_level, extension_kind-parts, first_part, names_repeat, names_differ, numbers_in_part)

@@ -1,0 +1,124 @@
+//! Which types a table can hold.
+ghost use Rattle.std.specs.Prelude.{◌≡◌, not, IfOk, option_map};
+ghost use Rattle.vortex_model.specs.Kind.{struct, non_nullable};
+ghost use Rattle.vortex_model.specs.Kept.{kept_fault, kept_part_fault, kept_fields_fault, names_distinct};
+ghost use Rattle.vortex_types.specs.View.{kind_of, fields_of};
+ghost use Rattle.vortex_kinds.specs.View.{number_kind_of};
+ghost use Rattle.vortex_schema.specs.Fault.{refusal_of_fault, fault_of_numbers};
+
+use std::alloc::{AllocError, Global};
+use std::collections::BTreeSet;
+use vortex_kinds::nullability::Nullability;
+use vortex_kinds::ptype::PType;
+use vortex_types::dtype::DType;
+use vortex_types::struct_fields::StructField;
+
+/// Why a table can't hold a type.
+#[derive(Clone, Copy, Debug, PartialEq, Eq)]
+pub enum TypeFault {
+    /// The type is no record, or a nullable one.
+    NotARecord,
+    /// A part is none that tables hold so far, which are integers and records.
+    UnkeptType,
+    /// Two fields of a record have one name.
+    RepeatedName,
+}
+
+/// The first fault of the type, if it has one: the root, then its parts from left to right, where the names of a record
+/// go before its parts. It takes time n log n in the number n of fields.
+#[tactic(auto, using(crate::proofs::KeptParts::roots))]
+pub fn kept_fault(alloc: Global, dtype: &DType) -> Result<Option<TypeFault>, AllocError>
+    ensures { IfOk result (λ fault. option_map refusal_of_fault fault ≡ kept_fault (kind_of dtype.now)) }
+{
+    match dtype {
+        DType::Struct(fields, Nullability::NonNullable) => {
+            let fault = record_fault(alloc, fields.as_slice())?;
+            Ok(fault)
+        }
+        DType::Struct(_, Nullability::Nullable) => Ok(Some(TypeFault::NotARecord)),
+        DType::Null | DType::Bool(_) | DType::Primitive(_, _) | DType::Decimal(_, _) => {
+            Ok(Some(TypeFault::NotARecord))
+        }
+        DType::Utf8(_) | DType::Binary(_) | DType::Variant(_) => Ok(Some(TypeFault::NotARecord)),
+        DType::List(_, _) | DType::FixedSizeList(_, _, _) | DType::Map(_, _) => {
+            Ok(Some(TypeFault::NotARecord))
+        }
+        DType::Union(_, _) | DType::Extension(_) => Ok(Some(TypeFault::NotARecord)),
+    }
+}
+
+// The fault of a part that holds numbers: integers have none, and floats aren't kept.
+fn number_fault(ptype: PType) -> Option<TypeFault>
+    ensures { option_map refusal_of_fault result ≡ fault_of_numbers (number_kind_of ptype) }
+{
+    if ptype.is_float() {
+        return Some(TypeFault::UnkeptType);
+    }
+    None
+}
+
+// The first fault of a part.
+#[cycle(kept)]
+#[tactic(auto, using(crate::proofs::KeptParts::parts))]
+fn part_fault(alloc: Global, dtype: &DType) -> Result<Option<TypeFault>, AllocError>
+    ensures { IfOk result (λ fault. option_map refusal_of_fault fault ≡ kept_part_fault (kind_of dtype.now)) }
+{
+    match dtype {
+        DType::Struct(fields, _) => {
+            let fault = record_fault(alloc, fields.as_slice())?;
+            Ok(fault)
+        }
+        DType::Primitive(ptype, _) => Ok(number_fault(*ptype)),
+        DType::Bool(_) => Ok(Some(TypeFault::UnkeptType)),
+        DType::Null | DType::Decimal(_, _) => Ok(Some(TypeFault::UnkeptType)),
+        DType::Utf8(_) | DType::Binary(_) | DType::Variant(_) => Ok(Some(TypeFault::UnkeptType)),
+        DType::List(_, _) | DType::FixedSizeList(_, _, _) | DType::Map(_, _) => {
+            Ok(Some(TypeFault::UnkeptType))
+        }
+        DType::Union(_, _) | DType::Extension(_) => Ok(Some(TypeFault::UnkeptType)),
+    }
+}
+
+// The first fault of a record of these fields.
+#[cycle(kept)]
+#[tactic(auto, using(crate::proofs::KeptParts::parts))]
+fn record_fault(alloc: Global, fields: &[StructField]) -> Result<Option<TypeFault>, AllocError>
+    ensures { IfOk result (λ fault. option_map refusal_of_fault fault ≡ kept_part_fault (struct (fields_of fields.now) non_nullable)) }
+{
+    if has_repeated_name(alloc, fields)? {
+        return Ok(Some(TypeFault::RepeatedName));
+    }
+    let fault = fields_fault(alloc, fields)?;
+    Ok(fault)
+}
+
+// The first fault of these parts.
+#[cycle(kept)]
+#[tactic(auto, using(crate::proofs::KeptParts::parts))]
+fn fields_fault(alloc: Global, fields: &[StructField]) -> Result<Option<TypeFault>, AllocError>
+    ensures { IfOk result (λ fault. option_map refusal_of_fault fault ≡ kept_fields_fault (fields_of fields.now)) }
+{
+    for field in fields {
+        let fault = part_fault(alloc, &field.dtype)?;
+        if fault.is_some() {
+            return Ok(fault);
+        }
+    }
+    Ok(None)
+}
+
+#[tactic(auto, using(crate::proofs::Distinct::seen_more))]
+fn has_repeated_name(alloc: Global, fields: &[StructField]) -> Result<bool, AllocError>
+    ensures { IfOk result (λ found. found ≡ not (names_distinct (fields_of fields.now))) }
+{
+    let mut seen = BTreeSet::new(alloc);
+    let mut rest = fields.len();
+    while rest > 0 {
+        rest -= 1;
+        let name = fields[rest].name.as_str();
+        if !seen.insert(name)? {
+            return Ok(true);
+        }
+    }
+    Ok(false)
+}

@@ -1,0 +1,5 @@
+//! Types of tables: which a table can hold, and where their leaves stand.
+#![tactic(auto)]
+
+pub mod kept;
+pub mod leaves;
