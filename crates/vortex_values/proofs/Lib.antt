@@ -1,0 +1,4 @@
+pub mod Nulls
+pub mod Sizes
+pub mod Views
+pub mod Widths
