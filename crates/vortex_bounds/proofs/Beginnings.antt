@@ -1,0 +1,71 @@
+-- The longest beginning of a text or of bytes, and a text without its last character.
+use Rattle.std.proofs.Common.{◌≡◌, ℕ, ◌<◌, ◌≤◌, List, [], ◌∷◌, ◌++◌, length, take, drop, true, refl, sym, ap, ◌∙◌, subst, arith, ⊎_elim, IsUtf8, IsCharBoundary, take-append-drop, length-take, length-append, append-nil, ap₂, chars}
+use Rattle.std.specs.Char.{encode_utf8}
+use Rattle.std.specs.Str.{encode_utf8_all}
+use Rattle.std.proofs.Math.Utf8.{scalars}
+use Rattle.std.proofs.lemmas.Bool.{cases_lt}
+use Rattle.std.proofs.lemmas.Bool.Decides.{nat_tests}
+use Rattle.std.proofs.lemmas.Str.{IsUtf8-take, IsUtf8-drop, encodes-append, encodes-chars, IsCharBoundary-from_take, chars-append, chars_past_char, chars-nil}
+use Rattle.std.proofs.lemmas.List.Prefix.{front_rest}
+use Rattle.vortex_model.specs.Bounds.{Begins, IsLongestBeginning, AnyBytes}
+
+take_front : (w rest : List ℕ) → take (length w) (w ++ rest) ≡ w
+take_front [] rest = refl
+take_front (x ∷ w) rest = ap (λ t. x ∷ t) (take_front w rest)
+
+pub begins_take : (w v : List ℕ) → Begins w v → take (length w) v ≡ w
+begins_take w v b = subst (λ x. take (length w) x ≡ w) (sym b.1) (take_front w b.0)
+
+pub begins_length : (w v : List ℕ) → Begins w v → length w ≤ length v
+begins_length w v b = omega (arith, length-append w b.0, ap length b.1)
+
+-- cut where a character ends, with no later such place within the length
+pub cut_longest : (v : List ℕ) (n e : ℕ) → IsUtf8 v → IsCharBoundary v e → e ≤ n → ((i : ℕ) → e < i → i ≤ n → IsCharBoundary v i → ⊥) → IsLongestBeginning IsUtf8 v n (take e v)
+cut_longest v n e u cut le none = record {
+  fits = omega (arith, length-take e v);
+  begins = (drop e v, sym (take-append-drop e v));
+  passes = IsUtf8-take v e u cut;
+  longest = λ w fits b uw.
+      let all : length (take e v) ≡ e = omega (arith, length-take e v, cut.0) in
+      ⊎_elim
+      (λ lt. absurd (none (length w) lt fits (IsCharBoundary-from_take v (length w) u (begins_length w v b) (subst IsUtf8 (sym (begins_take w v b)) uw))))
+      (λ ge. omega arith)
+      (cases_lt e (length w));
+}
+
+-- the first bytes
+pub take_longest : (v : List ℕ) (n : ℕ) → IsLongestBeginning AnyBytes v n (take n v)
+take_longest v n = record {
+  fits = omega (arith, length-take n v);
+  begins = (drop n v, sym (take-append-drop n v));
+  passes = tt;
+  longest = λ w fits b any. let le = begins_length w v b in omega (arith, length-take n v, le, fits);
+}
+
+-- there is one longest beginning
+pub longest_same : (P : List ℕ → Type 0) (v p q : List ℕ) (n : ℕ) → IsLongestBeginning P v n p → IsLongestBeginning P v n q → p ≡ q
+longest_same P v p q n a b =
+    let pq = a.longest q b.fits b.begins b.passes in
+    let qp = b.longest p a.fits a.begins a.passes in
+    let same : length p ≡ length q = omega arith in
+    sym (begins_take p v a.begins) ∙ ap (λ k. take k v) same ∙ begins_take q v b.begins
+
+pub scalars_left : (xs ys : List ℕ) → scalars (xs ++ ys) ≡ true → scalars xs ≡ true
+scalars_left [] ys h = refl
+scalars_left (x ∷ xs) ys h = grind (arith, nat_tests, scalars_left xs ys)
+
+-- a text's last character
+pub chars_last : (text front : List ℕ) (c : ℕ) → IsUtf8 text → IsUtf8 front → text ≡ front ++ encode_utf8 c → chars text ≡ chars front ++ c ∷ []
+chars_last text front c u uf e =
+    let b : Begins front text = (encode_utf8 c, e) in
+    let cut = IsCharBoundary-from_take text (length front) u (begins_length front text b) (subst IsUtf8 (sym (begins_take front text b)) uf) in
+    let us : IsUtf8 (encode_utf8 c) = subst IsUtf8 (front_rest text front (encode_utf8 c) e) (IsUtf8-drop text (length front) u cut) in
+    ap chars e ∙ chars-append front (encode_utf8 c) uf
+    ∙ ap (λ t. chars front ++ t) (chars_past_char (encode_utf8 c) [] c us (sym (append-nil (encode_utf8 c))) ∙ ap (λ t. c ∷ t) chars-nil)
+
+pub chars_none : (v : List ℕ) → length v ≡ 0 → chars v ≡ []
+chars_none [] h = chars-nil
+chars_none (x ∷ v) h = absurd (omega arith)
+
+pub pushed : (front : List ℕ) (last : ℕ) → IsUtf8 front → front ++ encode_utf8 last ≡ encode_utf8_all (chars front ++ last ∷ [])
+pushed front last u = sym (encodes-append (chars front) (last ∷ []) ∙ ap₂ (λ x y. x ++ y) (encodes-chars front u) (append-nil (encode_utf8 last)))

@@ -1,0 +1,5 @@
+use Rattle.vortex_bounds.proofs.Covered.{covered_low}
+use Rattle.vortex_bounds.proofs.laws.lows_stay_below.Goals as goal
+
+pub returns : goal.returns
+returns c = covered_low

@@ -1,0 +1,7 @@
+use Rattle.std.proofs.Common.{◌++◌, ◌∷◌, [], chars, string_bytes}
+use Rattle.vortex_bounds.proofs.Raised.{raise_made}
+use Rattle.vortex_bounds.proofs.raising.raise.Goals as goal
+
+pub returns-in_ok-raised-in-Some : goal.returns-in_ok-raised-in-Some
+returns-in_ok-raised-in-Some c =
+    raise_made c.args.text.now (chars c.in-Some.front.now ++ c.in-Some.higher ∷ []) (string_bytes c.in_ok-raised-in-Some.raised) c.utf8.text c.in-Some.ensures.parts c.in_ok-raised-in-Some.ensures

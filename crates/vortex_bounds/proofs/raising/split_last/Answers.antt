@@ -1,0 +1,12 @@
+use Rattle.std.proofs.Common.{◌++◌, ◌∙◌, sym, ap, length}
+use Rattle.std.specs.Char.{encode_utf8}
+use Rattle.vortex_bounds.proofs.Beginnings.{chars_last, chars_none}
+use Rattle.vortex_bounds.proofs.raising.split_last.Goals as goal
+
+pub returns-in-None-clause-parts : goal.returns-in-None-clause-parts
+returns-in-None-clause-parts c = chars_none c.args.text.now (ap length (sym c.chars-letters.ensures.rest) ∙ c.in-None.ensures.steps.0)
+
+pub returns-in-Some-clause-parts : goal.returns-in-Some-clause-parts
+returns-in-Some-clause-parts c =
+    chars_last c.args.text.now c.as_str.result.now c.in-Some.last c.utf8.text c.as_str.utf8
+    (sym c.chars-letters.ensures.rest ∙ c.in-Some.ensures.steps ∙ ap (λ t. t ++ encode_utf8 c.in-Some.last) (sym c.as_str.ensures))

@@ -1,0 +1,46 @@
+-- Laws of shortened bounds.
+use Rattle.std.specs.Prelude.{◌≡◌, ℕ, ◌≤◌, List, [], length, Option, Some, IsUtf8}
+use Rattle.vortex_model.specs.Content.{Content, text, blob}
+use Rattle.vortex_model.specs.Valid.{AreBytes}
+use Rattle.vortex_model.specs.Order.{IsAtMost}
+use Rattle.vortex_model.specs.Bounds.{IsLow, IsHigh, low, high}
+
+-- a text is UTF-8, and bytes are bytes
+abbrev pub IsWellFormed : Content → Type 0
+IsWellFormed (text v) = IsUtf8 v
+IsWellFormed (blob v) = AreBytes v
+IsWellFormed c = Unit {0}
+
+-- the bytes of a text or of bytes
+abbrev pub bytes_of : Content → List ℕ
+bytes_of (text v) = v
+bytes_of (blob v) = v
+bytes_of c = []
+
+-- the functions give the low and the high
+abbrev pub LowsAreOfTheFunction : Type 0
+LowsAreOfTheFunction = (v : Content) (L : ℕ) → IsWellFormed v → IsLow v L (low L v)
+
+abbrev pub HighsAreOfTheFunction : Type 0
+HighsAreOfTheFunction = (v : Content) (L : ℕ) → IsWellFormed v → IsHigh v L (high L v)
+
+-- there is one low, and one answer to what the high is
+abbrev pub LowsAreUnique : Type 0
+LowsAreUnique = (v l m : Content) (L : ℕ) → IsLow v L l → IsLow v L m → l ≡ m
+
+abbrev pub HighsAreUnique : Type 0
+HighsAreUnique = (v : Content) (h k : Option Content) (L : ℕ) → IsHigh v L h → IsHigh v L k → h ≡ k
+
+-- what is not below the least value is not below its low, and what is not above the greatest is not above its high
+abbrev pub LowsStayBelow : Type 0
+LowsStayBelow = (least l v : Content) (L : ℕ) → IsLow least L l → IsAtMost least v → IsAtMost l v
+
+abbrev pub HighsStayAbove : Type 0
+HighsStayAbove = (greatest h v : Content) (L : ℕ) → IsHigh greatest L (Some h) → IsAtMost v greatest → IsAtMost v h
+
+-- bounds are well formed, and have at most so many bytes
+abbrev pub BoundsAreWellFormed : Type 0
+BoundsAreWellFormed = (v : Content) (L : ℕ) → IsWellFormed v → ((l : Content) → IsLow v L l → IsWellFormed l) × ((h : Content) → IsHigh v L (Some h) → IsWellFormed h)
+
+abbrev pub BoundsFit : Type 0
+BoundsFit = (v : Content) (L : ℕ) → ((l : Content) → IsLow v L l → length (bytes_of l) ≤ L) × ((h : Content) → IsHigh v L (Some h) → length (bytes_of h) ≤ L)

@@ -1,0 +1,15 @@
+//! The characters of one length in UTF-8, in order.
+ghost use Rattle.std.specs.Prelude.{MatchOption};
+ghost use Rattle.vortex_model.specs.Bounds.{IsHighest};
+ghost use Rattle.vortex_bounds.specs.Raising.{IsNext};
+
+/// The least higher character with as many bytes in UTF-8, over the gap of the surrogates.
+pub fn next_character(character: char) -> Option<char>
+    ensures { MatchOption result (IsHighest character) (IsNext character) }
+{
+    match character {
+        '\u{7f}' | '\u{7ff}' | '\u{ffff}' | '\u{10ffff}' => None,
+        '\u{d7ff}' => Some('\u{e000}'),
+        _ => char::from_u32(character as u32 + 1),
+    }
+}
