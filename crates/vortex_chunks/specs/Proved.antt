@@ -2,7 +2,7 @@
 use Rattle.std.specs.Prelude.{length, Option, Some, None, Bool, false}
 use Rattle.vortex_model.specs.Kind.{Kind}
 use Rattle.vortex_model.specs.Expression.{Expression}
-use Rattle.vortex_expr.specs.Stats.{is_proved}
+use Rattle.vortex_rewrite.specs.Stats.{is_proved}
 use Rattle.vortex_chunks.specs.Given.{given_by}
 use Rattle.vortex_chunks.specs.declared.chunk.Chunk.{Chunk}
 

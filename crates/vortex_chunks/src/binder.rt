@@ -1,7 +1,7 @@
 //! What a chunk's bounds say of its leaves.
 ghost use Rattle.std.specs.Prelude.{◌≡◌, Some};
 ghost use Rattle.vortex_model.specs.Content.{truth};
-ghost use Rattle.vortex_expr.specs.Stats.{IsAnswer};
+ghost use Rattle.vortex_rewrite.specs.Stats.{IsAnswer};
 ghost use Rattle.vortex_expr.specs.Tree.{aggregate_of};
 ghost use Rattle.vortex_chunks.specs.Given.{number_or_null, said_by};
 
@@ -11,8 +11,8 @@ use std::alloc::{AllocError, Global};
 use vortex_expr::aggregate::AggregateFn;
 use vortex_expr::bind::column_positions;
 use vortex_expr::expression::{Expression, lit};
-use vortex_expr::stats::StatBinder;
 use vortex_kinds::nullability::Nullability;
+use vortex_rewrite::stats::StatBinder;
 use vortex_scalar::pvalue::PValue;
 use vortex_scalar::scalar::Scalar;
 use vortex_scalar::scalar_value::ScalarValue;

@@ -22,8 +22,8 @@ use vortex_cuts::cut::make_cut;
 use vortex_expr::bind::{PredicateError, bind};
 use vortex_expr::bound::BoundExpression;
 use vortex_expr::expression::Expression;
-use vortex_expr::rewrite::{falsify, satisfy};
 use vortex_paths::path::FieldPath;
+use vortex_rewrite::rewrite::{falsify, satisfy};
 use vortex_types::dtype::DType;
 
 fn predicate_error(error: PredicateError) -> TableError

@@ -13,8 +13,8 @@ use std::alloc::{AllocError, Global};
 use vortex_cuts::cut::Cut;
 use vortex_expr::bound::BoundExpression;
 use vortex_expr::expression::Expression;
-use vortex_expr::stats::prove_with;
 use vortex_paths::path::FieldPath;
+use vortex_rewrite::stats::prove_with;
 use vortex_scalar::scalar::Scalar;
 
 /// What becomes of a chunk.

@@ -24,6 +24,8 @@ pub fn take_rows(
         ≡ map scalar_content found.old.items ++ cut_rows cut.now (map row_content rows.now)) }
     ensures kind { OnOk result (All (λ row. scalar_kind row ≡ kind_of cut.now.dtype) found.new.items) }
 {
+    // All rows are added, so room for them is made once.
+    found.reserve(rows.len())?;
     for row in rows {
         let row = cut_row(alloc, cut, row)?;
         found.push(row)?;

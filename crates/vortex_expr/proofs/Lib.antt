@@ -1,4 +1,3 @@
 pub mod Items
 pub mod Classes
-pub mod Falsifiers
 pub mod Checks

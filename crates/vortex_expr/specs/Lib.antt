@@ -10,7 +10,4 @@ pub mod BoundTree
 pub mod BoundFalls
 pub mod Seen
 pub mod Types
-pub mod Literals
-pub mod Guards
 pub mod Faults
-pub mod Stats

@@ -1,5 +1,7 @@
--- What operators and aggregate functions stand for.
-use Rattle.vortex_model.specs.Expression.{Expression, compare, both, either, Comparison, equal, not_equal, greater, at_least, less, at_most, Aggregate, min, max, sum, null_count, nan_count, size, min_max, all_null, all_non_null, all_nan, all_non_nan}
+-- What operators and aggregate functions stand for, and the path of a column.
+use Rattle.std.specs.Prelude.{Option, Some, None}
+use Rattle.vortex_model.specs.Path.{Names}
+use Rattle.vortex_model.specs.Expression.{Expression, column, compare, both, either, Comparison, equal, not_equal, greater, at_least, less, at_most, Aggregate, min, max, sum, null_count, nan_count, size, min_max, all_null, all_non_null, all_nan, all_non_nan}
 use Rattle.vortex_expr.specs.declared.operator.Operator.{Operator}
 use Rattle.vortex_expr.specs.declared.operator.Operator.TheVariants as operator
 use Rattle.vortex_expr.specs.declared.operator.Comparison as comparison
@@ -38,3 +40,8 @@ aggregate_of aggregate.AllNull = all_null
 aggregate_of aggregate.AllNonNull = all_non_null
 aggregate_of aggregate.AllNan = all_nan
 aggregate_of aggregate.AllNonNan = all_non_nan
+
+-- the path of a column
+abbrev pub path_of : Expression → Option Names
+path_of (column xs) = Some xs
+path_of e = None

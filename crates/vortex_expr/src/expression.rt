@@ -1,8 +1,8 @@
 //! Predicates over rows, and proofs over statistics, as trees.
-ghost use Rattle.std.specs.Prelude.{◌≡◌, IfOk, []};
+ghost use Rattle.std.specs.Prelude.{◌≡◌, IfOk, IfSome, IfNone, None, []};
 ghost use Rattle.vortex_model.specs.Expression.{literal, column, compare, both, either, equal, not_equal, greater, at_least, less, at_most, statistic};
 ghost use Rattle.vortex_scalar.specs.Scalar.{scalar_kind, scalar_content};
-ghost use Rattle.vortex_expr.specs.Tree.{combined, comparison_of, aggregate_of};
+ghost use Rattle.vortex_expr.specs.Tree.{combined, comparison_of, aggregate_of, path_of};
 
 use crate::aggregate::AggregateFn;
 use crate::operator::{Comparison, Operator};
@@ -15,12 +15,13 @@ use vortex_scalar::scalar::Scalar;
 #[cycle(expression)]
 #[derive(Drop)]
 pub struct Expression {
-    pub(crate) node: Node,
+    pub node: Node,
 }
 
+/// What stands at the top of an expression.
 #[cycle(expression)]
 #[derive(Drop)]
-pub(crate) enum Node {
+pub enum Node {
     Literal(Scalar),
     Column(FieldNames),
     Compare(Comparison, Box<Expression>, Box<Expression>),
@@ -74,7 +75,7 @@ pub fn root(alloc: Global) -> Expression
 }
 
 /// A comparison of two expressions.
-pub(crate) fn compare(
+pub fn compare(
     alloc: Global,
     comparison: Comparison,
     left: Expression,
@@ -181,6 +182,23 @@ pub fn stat(
     })
 }
 
+impl Expression {
+    /// The path of the column that the expression is, where it is one, as a binder asks it of the input of a placeholder.
+    pub fn as_column(&self) -> Option<&FieldNames>
+        ensures path { IfSome result (λ path. self.now ≡ column path.now) }
+        ensures none { IfNone result (path_of self.now ≡ None) }
+    {
+        match &self.node {
+            Node::Literal(_) => None,
+            Node::Column(path) => Some(path),
+            Node::Compare(_, _, _) => None,
+            Node::And(_, _) => None,
+            Node::Or(_, _) => None,
+            Node::Stat(_, _) => None,
+        }
+    }
+}
+
 impl Clone for Expression {
     ghost is_clone = { λ old new. new ≡ old };
 
@@ -190,25 +208,23 @@ impl Clone for Expression {
 }
 
 /// The same tree.
+#[cycle(copy)]
 fn copy_of(e: &Expression) -> Result<Expression, AllocError>
     ensures { IfOk result (λ copy. copy ≡ e.now) }
 {
     match &e.node {
-        Node::Literal(value) => Ok(lit(value.clone()?)),
-        Node::Column(path) => Ok(col(path.clone()?)),
+        Node::Literal(value) => copy_literal(value),
+        Node::Column(path) => copy_column(path),
         Node::Compare(comparison, x, y) => {
-            let left = copy_of(x)?;
-            let right = copy_of(y)?;
+            let (left, right) = copy_both(x, y)?;
             compare(*Box::allocator(x), *comparison, left, right)
         }
         Node::And(x, y) => {
-            let left = copy_of(x)?;
-            let right = copy_of(y)?;
+            let (left, right) = copy_both(x, y)?;
             and(*Box::allocator(x), left, right)
         }
         Node::Or(x, y) => {
-            let left = copy_of(x)?;
-            let right = copy_of(y)?;
+            let (left, right) = copy_both(x, y)?;
             or(*Box::allocator(x), left, right)
         }
         Node::Stat(aggregate, x) => {
@@ -216,4 +232,29 @@ fn copy_of(e: &Expression) -> Result<Expression, AllocError>
             stat(*Box::allocator(x), *aggregate, input)
         }
     }
+}
+
+/// The same two trees.
+#[cycle(copy)]
+fn copy_both(left: &Expression, right: &Expression) -> Result<(Expression, Expression), AllocError>
+    ensures left { IfOk result (λ copies. copies.0 ≡ left.now) }
+    ensures right { IfOk result (λ copies. copies.1 ≡ right.now) }
+{
+    let first = copy_of(left)?;
+    let second = copy_of(right)?;
+    Ok((first, second))
+}
+
+/// The same literal.
+fn copy_literal(value: &Scalar) -> Result<Expression, AllocError>
+    ensures { IfOk result (λ copy. copy ≡ literal (scalar_kind value.now) (scalar_content value.now)) }
+{
+    Ok(lit(value.clone()?))
+}
+
+/// The same column.
+fn copy_column(path: &FieldNames) -> Result<Expression, AllocError>
+    ensures { IfOk result (λ copy. copy ≡ column path.now) }
+{
+    Ok(col(path.clone()?))
 }

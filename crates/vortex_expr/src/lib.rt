@@ -1,4 +1,4 @@
-//! Predicates over rows, and the proofs over statistics that are made of them.
+//! Expressions over rows, and predicates among them.
 #![tactic(auto)]
 
 pub mod aggregate;
@@ -7,7 +7,5 @@ pub mod bound;
 pub mod expression;
 pub mod operator;
 mod order;
-pub mod rewrite;
-pub mod stats;
-mod types;
-mod value;
+pub mod types;
+pub mod value;

@@ -28,7 +28,7 @@ pub enum Operator {
 
 /// An operator that compares.
 #[derive(Clone, Copy, Debug, PartialEq, Eq)]
-pub(crate) enum Comparison {
+pub enum Comparison {
     Eq,
     NotEq,
     Gt,
@@ -39,7 +39,7 @@ pub(crate) enum Comparison {
 
 impl Comparison {
     /// Whether two values that stand so pass.
-    pub(crate) fn holds(self, order: Ordering) -> bool
+    pub fn holds(self, order: Ordering) -> bool
         ensures { result ≡ test_of (comparison_of self) order }
     {
         match self {

@@ -13,7 +13,7 @@ use vortex_scalar::scalar_value::ScalarValue;
 
 /// What an expression gives.
 #[derive(Clone, Copy)]
-pub(crate) enum Value<'a> {
+pub enum Value<'a> {
     Null,
     Truth(bool),
     Number(i128),
@@ -22,7 +22,7 @@ pub(crate) enum Value<'a> {
 
 /// The operand that a value is.
 #[tactic(auto, using(vortex_scalar::proofs::Views::one_level))]
-pub(crate) fn read<'a>(value: Option<&'a ScalarValue>) -> Value<'a>
+pub fn read<'a>(value: Option<&'a ScalarValue>) -> Value<'a>
     ensures { seen result ≡ content_at value.entry }
 {
     match value {
@@ -34,7 +34,7 @@ pub(crate) fn read<'a>(value: Option<&'a ScalarValue>) -> Value<'a>
 }
 
 /// The operand that a truth value is, null for neither.
-pub(crate) fn truth_value<'a>(truth: Option<bool>) -> Value<'a>
+pub fn truth_value<'a>(truth: Option<bool>) -> Value<'a>
     ensures { seen result ≡ truth_content truth }
 {
     match truth {
@@ -56,7 +56,7 @@ fn order(left: Value, right: Value) -> Option<Ordering>
 }
 
 /// Whether a comparison holds. With null, and where two values do not compare, it is neither true nor false.
-pub(crate) fn compare_values(comparison: Comparison, left: Value, right: Value) -> Option<bool>
+pub fn compare_values(comparison: Comparison, left: Value, right: Value) -> Option<bool>
     ensures { truth_content result ≡ compared (comparison_of comparison) (seen left.entry) (seen right.entry) }
 {
     match order(left, right) {
@@ -66,7 +66,7 @@ pub(crate) fn compare_values(comparison: Comparison, left: Value, right: Value) 
 }
 
 /// Kleene's AND. What is no truth value counts as null.
-pub(crate) fn both_hold(left: Value, right: Value) -> Option<bool>
+pub fn both_hold(left: Value, right: Value) -> Option<bool>
     ensures { truth_content result ≡ kleene_and (seen left.entry) (seen right.entry) }
 {
     match (left, right) {
@@ -78,7 +78,7 @@ pub(crate) fn both_hold(left: Value, right: Value) -> Option<bool>
 }
 
 /// Kleene's OR. What is no truth value counts as null.
-pub(crate) fn one_holds(left: Value, right: Value) -> Option<bool>
+pub fn one_holds(left: Value, right: Value) -> Option<bool>
     ensures { truth_content result ≡ kleene_or (seen left.entry) (seen right.entry) }
 {
     match (left, right) {

@@ -40,8 +40,8 @@ pub mod expr {
         Expression, and, binary, col, eq, gt, gt_eq, lit, lt, lt_eq, not_eq, or, root, stat,
     };
     pub use vortex_expr::operator::Operator;
-    pub use vortex_expr::rewrite::{falsify, satisfy};
-    pub use vortex_expr::stats::{StatBinder, bind_stats, prove, prove_with};
+    pub use vortex_rewrite::rewrite::{falsify, satisfy};
+    pub use vortex_rewrite::stats::{StatBinder, bind_stats, prove, prove_with};
 }
 
 /// The table of chunks.

@@ -1,6 +1,14 @@
+use Rattle.std.proofs.Common.{sym, ap, ◌∙◌, append-nil, subst, map, All, ◌≡◌}
 use Rattle.vortex_types.specs.View.{kind_of}
+use Rattle.vortex_scalar.specs.Scalar.{scalar_kind, scalar_content}
 use Rattle.vortex_chunks.proofs.Taken.{taken_more, kinds_more}
 use Rattle.vortex_chunks.proofs.select.take_rows.Goals as goal
+
+pub loop-row-init : goal.loop-row-init
+loop-row-init c = record {
+  content = ap (map scalar_content) c.reserve.ensures.items ∙ sym (append-nil (map scalar_content c.args.found.now.items));
+  kind = subst (λ rows. All (λ row. scalar_kind row ≡ kind_of c.args.cut.now.dtype) rows) (sym c.reserve.ensures.items) c.requires.typed;
+}
 
 pub loop-row-preserved : goal.loop-row-preserved
 loop-row-preserved c = record {

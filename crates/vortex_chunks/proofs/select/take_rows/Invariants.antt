@@ -7,6 +7,6 @@ use Rattle.vortex_chunks.proofs.select.take_rows.Given as goal
 
 abbrev pub invariant-loop-row : goal.invariant-loop-row
 invariant-loop-row l = record {
-  content : map scalar_content l.found.items ≡ map scalar_content l.initial.found.items ++ cut_rows l.cut (map row_content (take l.row-index l.rows));
+  content : map scalar_content l.found.items ≡ map scalar_content l.fn.found.items ++ cut_rows l.cut (map row_content (take l.row-index l.rows));
   kind : All (λ row. scalar_kind row ≡ kind_of l.cut.dtype) l.found.items;
 }

@@ -1,18 +1,17 @@
 //! Values for the placeholders of a proof, and whether the proof is true then.
-ghost use Rattle.std.specs.Prelude.{◌≡◌, ℕ, IfOk, IfSome, IfNone, None, false, true};
+ghost use Rattle.std.specs.Prelude.{◌≡◌, ℕ, IfOk, None, false, true};
 ghost use Rattle.vortex_model.specs.Kind.{boolean, nullable};
 ghost use Rattle.vortex_model.specs.Content.{Content, null};
-ghost use Rattle.vortex_model.specs.Expression.{Expression as Tree, Aggregate, literal, column, statistic, reads_columns};
+ghost use Rattle.vortex_model.specs.Expression.{Expression as Tree, Aggregate, literal, statistic, reads_columns};
 ghost use Rattle.vortex_model.specs.Truth.{evaluate, is_true};
 ghost use Rattle.vortex_expr.specs.Seen.{seen, truth_in};
-ghost use Rattle.vortex_expr.specs.Stats.{IsAnswer, IsBinding, path_of, of_nothing, is_proved};
+ghost use Rattle.vortex_rewrite.specs.Stats.{IsAnswer, IsBinding, of_nothing, is_proved};
 ghost use Rattle.vortex_expr.specs.Tree.{aggregate_of};
 
-use crate::aggregate::AggregateFn;
-use crate::expression::{Expression, Node, and, col, compare, lit, or};
-use crate::value::{Value, both_hold, compare_values, one_holds, read, truth_value};
 use std::alloc::{AllocError, Global};
-use vortex_kinds::field_names::FieldNames;
+use vortex_expr::aggregate::AggregateFn;
+use vortex_expr::expression::{Expression, Node, and, compare, lit, or};
+use vortex_expr::value::{Value, both_hold, compare_values, one_holds, read, truth_value};
 use vortex_kinds::nullability::Nullability;
 use vortex_scalar::scalar::Scalar;
 use vortex_types::dtype::DType;
@@ -32,24 +31,8 @@ pub trait StatBinder {
         ensures { IfOk result (λ found. IsAnswer found (meaning self.now input.now (aggregate_of aggregate))) };
 }
 
-impl Expression {
-    /// The path of the column that the expression is, where it is one, as a binder asks it of the input of a placeholder.
-    pub fn as_column(&self) -> Option<&FieldNames>
-        ensures path { IfSome result (λ path. self.now ≡ column path.now) }
-        ensures none { IfNone result (path_of self.now ≡ None) }
-    {
-        match &self.node {
-            Node::Literal(_) => None,
-            Node::Column(path) => Some(path),
-            Node::Compare(_, _, _) => None,
-            Node::And(_, _) => None,
-            Node::Or(_, _) => None,
-            Node::Stat(_, _) => None,
-        }
-    }
-}
-
 /// The proof with each placeholder replaced by the binder's answer, which isn't walked again, or else by null.
+#[cycle(bind)]
 pub fn bind_stats<B: StatBinder>(
     alloc: Global,
     proof: &Expression,
@@ -58,25 +41,38 @@ pub fn bind_stats<B: StatBinder>(
     ensures { IfOk result (λ bound. IsBinding (B.meaning binder.now) proof.now bound) }
 {
     match &proof.node {
-        Node::Literal(value) => Ok(lit(value.clone()?)),
-        Node::Column(path) => Ok(col(path.clone()?)),
+        Node::Literal(_) => proof.clone(),
+        Node::Column(_) => proof.clone(),
         Node::Compare(comparison, x, y) => {
-            let left = bind_stats(alloc, x, binder)?;
-            let right = bind_stats(alloc, y, binder)?;
+            let (left, right) = bind_both(alloc, x, y, binder)?;
             compare(alloc, *comparison, left, right)
         }
         Node::And(x, y) => {
-            let left = bind_stats(alloc, x, binder)?;
-            let right = bind_stats(alloc, y, binder)?;
+            let (left, right) = bind_both(alloc, x, y, binder)?;
             and(alloc, left, right)
         }
         Node::Or(x, y) => {
-            let left = bind_stats(alloc, x, binder)?;
-            let right = bind_stats(alloc, y, binder)?;
+            let (left, right) = bind_both(alloc, x, y, binder)?;
             or(alloc, left, right)
         }
         Node::Stat(aggregate, input) => bind_stat(alloc, *aggregate, input, binder),
     }
+}
+
+/// Two proofs with their placeholders replaced.
+#[cycle(bind)]
+fn bind_both<B: StatBinder>(
+    alloc: Global,
+    x: &Expression,
+    y: &Expression,
+    binder: &B,
+) -> Result<(Expression, Expression), AllocError>
+    ensures left { IfOk result (λ bound. IsBinding (B.meaning binder.now) x.now bound.0) }
+    ensures right { IfOk result (λ bound. IsBinding (B.meaning binder.now) y.now bound.1) }
+{
+    let left = bind_stats(alloc, x, binder)?;
+    let right = bind_stats(alloc, y, binder)?;
+    Ok((left, right))
 }
 
 /// What a placeholder is replaced by.

@@ -4,8 +4,8 @@ use Rattle.vortex_model.specs.Kind.{Kind}
 use Rattle.vortex_model.specs.Content.{Content, null, truth, whole, text, blob, tuple, tagged, scalar}
 use Rattle.vortex_model.specs.Expression.{Expression, literal, Comparison}
 use Rattle.vortex_model.specs.Rewrite.{is_bounded, is_float_placeholder, comparison_falsifier, comparison_falsifiers, guarded, no_nan_by_count, no_nan_by_flag, joined_proofs, falsifier, satisfier}
-use Rattle.vortex_expr.specs.Literals.{literal_falsifier, literal_satisfier}
-use Rattle.vortex_expr.specs.Guards.{kept_from_nan}
+use Rattle.vortex_rewrite.specs.Literals.{literal_falsifier, literal_satisfier}
+use Rattle.vortex_rewrite.specs.Guards.{kept_from_nan}
 
 joined_if : (a b f g : Bool) (l r p : Expression) → a ≡ true → b ≡ true →
     joined_proofs (if not (a && b) then [] else (if f || g then guarded no_nan_by_count f g l r p ∷ guarded no_nan_by_flag f g l r p ∷ [] else p ∷ [])) ≡ Some (kept_from_nan f g l r p)

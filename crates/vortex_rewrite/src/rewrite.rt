@@ -1,20 +1,21 @@
 //! Proofs over statistics: that no row satisfies a predicate, and that every row does.
 ghost use Rattle.std.specs.Prelude.{◌≡◌, IfOk, Some, None, false, not};
 ghost use Rattle.std.specs.Option.{option_map_or};
-ghost use Rattle.vortex_model.specs.Expression.{compare, equal, not_equal, min, max};
+ghost use Rattle.vortex_model.specs.Expression.{compare, both, either, equal, not_equal, min, max, statistic};
 ghost use Rattle.vortex_model.specs.Typing.{type_of, has_bounds};
-ghost use Rattle.vortex_model.specs.Rewrite.{truth_literal, count_literal, bound_of, is_bounded, is_of_floats, is_float_placeholder, comparison_falsifier, comparison_falsifiers, guarded, joined_proofs, either_there, both_there, falsifier, satisfier};
+ghost use Rattle.vortex_model.specs.Rewrite.{truth_literal, count_literal, bound_of, is_bounded, is_of_floats, is_float_placeholder, comparison_falsifier, comparison_falsifiers, guarded, no_nan_by_count, no_nan_by_flag, joined_proofs, either_there, both_there, falsifier, satisfier};
 ghost use Rattle.vortex_types.specs.View.{kind_of};
 ghost use Rattle.vortex_scalar.specs.Scalar.{scalar_content};
 ghost use Rattle.vortex_expr.specs.Tree.{comparison_of, aggregate_of};
-ghost use Rattle.vortex_expr.specs.Literals.{literal_falsifier, literal_satisfier};
-ghost use Rattle.vortex_expr.specs.Guards.{guard_of, kept_from_nan};
+ghost use Rattle.vortex_rewrite.specs.Literals.{literal_falsifier, literal_satisfier};
+ghost use Rattle.vortex_rewrite.specs.Guards.{guard_of, kept_from_nan};
 
-use crate::aggregate::AggregateFn;
-use crate::expression::{Expression, Node, and, compare, lit, or, stat};
-use crate::operator::Comparison;
-use crate::types::{TypeClass, type_class};
+use crate::typing::type_class;
 use std::alloc::{AllocError, Global};
+use vortex_expr::aggregate::AggregateFn;
+use vortex_expr::expression::{Expression, Node, and, compare, lit, or, stat};
+use vortex_expr::operator::Comparison;
+use vortex_expr::types::TypeClass;
 use vortex_kinds::nullability::Nullability;
 use vortex_kinds::ptype::PType;
 use vortex_scalar::pvalue::PValue;
@@ -138,7 +139,7 @@ fn is_bounded(dtype: &DType, e: &Expression) -> bool
 }
 
 /// Whether the values of an expression have a least and a greatest one.
-#[tactic(auto, using(crate::proofs::Classes::bounded_by_class))]
+#[tactic(auto, using(crate::proofs::Placeholders::bounded_by_class))]
 fn has_bounds(dtype: &DType, e: &Expression) -> bool
     ensures { result ≡ option_map_or has_bounds (type_of (kind_of dtype.now) e.now) false }
 {
@@ -166,7 +167,7 @@ fn is_float_placeholder(dtype: &DType, e: &Expression) -> bool
 }
 
 /// Whether the values of an expression are floats.
-#[tactic(auto, using(crate::proofs::Classes::float_by_class))]
+#[tactic(auto, using(crate::proofs::Placeholders::float_by_class))]
 fn is_of_floats(dtype: &DType, e: &Expression) -> bool
     ensures { result ≡ is_of_floats (kind_of dtype.now) e.now }
 {
@@ -199,13 +200,27 @@ fn keep_from_nan(
 {
     let proof = compare_bounds(alloc, comparison, x, y)?;
     if left || right {
-        let again = proof.clone()?;
-        let by_count = guarded(alloc, NanGuard::Count, left, right, x, y, proof)?;
-        let by_flag = guarded(alloc, NanGuard::Flag, left, right, x, y, again)?;
-        or(alloc, by_count, by_flag)
+        guarded_twice(alloc, left, right, x, y, proof)
     } else {
         Ok(proof)
     }
+}
+
+/// A proof, where the flagged sides hold no NaN by the count or by the flag.
+fn guarded_twice(
+    alloc: Global,
+    left: bool,
+    right: bool,
+    x: &Expression,
+    y: &Expression,
+    proof: Expression,
+) -> Result<Expression, AllocError>
+    ensures { IfOk result (λ all. all ≡ either (guarded no_nan_by_count left right x.now y.now proof) (guarded no_nan_by_flag left right x.now y.now proof)) }
+{
+    let again = proof.clone()?;
+    let by_count = guarded(alloc, NanGuard::Count, left, right, x, y, proof)?;
+    let by_flag = guarded(alloc, NanGuard::Flag, left, right, x, y, again)?;
+    or(alloc, by_count, by_flag)
 }
 
 /// A proof, where the flagged sides hold no NaN.
@@ -222,21 +237,40 @@ fn guarded(
 {
     match (left, right) {
         (true, true) => {
-            let first = no_nan(alloc, guard, x)?;
-            let second = no_nan(alloc, guard, y)?;
-            let guards = and(alloc, first, second)?;
+            let guards = no_nan_in_both(alloc, guard, x, y)?;
             and(alloc, guards, proof)
         }
-        (true, false) => {
-            let first = no_nan(alloc, guard, x)?;
-            and(alloc, first, proof)
-        }
-        (false, true) => {
-            let second = no_nan(alloc, guard, y)?;
-            and(alloc, second, proof)
-        }
+        (true, false) => guarded_by_one(alloc, guard, x, proof),
+        (false, true) => guarded_by_one(alloc, guard, y, proof),
         (false, false) => Ok(proof),
     }
+}
+
+/// The proof that no value of either expression is NaN.
+fn no_nan_in_both(
+    alloc: Global,
+    guard: NanGuard,
+    x: &Expression,
+    y: &Expression,
+) -> Result<Expression, AllocError>
+    ensures { IfOk result (λ proof. proof ≡ both (guard_of guard x.now) (guard_of guard y.now)) }
+{
+    let first = no_nan(alloc, guard, x)?;
+    let second = no_nan(alloc, guard, y)?;
+    and(alloc, first, second)
+}
+
+/// A proof, where an expression holds no NaN.
+fn guarded_by_one(
+    alloc: Global,
+    guard: NanGuard,
+    e: &Expression,
+    proof: Expression,
+) -> Result<Expression, AllocError>
+    ensures { IfOk result (λ all. all ≡ both (guard_of guard e.now) proof) }
+{
+    let first = no_nan(alloc, guard, e)?;
+    and(alloc, first, proof)
 }
 
 /// The proof that no value of an expression is NaN.
@@ -245,10 +279,10 @@ fn no_nan(alloc: Global, guard: NanGuard, e: &Expression) -> Result<Expression, 
 {
     match guard {
         NanGuard::Count => {
-            let count = stat(alloc, AggregateFn::NanCount, e.clone()?)?;
+            let count = placeholder(alloc, AggregateFn::NanCount, e)?;
             compare(alloc, Comparison::Eq, count, no_rows())
         }
-        NanGuard::Flag => stat(alloc, AggregateFn::AllNonNan, e.clone()?),
+        NanGuard::Flag => placeholder(alloc, AggregateFn::AllNonNan, e),
     }
 }
 
@@ -333,13 +367,24 @@ fn bound(alloc: Global, aggregate: AggregateFn, e: &Expression) -> Result<Expres
     ensures { IfOk result (λ bound. bound ≡ bound_of (aggregate_of aggregate) e.now) }
 {
     match &e.node {
-        Node::Literal(value) => Ok(lit(value.clone()?)),
-        Node::Column(_) => stat(alloc, aggregate, e.clone()?),
-        Node::Compare(_, _, _) => stat(alloc, aggregate, e.clone()?),
-        Node::And(_, _) => stat(alloc, aggregate, e.clone()?),
-        Node::Or(_, _) => stat(alloc, aggregate, e.clone()?),
-        Node::Stat(_, _) => stat(alloc, aggregate, e.clone()?),
+        Node::Literal(_) => e.clone(),
+        Node::Column(_) => placeholder(alloc, aggregate, e),
+        Node::Compare(_, _, _) => placeholder(alloc, aggregate, e),
+        Node::And(_, _) => placeholder(alloc, aggregate, e),
+        Node::Or(_, _) => placeholder(alloc, aggregate, e),
+        Node::Stat(_, _) => placeholder(alloc, aggregate, e),
     }
+}
+
+/// The placeholder for a statistic of an expression.
+fn placeholder(
+    alloc: Global,
+    aggregate: AggregateFn,
+    e: &Expression,
+) -> Result<Expression, AllocError>
+    ensures { IfOk result (λ found. found ≡ statistic e.now (aggregate_of aggregate)) }
+{
+    stat(alloc, aggregate, e.clone()?)
 }
 
 /// One of the proofs, as far as they are there.

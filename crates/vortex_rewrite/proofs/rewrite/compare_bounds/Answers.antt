@@ -1,6 +1,6 @@
 -- Each arm is answered, so that a wrong one is refused at once.
 use Rattle.std.proofs.Common.{rules}
-use Rattle.vortex_expr.proofs.rewrite.compare_bounds.Goals as goal
+use Rattle.vortex_rewrite.proofs.rewrite.compare_bounds.Goals as goal
 
 pub returns-in-Eq : goal.returns-in-Eq
 returns-in-Eq c = search rules

@@ -2,8 +2,8 @@
 use Rattle.std.specs.Prelude.{Bool, ◌||◌, if◌then◌else◌}
 use Rattle.vortex_model.specs.Expression.{Expression, either}
 use Rattle.vortex_model.specs.Rewrite.{guarded, no_nan_by_count, no_nan_by_flag}
-use Rattle.vortex_expr.specs.declared.rewrite.NanGuard.{NanGuard}
-use Rattle.vortex_expr.specs.declared.rewrite.NanGuard.TheVariants as guard
+use Rattle.vortex_rewrite.specs.declared.rewrite.NanGuard.{NanGuard}
+use Rattle.vortex_rewrite.specs.declared.rewrite.NanGuard.TheVariants as guard
 
 abbrev pub guard_of : NanGuard → Expression → Expression
 guard_of guard.Count = no_nan_by_count

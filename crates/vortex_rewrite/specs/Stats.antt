@@ -2,14 +2,9 @@
 use Rattle.std.specs.Prelude.{◌≡◌, ℕ, Bool, Option, Some, None}
 use Rattle.vortex_model.specs.Content.{Content, null}
 use Rattle.vortex_model.specs.Path.{Names}
-use Rattle.vortex_model.specs.Expression.{Expression, literal, column, reads_columns}
+use Rattle.vortex_model.specs.Expression.{Expression, literal, reads_columns}
 use Rattle.vortex_model.specs.Sound.{Placeholders}
 use Rattle.vortex_model.specs.Truth.{Given, evaluate, is_true}
-
--- the path of a column
-abbrev pub path_of : Expression → Option Names
-path_of (column xs) = Some xs
-path_of e = None
 
 -- A binder's answer: a literal of the value, or none for null.
 abbrev pub IsAnswer : Option Expression → Content → Type 0

@@ -1,0 +1,2 @@
+pub mod Falsifiers
+pub mod Placeholders

@@ -1,0 +1,4 @@
+pub mod Literals
+pub mod Guards
+pub mod Classes
+pub mod Stats
