@@ -1,8 +1,8 @@
 -- Cuts by what is left of the paths, field by field.
-use Rattle.std.proofs.Common.{◌≡◌, refl, sym, ◌∙◌, ap, ℕ, zero, suc, List, [], ◌∷◌, ◌++◌, Bool, true, false, ◌&&◌, ◌||◌, Some, None, if◌then◌else◌, bytes_eq}
+use Rattle.std.proofs.Common.{◌≡◌, refl, sym, ◌∙◌, ap, ℕ, zero, suc, List, [], ◌∷◌, ◌++◌, Bool, true, false, ◌&&◌, ◌||◌, Option, Some, None, if◌then◌else◌, bytes_eq}
 use Rattle.std.specs.List.{cons_option}
 use Rattle.std.proofs.lemmas.Cmp.{nat_list_eq_equiv}
-use Rattle.vortex_model.specs.Kind.{Kind, struct, stored, Fields, no_fields, field, Nullability}
+use Rattle.vortex_model.specs.Kind.{Kind, struct, stored, Fields, no_fields, field, Nullability, nullability_of}
 use Rattle.vortex_model.specs.Content.{Content, tuple, Contents, first, nth, content_of, contents_of, Raw, raw_null, raw_tuple, Raws, no_raws, raw_first}
 use Rattle.vortex_model.specs.Valid.{valid, has, fields_have}
 use Rattle.vortex_model.specs.Path.{Names, begins}
@@ -12,6 +12,7 @@ use Rattle.vortex_model.proofs.ContentOrder.{true_left, true_right}
 use Rattle.vortex_model.proofs.Contents.{said}
 use Rattle.vortex_model.proofs.Tests.{has_so}
 use Rattle.vortex_types.specs.View.{NamedKind, fields_from}
+use Rattle.vortex_types.specs.Parts.{fields_in_kind}
 use Rattle.vortex_cuts.specs.Cut.{Tree, whole, parts, Parts, no_parts, part, KeptPart, parts_from, beyond, ask_for_all, lead_on, kept_by, kept_parts, cut_named, kept_list, content_cut, contents_cut, raw_nth, raw_cut, raws_cut}
 
 -- ---- behind a name
@@ -110,6 +111,24 @@ whole_by false ps h = absurd (cc (h))
 pub parts_whole : (paths : List Names) (k : Kind) → ask_for_all paths ≡ true → kept_by paths k ≡ whole
 parts_whole paths (struct fs n) h = whole_by (ask_for_all paths) (kept_parts paths 0 fs) h
 parts_whole paths k h = refl
+
+-- ---- by the fields that a type has, if it is a record
+
+pub record_of : (k : Kind) (fs : Fields) → Some fs ≡ fields_in_kind k → k ≡ struct fs (nullability_of k)
+record_of (struct gs n) fs h = ap (λ f. struct (fields_or f) n) (sym h)
+  where
+    fields_or : Option Fields → Fields
+    fields_or None = no_fields
+    fields_or (Some f) = f
+record_of k fs h = absurd (cc (h))
+
+pub cut_other : (paths : List Names) (k : Kind) → None ≡ fields_in_kind k → cut_kind paths [] k ≡ k
+cut_other paths (struct fs n) h = absurd (cc (h))
+cut_other paths k h = refl
+
+pub parts_other : (paths : List Names) (k : Kind) → None ≡ fields_in_kind k → kept_by paths k ≡ whole
+parts_other paths (struct fs n) h = absurd (cc (h))
+parts_other paths k h = refl
 
 -- ---- positions from one on
 

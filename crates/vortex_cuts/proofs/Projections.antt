@@ -49,5 +49,3 @@ raw_copied (Some r) = refl
 pub cut_null : (t : Tree) → raw_cut t raw_null ≡ raw_null
 cut_null whole = refl
 cut_null (parts ps) = refl
-
-pub ruleset null_kept = (cut_null)

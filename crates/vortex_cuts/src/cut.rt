@@ -1,5 +1,5 @@
 //! What paths ask for of rows.
-ghost use Rattle.std.specs.Prelude.{◌≡◌, [], IfOk, IsTrue, map, option_map};
+ghost use Rattle.std.specs.Prelude.{◌≡◌, ◌++◌, ◌∷◌, [], IfOk, OnOk, IsTrue, map, option_map};
 ghost use Rattle.vortex_model.specs.Content.{content_of};
 ghost use Rattle.vortex_model.specs.Valid.{valid};
 ghost use Rattle.vortex_model.specs.Cut.{cut_kind, cut_type};
@@ -13,6 +13,7 @@ ghost use Rattle.vortex_cuts.specs.Cut.{paths_of, names_at, behind, beyond, is_r
 use crate::projection::{KeptField, Projection, cut_value};
 use std::alloc::{AllocError, Global};
 use vortex_kinds::field_names::FieldName;
+use vortex_kinds::nullability::Nullability;
 use vortex_paths::field::Field;
 use vortex_paths::path::FieldPath;
 use vortex_scalar::scalar::Scalar;
@@ -35,25 +36,57 @@ struct KeptFields {
 }
 
 impl KeptFields {
-    ghost use Rattle.std.specs.Prelude.{◌≡◌, ◌++◌, ◌∷◌, [], OnOk, map};
-    ghost use Rattle.vortex_types.specs.View.{kind_of, field_of};
-    ghost use Rattle.vortex_cuts.specs.Cut.{tree_of, part_of_field};
+    ghost use Rattle.std.specs.Prelude.{◌≡◌, ◌++◌, ◌∷◌, [], IfOk, OnOk, map};
+    ghost use Rattle.vortex_model.specs.Kind.{struct};
+    ghost use Rattle.vortex_kinds.specs.View.{nullability_of_flag};
+    ghost use Rattle.vortex_types.specs.View.{kind_of, field_of, fields_of};
+    ghost use Rattle.vortex_cuts.specs.Cut.{parts, parts_of, tree_of, part_of_field};
 
     // Adds the field at this position, cut.
-    fn push(&mut self, position: usize, name: FieldName, cut: Cut) -> Result<(), AllocError>
-        ensures parts { OnOk result (map field_of self.new.parts.items ≡ map field_of self.old.parts.items ++ (name, kind_of cut.dtype) ∷ []) }
+    fn push(&mut self, position: usize, field: &StructField, cut: Cut) -> Result<(), AllocError>
+        ensures parts { OnOk result (map field_of self.new.parts.items ≡ map field_of self.old.parts.items ++ (field.now.name, kind_of cut.dtype) ∷ []) }
         ensures kept { OnOk result (map part_of_field self.new.kept.items ≡ map part_of_field self.old.kept.items ++ (position, tree_of cut.projection) ∷ []) }
     {
-        self.parts.push(StructField {
-            name,
-            dtype: cut.dtype,
-        })?;
-        self.kept.push(KeptField {
-            position,
-            projection: cut.projection,
-        })?;
+        push_part(&mut self.parts, &field.name, cut.dtype)?;
+        push_kept(&mut self.kept, position, cut.projection)?;
         Ok(())
     }
+
+    // A record of these fields.
+    fn into_cut(self, nullability: Nullability) -> Result<Cut, AllocError>
+        ensures dtype { IfOk result (λ cut. kind_of cut.dtype ≡ struct (fields_of self.parts.items) (nullability_of_flag nullability)) }
+        ensures projection { IfOk result (λ cut. tree_of cut.projection ≡ parts (parts_of self.kept.items)) }
+    {
+        let fields = StructFields::from_vec(self.parts)?;
+        Ok(Cut {
+            dtype: DType::Struct(fields, nullability),
+            projection: Projection::Fields(self.kept),
+        })
+    }
+}
+
+// Adds a field of this name and type.
+fn push_part(parts: &mut Vec<StructField>, name: &FieldName, dtype: DType) -> Result<(), AllocError>
+    ensures { OnOk result (map field_of parts.new.items ≡ map field_of parts.old.items ++ (name.now, kind_of dtype) ∷ []) }
+{
+    let name = name.clone()?;
+    parts.push(StructField { name, dtype })?;
+    Ok(())
+}
+
+// Adds what is kept of the field at this position.
+fn push_kept(
+    kept: &mut Vec<KeptField>,
+    position: usize,
+    projection: Projection,
+) -> Result<(), AllocError>
+    ensures { OnOk result (map part_of_field kept.new.items ≡ map part_of_field kept.old.items ++ (position, tree_of projection) ∷ []) }
+{
+    kept.push(KeptField {
+        position,
+        projection,
+    })?;
+    Ok(())
 }
 
 // Whether the path has no name.
@@ -138,21 +171,13 @@ fn cut_part(alloc: Global, dtype: &DType, paths: &[&[Field]]) -> Result<Cut, All
     if ask_for_all(paths) {
         return whole(dtype);
     }
-    match dtype {
-        DType::Struct(fields, nullability) => {
+    match dtype.as_struct_fields_opt() {
+        Some(fields) => {
             let kept = cut_fields(alloc, fields.as_slice(), paths)?;
-            let parts = StructFields::from_vec(kept.parts)?;
-            Ok(Cut {
-                dtype: DType::Struct(parts, *nullability),
-                projection: Projection::Fields(kept.kept),
-            })
+            let cut = kept.into_cut(dtype.nullability())?;
+            Ok(cut)
         }
-        DType::Null | DType::Bool(_) | DType::Primitive(_, _) | DType::Decimal(_, _) => whole(
-            dtype,
-        ),
-        DType::Utf8(_) | DType::Binary(_) | DType::List(_, _) => whole(dtype),
-        DType::FixedSizeList(_, _, _) | DType::Map(_, _) | DType::Union(_, _) => whole(dtype),
-        DType::Variant(_) | DType::Extension(_) => whole(dtype),
+        None => whole(dtype),
     }
 }
 
@@ -174,8 +199,7 @@ fn cut_fields(
         let left = beyond(alloc, paths, &field.name)?;
         if lead_on(&left) {
             let cut = cut_part(alloc, &field.dtype, &left)?;
-            let name = field.name.clone()?;
-            all.push(position, name, cut)?;
+            all.push(position, field, cut)?;
         }
     }
     Ok(all)

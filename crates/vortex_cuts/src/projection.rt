@@ -63,7 +63,6 @@ pub fn cut_value(
 
 // What is kept of the value, where `None` is null and stays null.
 #[cycle(cut_value)]
-#[tactic(auto, using(crate::proofs::Projections::null_kept))]
 fn cut_cell(
     projection: &Projection,
     alloc: Global,

@@ -1,10 +1,12 @@
 -- What a table can hold, part by part.
-use Rattle.std.proofs.Common.{◌≡◌, refl, ap, sym, ◌∙◌, Bool, true, false, not, Some, List, ◌∷◌, if◌then◌else◌}
+use Rattle.std.proofs.Common.{◌≡◌, refl, ap, sym, ◌∙◌, Bool, true, false, not, Some, None, List, ◌∷◌, if◌then◌else◌, rules}
 use Rattle.vortex_model.specs.Kind.{struct, Fields, Nullability, non_nullable}
-use Rattle.vortex_model.specs.Refusal.{not_a_record, repeated_name, or_else}
+use Rattle.vortex_model.specs.Refusal.{not_a_record, unkept_type, repeated_name, or_else}
 use Rattle.vortex_model.specs.Kept.{kept_fault, kept_part_fault, kept_fields_fault, names_distinct}
-use Rattle.vortex_kinds.specs.Numbers.{NumberKind, whole, real, type_of_numbers}
+use Rattle.vortex_kinds.specs.Numbers.{NumberKind, whole, real, type_of_numbers, is_real}
 use Rattle.vortex_types.specs.View.{kind_of, fields_of}
+use Rattle.vortex_kinds.specs.declared.nullability.Nullability as outer
+use Rattle.vortex_types.specs.declared.dtype.DType as type
 use Rattle.vortex_types.specs.declared.struct_fields.StructField.{StructField}
 use Rattle.vortex_types.proofs.Views.{one_level, field_of-parts, extension_kind-parts}
 use Rattle.vortex_schema.specs.Fault.{fault_of_numbers}
@@ -36,6 +38,19 @@ numbers_at_root (real f) n = refl
 pub numbers_in_part : (k : NumberKind) (n : Nullability) → kept_part_fault (type_of_numbers k n) ≡ fault_of_numbers k
 numbers_in_part (whole i) n = refl
 numbers_in_part (real f) n = refl
+
+-- what a part of numbers has for a fault
+pub real_fault : (k : NumberKind) → is_real k ≡ true → Some unkept_type ≡ fault_of_numbers k
+real_fault (whole i) h = absurd (cc (h))
+real_fault (real f) h = refl
+
+pub whole_fault : (k : NumberKind) → is_real k ≡ false → None ≡ fault_of_numbers k
+whole_fault (whole i) h = refl
+whole_fault (real f) h = absurd (cc (h))
+
+-- truth values are no part that is kept
+pub truths_in_part : (n : outer.Nullability) → kept_part_fault (kind_of (type.Bool n)) ≡ Some unkept_type
+truths_in_part n = search (rules, type.the_lemmas)
 
 pub ruleset roots = (one_level, extension_kind-parts, numbers_at_root)
 

@@ -1,5 +1,5 @@
 -- Texts that are written piece by piece.
-use Rattle.std.proofs.Common.{◌≡◌, ℕ, zero, suc, ◌+◌, ◌<◌, Bool, true, List, [], ◌∷◌, ◌++◌, length, drop, get_or, sym, ap, ◌∙◌, append-nil, append_assoc, arith}
+use Rattle.std.proofs.Common.{◌≡◌, ℕ, Result, Ok, Err, OnOk, zero, suc, ◌+◌, ◌<◌, Bool, true, List, [], ◌∷◌, ◌++◌, length, drop, get_or, sym, ap, ◌∙◌, append-nil, append_assoc, arith}
 use Rattle.json.specs.Token.{string}
 use Rattle.json.specs.Print.{print, print_from, quoted}
 use Rattle.vortex_model.specs.Kind.{Kind}
@@ -11,6 +11,11 @@ use Rattle.vortex_type_texts.specs.Text.{comma, kind_text, children_text, names_
 pub print_one : (t : List ℕ) → print (string t ∷ []) ≡ quoted t
 unfolding print_from
 print_one t = append-nil (quoted t)
+
+-- what a last call wrote, as what all calls wrote
+pub ended_as : {E : Type 0} (old mid t u new : List ℕ) (r : Result (Unit {0}) E) → (new ≡ mid ++ t → new ≡ old ++ u) → OnOk r (new ≡ mid ++ t) → OnOk r (new ≡ old ++ u)
+ended_as old mid t u new (Ok x) f written = f written
+ended_as old mid t u new (Err e) f written = written
 
 pub three_pieces : (old x t y a b new : List ℕ) → a ≡ old ++ x → b ≡ a ++ t → new ≡ b ++ y → new ≡ old ++ (x ++ (t ++ y))
 three_pieces old x t y a b new e f g = rw (g, f, e) (simp append_assoc)

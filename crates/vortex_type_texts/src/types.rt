@@ -117,7 +117,7 @@ fn push_fixed_list_end(
     Ok(())
 }
 
-/// Writes a type as a table can hold it, and nothing for one of another kind.
+/// Writes a type as a table can hold it, and nothing for one of another kind. An `Err` promises nothing of the buffer.
 #[cycle(kind)]
 pub fn push_dtype(alloc: Global, out: &mut Vec<u8>, dtype: &DType) -> Result<(), AllocError>
     ensures { OnOk result (out.new.items ≡ out.old.items ++ kind_text (kind_of dtype.now)) }
@@ -130,21 +130,18 @@ pub fn push_dtype(alloc: Global, out: &mut Vec<u8>, dtype: &DType) -> Result<(),
         DType::List(element, nullability) => {
             out.extend_from_slice(b"{\"children\":[")?;
             push_dtype(alloc, out, element)?;
-            push_list_end(out, *nullability)?;
-            Ok(())
+            push_list_end(out, *nullability)
         }
         DType::FixedSizeList(element, size, nullability) => {
             out.extend_from_slice(b"{\"children\":[")?;
             push_dtype(alloc, out, element)?;
-            push_fixed_list_end(out, *size, *nullability)?;
-            Ok(())
+            push_fixed_list_end(out, *size, *nullability)
         }
         DType::Struct(fields, nullability) => {
             let fields = fields.as_slice();
             out.extend_from_slice(b"{\"children\":[")?;
             push_children(alloc, out, fields)?;
-            push_struct_end(alloc, out, fields, *nullability)?;
-            Ok(())
+            push_struct_end(alloc, out, fields, *nullability)
         }
         DType::Null | DType::Decimal(_, _) | DType::Map(_, _) => Ok(()),
         DType::Union(_, _) | DType::Variant(_) | DType::Extension(_) => Ok(()),

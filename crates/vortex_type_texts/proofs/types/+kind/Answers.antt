@@ -3,8 +3,8 @@ use Rattle.vortex_model.specs.Kind.{Kind, Fields, list, fixed_list, struct, is_n
 use Rattle.vortex_kinds.specs.View.{nullability_of_flag}
 use Rattle.vortex_types.specs.View.{kind_of, fields_of}
 use Rattle.vortex_types.proofs.Views.{kind_of-List, kind_of-FixedSizeList, kind_of-Struct}
-use Rattle.vortex_type_texts.specs.Text.{kind_text, flag_text}
-use Rattle.vortex_type_texts.proofs.Pieces.{one_more_child, three_pieces, list_pieces, fixed_list_pieces}
+use Rattle.vortex_type_texts.specs.Text.{kind_text, flag_text, list_end_text, fixed_list_end_text, struct_end_text}
+use Rattle.vortex_type_texts.proofs.Pieces.{one_more_child, ended_as, three_pieces, list_pieces, fixed_list_pieces}
 use Rattle.vortex_types.proofs.Sizes.{kind_size, fields_size, field_smaller}
 use Rattle.vortex_type_texts.proofs.types.+kind.Goals as goal
 
@@ -19,31 +19,37 @@ push_children-loop-field-preserved t c =
     one_more_child _ _ _ _ c.loop-field.later c.args.fields.now c.loop-field.field-index c.field-item.result (omega arith) c.field-item.is
     c.in_ok-push_comma.ensures c.in_ok-push_dtype.ensures c.loop-field.invariant
 
-pub push_dtype-returns-in_ok-push_struct_end-in-Struct : goal.push_dtype-returns-in_ok-push_struct_end-in-Struct
-push_dtype-returns-in_ok-push_struct_end-in-Struct t c =
+pub push_dtype-returns-in_ok-push_children-in-Struct : goal.push_dtype-returns-in_ok-push_children-in-Struct
+push_dtype-returns-in_ok-push_children-in-Struct t c =
     let e : kind_of c.args.dtype.now ≡ struct (fields_of c.as_slice-fields.result.now) (nullability_of_flag c.in-Struct.nullability) =
     ap kind_of c.in-Struct.is ∙ kind_of-Struct c.in-Struct.fields c.in-Struct.nullability
     ∙ ap (λ (fs : Fields). struct fs (nullability_of_flag c.in-Struct.nullability)) (sym c.as_slice-fields.ensures.fields) in
-    three_pieces c.args.out.now.items _ _ _ _ _ _ c.in_ok-extend_from_slice-in-Struct.ensures.items c.in_ok-push_children-in-Struct.ensures c.in_ok-push_struct_end-in-Struct.ensures
-    ∙ ap (λ (k : Kind). c.args.out.now.items ++ kind_text k) (sym e)
+    ended_as c.args.out.now.items c.push_children.new.out.items (struct_end_text (fields_of c.as_slice-fields.result.now) (nullability_of_flag c.in-Struct.nullability)) (kind_text (kind_of c.args.dtype.now)) c.push_struct_end.new.out.items c.push_struct_end.result
+    (λ ended. three_pieces c.args.out.now.items _ _ _ _ _ _ c.in_ok-extend_from_slice-in-Struct.ensures.items c.in_ok-push_children-in-Struct.ensures ended
+    ∙ ap (λ (k : Kind). c.args.out.now.items ++ kind_text k) (sym e))
+    c.push_struct_end.ensures
 
-pub push_dtype-returns-in_ok-push_list_end-in-List : goal.push_dtype-returns-in_ok-push_list_end-in-List
-push_dtype-returns-in_ok-push_list_end-in-List t c =
+pub push_dtype-returns-in_ok-push_dtype-in-List : goal.push_dtype-returns-in_ok-push_dtype-in-List
+push_dtype-returns-in_ok-push_dtype-in-List t c =
     let n = nullability_of_flag c.in-List.nullability in
     let child : c.in-List.element.value ≡ c.deref.result.now = cc (c.deref.ensures) in
     let e : kind_of c.args.dtype.now ≡ list (kind_of c.deref.result.now) n = ap kind_of c.in-List.is ∙ kind_of-List _ _ ∙ ap (λ d. list (kind_of d) n) child in
-    list_pieces c.args.out.now.items (codes "{\"children\":[") (kind_text (kind_of c.deref.result.now)) (codes "],\"kind\":\"list\",\"nullable\":") (flag_text (is_nullable n)) (codes "}") _ _ _
-    c.in_ok-extend_from_slice-in-List.ensures.items c.in_ok-push_dtype-in-List.ensures c.in_ok-push_list_end-in-List.ensures
-    ∙ ap (λ (k : Kind). c.args.out.now.items ++ kind_text k) (sym e)
+    ended_as c.args.out.now.items c.push_dtype.new.out.items (list_end_text n) (kind_text (kind_of c.args.dtype.now)) c.push_list_end.new.out.items c.push_list_end.result
+    (λ ended. list_pieces c.args.out.now.items (codes "{\"children\":[") (kind_text (kind_of c.deref.result.now)) (codes "],\"kind\":\"list\",\"nullable\":") (flag_text (is_nullable n)) (codes "}") _ _ _
+    c.in_ok-extend_from_slice-in-List.ensures.items c.in_ok-push_dtype-in-List.ensures ended
+    ∙ ap (λ (k : Kind). c.args.out.now.items ++ kind_text k) (sym e))
+    c.push_list_end.ensures
 
-pub push_dtype-returns-in_ok-push_fixed_list_end-in-FixedSizeList : goal.push_dtype-returns-in_ok-push_fixed_list_end-in-FixedSizeList
-push_dtype-returns-in_ok-push_fixed_list_end-in-FixedSizeList t c =
+pub push_dtype-returns-in_ok-push_dtype-in-FixedSizeList : goal.push_dtype-returns-in_ok-push_dtype-in-FixedSizeList
+push_dtype-returns-in_ok-push_dtype-in-FixedSizeList t c =
     let n = nullability_of_flag c.in-FixedSizeList.nullability in
     let size = c.in-FixedSizeList.size in
     let child : c.in-FixedSizeList.element.value ≡ c.deref-in-FixedSizeList.result.now = cc (c.deref-in-FixedSizeList.ensures) in
     let e : kind_of c.args.dtype.now ≡ fixed_list (kind_of c.deref-in-FixedSizeList.result.now) size n =
     ap kind_of c.in-FixedSizeList.is ∙ kind_of-FixedSizeList _ _ _ ∙ ap (λ d. fixed_list (kind_of d) size n) child in
-    fixed_list_pieces c.args.out.now.items (codes "{\"children\":[") (kind_text (kind_of c.deref-in-FixedSizeList.result.now)) (codes "],\"kind\":\"fixed_size_list\",\"nullable\":")
+    ended_as c.args.out.now.items c.push_dtype-in-FixedSizeList.new.out.items (fixed_list_end_text size n) (kind_text (kind_of c.args.dtype.now)) c.push_fixed_list_end.new.out.items c.push_fixed_list_end.result
+    (λ ended. fixed_list_pieces c.args.out.now.items (codes "{\"children\":[") (kind_text (kind_of c.deref-in-FixedSizeList.result.now)) (codes "],\"kind\":\"fixed_size_list\",\"nullable\":")
     (flag_text (is_nullable n)) (codes ",\"size\":") (decimal size) (codes "}") _ _ _
-    c.in_ok-extend_from_slice-in-FixedSizeList.ensures.items c.in_ok-push_dtype-in-FixedSizeList.ensures c.in_ok-push_fixed_list_end-in-FixedSizeList.ensures
-    ∙ ap (λ (k : Kind). c.args.out.now.items ++ kind_text k) (sym e)
+    c.in_ok-extend_from_slice-in-FixedSizeList.ensures.items c.in_ok-push_dtype-in-FixedSizeList.ensures ended
+    ∙ ap (λ (k : Kind). c.args.out.now.items ++ kind_text k) (sym e))
+    c.push_fixed_list_end.ensures
