@@ -41,6 +41,7 @@ pub use vortex_records::map_dtype_ext::MapDTypeExt;
 pub use vortex_records::struct_fields_ext::StructFieldsExt;
 pub use vortex_records::union_variants_ext::UnionVariantsExt;
 pub use vortex_records::variants_iter::VariantsIter;
+pub use vortex_types::convert::NotPrimitive;
 pub use vortex_types::dtype::DType;
 pub use vortex_types::extension::ExtDTypeRef;
 pub use vortex_types::map_dtype::{MapDType, MapEntries};

@@ -3,7 +3,7 @@ ghost use Rattle.std.specs.Prelude.{◌≡◌, ◌↔◌, true, refl, unsigned_a
 ghost use Rattle.std.specs.Ordering.{int_cmp};
 ghost use Rattle.std.proofs.Common.{ap};
 ghost use Rattle.vortex_model.specs.Valid.{in_range};
-ghost use Rattle.vortex_kinds.specs.Numbers.{whole, is_natural, reach_of, IsGreatest};
+ghost use Rattle.vortex_kinds.specs.Numbers.{whole, is_natural, IsGreatest};
 ghost use Rattle.vortex_kinds.specs.View.{number_kind_of};
 
 use crate::downcast::{PTypeDowncast, PTypeUpcast};
@@ -97,8 +97,8 @@ pub trait PhysicalPType: NativePType {
     /// What stores it: itself.
     type Physical: NativePType;
 
-    // It is as wide.
-    ghost as_wide: { reach_of Self.Physical.kind ≡ reach_of Self.kind };
+    // It is of the same kind.
+    ghost itself: { Self.Physical.kind ≡ Self.kind };
 }
 
 impl NativePType for u8 {
@@ -132,7 +132,7 @@ impl IntegerPType for u8 {
 impl PhysicalPType for u8 {
     type Physical = u8;
 
-    ghost as_wide = { refl };
+    ghost itself = { refl };
 }
 
 impl NativePType for u16 {
@@ -166,7 +166,7 @@ impl IntegerPType for u16 {
 impl PhysicalPType for u16 {
     type Physical = u16;
 
-    ghost as_wide = { refl };
+    ghost itself = { refl };
 }
 
 impl NativePType for u32 {
@@ -200,7 +200,7 @@ impl IntegerPType for u32 {
 impl PhysicalPType for u32 {
     type Physical = u32;
 
-    ghost as_wide = { refl };
+    ghost itself = { refl };
 }
 
 impl NativePType for u64 {
@@ -234,7 +234,7 @@ impl IntegerPType for u64 {
 impl PhysicalPType for u64 {
     type Physical = u64;
 
-    ghost as_wide = { refl };
+    ghost itself = { refl };
 }
 
 impl NativePType for i8 {
@@ -268,7 +268,7 @@ impl IntegerPType for i8 {
 impl PhysicalPType for i8 {
     type Physical = i8;
 
-    ghost as_wide = { refl };
+    ghost itself = { refl };
 }
 
 impl NativePType for i16 {
@@ -302,7 +302,7 @@ impl IntegerPType for i16 {
 impl PhysicalPType for i16 {
     type Physical = i16;
 
-    ghost as_wide = { refl };
+    ghost itself = { refl };
 }
 
 impl NativePType for i32 {
@@ -336,7 +336,7 @@ impl IntegerPType for i32 {
 impl PhysicalPType for i32 {
     type Physical = i32;
 
-    ghost as_wide = { refl };
+    ghost itself = { refl };
 }
 
 impl NativePType for i64 {
@@ -370,7 +370,7 @@ impl IntegerPType for i64 {
 impl PhysicalPType for i64 {
     type Physical = i64;
 
-    ghost as_wide = { refl };
+    ghost itself = { refl };
 }
 
 impl UnsignedPType for u8 {

@@ -1,9 +1,10 @@
 -- What tests for equality see.
 use Rattle.std.proofs.Math.Bool.{and-false, and-true, true-and, false-and}
-use Rattle.std.proofs.Common.{◌≡◌, ◌≢◌, false, List, [], ◌∷◌, length, suc, refl, sym, ap}
-use Rattle.vortex_model.specs.Kind.{same_fields, same_variants, bare_fields, bare_variants}
+use Rattle.std.proofs.Common.{◌≡◌, ◌≢◌, ◌↔◌, IsTrue, false, List, [], ◌∷◌, length, suc, refl, sym, ap}
+use Rattle.vortex_model.specs.Kind.{Kind, mapping, non_nullable, same_fields, same_variants, bare_fields, bare_variants}
 use Rattle.vortex_types.specs.Equal.{same_kind-decides, same_fields-decides, same_variants-decides}
-use Rattle.vortex_types.specs.View.{fields_of, variants_of}
+use Rattle.vortex_types.specs.View.{EntryKinds, entries_in, map_kind, same_map, fields_of, variants_of}
+use Rattle.vortex_types.specs.declared.map_dtype.MapDType.{MapDType}
 use Rattle.vortex_types.specs.declared.struct_fields.StructField.{StructField}
 use Rattle.vortex_types.specs.declared.union_variants.UnionVariant.{UnionVariant}
 use Rattle.vortex_types.proofs.Views.{one_level, extension_kind-parts}
@@ -33,6 +34,20 @@ unequal_bare_choices [] [] n = absurd (n refl)
 unequal_bare_choices [] (y ∷ ys) n = refl
 unequal_bare_choices (x ∷ xs) [] n = refl
 unequal_bare_choices (x ∷ xs) (y ∷ ys) n = rw (← unequal_bare_choices xs ys (λ e. n (ap suc e))) (sym (and-false _))
+
+-- the entries of a type of maps
+abbrev entries_inside : Kind → EntryKinds
+entries_inside (mapping k v s n) = record { key = k; value = v; sorted = s }
+entries_inside k = record { key = k; value = k; sorted = false }
+
+abbrev mapping_of : EntryKinds → Kind
+mapping_of e = mapping e.key e.value e.sorted non_nullable
+
+-- maps are equal where their entries are
+pub maps_decided : (m l : MapDType) → IsTrue (same_map m l) ↔ (entries_in m ≡ entries_in l)
+maps_decided m l =
+    let decides = same_kind-decides (map_kind m) (map_kind l) in
+    (λ e. ap entries_inside (decides.0 e), λ e. decides.1 (ap mapping_of e))
 
 pub ruleset tests = (one_level, unequal_lengths, unequal_bare_lengths, unequal_choices, unequal_bare_choices, true-and, false-and)
 

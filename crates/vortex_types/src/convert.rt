@@ -1,7 +1,7 @@
 //! Types from kinds of numbers, and back.
 ghost use Rattle.std.specs.Prelude.{◌≡◌, option_map};
 ghost use Rattle.std.specs.Result.{result_ok};
-ghost use Rattle.vortex_model.specs.Kind.{non_nullable};
+ghost use Rattle.vortex_model.specs.Kind.{integer, non_nullable, u8};
 ghost use Rattle.vortex_kinds.specs.Numbers.{type_of_numbers};
 ghost use Rattle.vortex_kinds.specs.View.{number_kind_of};
 ghost use Rattle.vortex_types.specs.View.{kind_of};
@@ -14,6 +14,14 @@ use vortex_kinds::ptype::PType;
 impl DType {
     /// Single bytes without null.
     pub const BYTES: DType = DType::Primitive(PType::U8, Nullability::NonNullable);
+
+    /// `BYTES`, of which no clause can speak by its name.
+    #[tactic(auto, using(crate::proofs::Views::one_level))]
+    pub fn bytes() -> DType
+        ensures { kind_of result ≡ integer u8 non_nullable }
+    {
+        DType::BYTES
+    }
 }
 
 /// Numbers of the kind, without null.

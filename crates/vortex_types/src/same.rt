@@ -2,7 +2,7 @@
 ghost use Rattle.std.specs.Prelude.{◌≡◌, ◌↔◌, IsTrue};
 ghost use Rattle.std.specs.Cmp.{on_equiv, partial_equiv_from_equiv};
 ghost use Rattle.vortex_model.specs.Kind.{same_kind, same_fields, same_variants};
-ghost use Rattle.vortex_types.specs.View.{kind_of, extension_kind, fields_in, fields_of, variants_in, variants_of, map_kind, same_dtype, same_map, same_struct_fields, same_union_variants, same_extension};
+ghost use Rattle.vortex_types.specs.View.{kind_of, extension_kind, entries_in, fields_in, fields_of, variants_in, variants_of, map_kind, same_dtype, same_map, same_struct_fields, same_union_variants, same_extension};
 ghost use Rattle.vortex_types.specs.Equal.{same_kind_equiv, same_fields_equiv, same_variants_equiv};
 
 use crate::dtype::DType;
@@ -71,13 +71,12 @@ impl PartialEq for MapDType {
 
     ghost laws = { partial_equiv_from_equiv (on_equiv map_kind same_kind_equiv) };
 
-    #[tactic(auto, using(crate::proofs::Tests::maps))]
+    #[tactic(auto, using(crate::proofs::Tests::maps_decided))]
     fn eq(&self, other: &MapDType) -> bool
-        ensures { result ≡ same_map self.now other.now }
+        ensures test { result ≡ same_map self.now other.now }
+        ensures equal { IsTrue result ↔ (entries_in self.now ≡ entries_in other.now) }
     {
-        same_type(self.key_dtype(), other.key_dtype())
-            && same_type(self.value_dtype(), other.value_dtype())
-            && self.keys_sorted() == other.keys_sorted()
+        same_entries(self, other)
     }
 }
 
@@ -189,4 +188,13 @@ fn same_extension(a: &ExtDTypeRef, b: &ExtDTypeRef) -> bool
     ensures { result ≡ same_kind (extension_kind a.now) (extension_kind b.now) }
 {
     a.has_same_name(b) && same_type(&a.storage, &b.storage)
+}
+
+#[tactic(auto, using(crate::proofs::Tests::maps))]
+fn same_entries(a: &MapDType, b: &MapDType) -> bool
+    ensures { result ≡ same_map a.now b.now }
+{
+    same_type(a.key_dtype(), b.key_dtype())
+        && same_type(a.value_dtype(), b.value_dtype())
+        && a.keys_sorted() == b.keys_sorted()
 }
