@@ -1,14 +1,13 @@
 -- Bytes counted up by one are the least string of that length above.
-use Rattle.std.proofs.Common.{◌≡◌, ℕ, zero, suc, ◌+◌, ◌-◌, ◌<◌, ◌≤◌, List, [], ◌∷◌, ◌++◌, length, take, drop, get_or, refl, sym, ap, ◌∙◌, subst, arith, ⊎_elim, ◌⊎◌, inl, inr, append_assoc, length-append, length-take, length-drop, take_all, replicate, Option, Some, None}
+use Rattle.std.proofs.Common.{◌≡◌, ℕ, zero, suc, ◌+◌, ◌-◌, ◌<◌, ◌≤◌, List, [], ◌∷◌, ◌++◌, length, take, drop, get_or, sym, ap, ◌∙◌, subst, arith, ⊎_elim, append_assoc, length-append, length-take, length-drop, take_all, replicate}
 use Rattle.std.specs.List.{AllByRecursion}
 use Rattle.std.proofs.lemmas.List.Elements.{All-from_get_or, recursion_from_All}
 use Rattle.std.proofs.lemmas.List.{get_or-take, get_or-drop, take-append-drop, length-replicate}
-use Rattle.std.proofs.lemmas.Bool.Decides.{nat_tests}
-use Rattle.std.proofs.lemmas.Bool.{cases_lt}
 use Rattle.std.proofs.Math.Seq.{drop-cons}
 use Rattle.vortex_model.specs.Valid.{AreBytes}
-use Rattle.vortex_model.specs.Bounds.{IsLeastAbove, NoneAbove, count_up}
-use Rattle.vortex_bounds.proofs.Order.{IsUnder, under_cases, under_head, under_tail, under_below, below_under, under_or_upto}
+use Rattle.vortex_model.specs.Bounds.{IsLeastAbove, NoneAbove}
+use Rattle.vortex_model.proofs.CountUp.{zeros_are_bytes, front_bytes}
+use Rattle.vortex_model.proofs.ByteOrder.{IsUnder, under_cases, under_head, under_tail, under_below, below_under, under_or_upto}
 
 abbrev pub AreFull : List ℕ → Type 0
 AreFull f = AllByRecursion (λ b. b ≡ 255) f
@@ -31,10 +30,6 @@ none_below zero [] e u = cc
 none_below zero (y ∷ ys) e u = absurd (omega arith)
 none_below (suc n) [] e u = absurd (omega arith)
 none_below (suc n) (y ∷ ys) e u = ⊎_elim (λ lt. absurd (omega arith)) (λ t. none_below n ys (omega arith) t.1) (under_cases y 0 ys (replicate n 0) u)
-
-zeros_are_bytes : (n : ℕ) → AreBytes (replicate n 0)
-zeros_are_bytes zero = tt
-zeros_are_bytes (suc n) = (omega arith, zeros_are_bytes n)
 
 bytes_with : (a : List ℕ) (y : ℕ) (ys : List ℕ) → AreBytes a → y < 256 → AreBytes ys → AreBytes (a ++ y ∷ ys)
 bytes_with [] y ys a b c = (b, c)
@@ -71,76 +66,6 @@ module _ (x : ℕ) (f rest : List ℕ) (small : x < 255) (full : AreFull f) (mor
         (λ upto. upto)
         (under_or_upto w (a ++ suc x ∷ replicate (length f) 0));
   }
-
--- ---- counting up as a function
-
-front_bytes : (xs ys : List ℕ) → AreBytes (xs ++ ys) → AreBytes xs
-front_bytes [] ys a = tt
-front_bytes (x ∷ xs) ys a = (a.0, front_bytes xs ys a.1)
-
-counted_none : (f : List ℕ) → AreFull f → count_up f ≡ None
-counted_none [] a = refl
-counted_none (x ∷ f) a = grind (arith, nat_tests, counted_none f a.1, a.0)
-
-counted_here : (x : ℕ) (f : List ℕ) → x < 255 → AreFull f → count_up (x ∷ f) ≡ Some (suc x ∷ replicate (length f) 0)
-counted_here x f small a = grind (arith, nat_tests, counted_none f a, small)
-
-counted : (a : List ℕ) (x : ℕ) (f : List ℕ) → x < 255 → AreFull f → count_up (a ++ x ∷ f) ≡ Some (a ++ suc x ∷ replicate (length f) 0)
-counted [] x f small full = counted_here x f small full
-counted (y ∷ a) x f small full = grind (arith, counted a x f small full)
-
--- where the bytes ff at the end of a string begin
-record Ends (p : List ℕ) : Type 0 where
-  front : List ℕ
-  last : ℕ
-  full : List ℕ
-  is : p ≡ front ++ last ∷ full
-  small : last < 255
-  all : AreFull full
-
-ends : (p : List ℕ) → AreBytes p → AreFull p ⊎ Ends p
-ends [] b = inl tt
-ends (y ∷ p) b = elim (ends p b.1) [
-  | inr e ↦ inr (record { front = y ∷ e.front; last = e.last; full = e.full; is = ap (λ t. y ∷ t) e.is; small = e.small; all = e.all })
-  | inl f ↦ elim (cases_lt y 255) [
-    | inl lt ↦ inr (record { front = []; last = y; full = p; is = refl; small = lt; all = f })
-    | inr ge ↦ inl (let byte : y < 256 = b.0 in omega (arith, byte, ge), f)
-  ]
-]
-
--- the least string of that length above, or that there is none
-abbrev pub IsStringAbove : List ℕ → ℕ → Option (List ℕ) → Type 0
-IsStringAbove v L (Some h) = IsLeastAbove v L h
-IsStringAbove v L None = NoneAbove v L
-
-full_above : (p rest : List ℕ) → AreFull p → 0 < length rest → NoneAbove (p ++ rest) (length p)
-full_above p rest full more w b len u = none_above p rest w full more len b (below_under (p ++ rest) w u)
-
-ended_above : (p rest : List ℕ) → AreBytes p → 0 < length rest → Ends p → IsStringAbove (p ++ rest) (length p) (count_up p)
-ended_above p rest bytes more e =
-    let a = e.front in let x = e.last in let f = e.full in
-    let fb : AreBytes a = front_bytes a (x ∷ f) (subst AreBytes e.is bytes) in
-    let whole : a ++ x ∷ (f ++ rest) ≡ p ++ rest = sym (append_assoc a (x ∷ f) rest) ∙ ap (λ t. t ++ rest) (sym e.is) in
-    let len : length a + (1 + length f) ≡ length p = omega (arith, ap length e.is, length-append a (x ∷ f)) in
-    let up : count_up p ≡ Some (a ++ suc x ∷ replicate (length f) 0) = ap count_up e.is ∙ counted a x f e.small e.all in
-    subst (λ o. IsStringAbove (p ++ rest) (length p) o) (sym up)
-    (subst (λ n. IsLeastAbove (p ++ rest) n (a ++ suc x ∷ replicate (length f) 0)) len
-    (subst (λ w. IsLeastAbove w (length a + (1 + length f)) (a ++ suc x ∷ replicate (length f) 0)) whole (raise_least x f rest e.small e.all more a fb)))
-
-split_above : (p rest : List ℕ) → AreBytes p → 0 < length rest → IsStringAbove (p ++ rest) (length p) (count_up p)
-split_above p rest bytes more = elim (ends p bytes) [
-  | inl full ↦ subst (λ o. IsStringAbove (p ++ rest) (length p) o) (sym (counted_none p full)) (full_above p rest full more)
-  | inr e ↦ ended_above p rest bytes more e
-]
-
--- the first bytes counted up are the least string above all
-pub counted_above : (v : List ℕ) (L : ℕ) → AreBytes v → L < length v → IsStringAbove v L (count_up (take L v))
-counted_above v L bytes lt =
-    let front : AreBytes (take L v) = front_bytes (take L v) (drop L v) (subst AreBytes (sym (take-append-drop L v)) bytes) in
-    let len : length (take L v) ≡ L = omega (arith, length-take L v, lt) in
-    subst (λ n. IsStringAbove v n (count_up (take L v))) len
-    (subst (λ w. IsStringAbove w (length (take L v)) (count_up (take L v))) (take-append-drop L v)
-    (split_above (take L v) (drop L v) front (omega (arith, length-drop L v, lt))))
 
 -- ---- counting up in a body
 

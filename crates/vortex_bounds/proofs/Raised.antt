@@ -1,15 +1,10 @@
--- Texts raised: how they are made, that there is one way, and the order.
-use Rattle.std.proofs.Common.{◌≡◌, ℕ, ◌≤◌, true, List, [], ◌∷◌, ◌++◌, length, refl, sym, ap, ap₂, ◌∙◌, subst, subst₂, arith, IsUtf8, length-append, append-nil, append_assoc, chars, Option, Some, None}
+-- Texts raised: how they are made, that there is one way, and their length.
+use Rattle.std.proofs.Common.{◌≡◌, ℕ, ◌≤◌, List, [], ◌∷◌, ◌++◌, length, refl, sym, ap, ap₂, ◌∙◌, subst, arith, IsUtf8, length-append, append-nil, append_assoc, chars, Option, Some, None}
 use Rattle.std.specs.List.{AllByRecursion}
-use Rattle.std.specs.Char.{IsScalar, encode_utf8}
+use Rattle.std.specs.Char.{encode_utf8}
 use Rattle.std.specs.Str.{encode_utf8_all}
-use Rattle.std.proofs.Math.Utf8.{scalars}
-use Rattle.std.proofs.lemmas.Bool.Decides.{nat_tests}
-use Rattle.std.proofs.lemmas.Str.{encodes-append, encodes-chars, scalars-chars, chars-encodes, length-encode}
-use Rattle.vortex_model.specs.Bounds.{IsHigher, IsHighest, IsRaised, IsRaise, CannotBeRaised}
-use Rattle.vortex_bounds.specs.Raising.{IsNext}
-use Rattle.vortex_bounds.proofs.Order.{IsUnder, same_front}
-use Rattle.vortex_bounds.proofs.Encoded.{encode_under}
+use Rattle.std.proofs.lemmas.Str.{encodes-append, encodes-chars, length-encode}
+use Rattle.vortex_model.specs.Bounds.{IsHigher, IsHighest, IsNext, IsRaised, IsRaise, CannotBeRaised}
 
 -- ---- how it is made
 
@@ -33,22 +28,6 @@ dropped_more cs rest front tail last is all one here =
 
 pub nothing_left : (cs rest tail : List ℕ) → cs ≡ rest ++ tail → rest ≡ [] → AllByRecursion IsHighest tail → CannotBeRaised cs
 nothing_left cs rest tail is none all = subst (λ xs. AllByRecursion IsHighest xs) (sym (is ∙ ap (λ xs. xs ++ tail) none)) all
-
-front_scalars : (xs : List ℕ) (c d : ℕ) (ys : List ℕ) → scalars (xs ++ c ∷ ys) ≡ true → IsScalar d → scalars (xs ++ d ∷ []) ≡ true
-front_scalars [] c d ys h s = grind (arith, nat_tests, s)
-front_scalars (x ∷ xs) c d ys h s = grind (arith, nat_tests, front_scalars xs c d ys, s)
-
-pub raised_scalars : (cs ds : List ℕ) → scalars cs ≡ true → IsRaised cs ds → scalars ds ≡ true
-raised_scalars cs ds h r =
-    let all : scalars (r.before ++ r.char ∷ r.after) ≡ true = subst (λ xs. scalars xs ≡ true) r.split h in
-    subst (λ xs. scalars xs ≡ true) (sym r.answer) (front_scalars r.before r.char r.raised r.after all r.higher.0)
-
--- a text of the characters raised is the text raised
-pub raise_made : (p : List ℕ) (ds : List ℕ) (s : List ℕ) → IsUtf8 p → IsRaised (chars p) ds → s ≡ encode_utf8_all ds → IsRaise p (Some s)
-raise_made p ds s u r e =
-    let sc : scalars ds ≡ true = raised_scalars (chars p) ds (scalars-chars p u) r in
-    let back : ds ≡ chars s = sym (ap chars e ∙ chars-encodes ds sc) in
-    ((ds, (sc, sym e)), subst (λ xs. IsRaised (chars p) xs) back r)
 
 -- ---- there is one way
 
@@ -89,19 +68,7 @@ raise_same p (Some s) None a b = absurd (not_both (chars p) (chars s) b a.1)
 raise_same p (Some s) (Some u) a b =
     ap Some (sym (encodes-chars s a.0) ∙ ap encode_utf8_all (raised_same (chars p) (chars s) (chars u) a.1 b.1) ∙ encodes-chars u b.0)
 
--- ---- order and length
-
--- what begins with a text is under the text raised
-pub raised_over : (p s rest : List ℕ) → IsUtf8 p → IsRaise p (Some s) → IsUnder (p ++ rest) s
-raised_over p s rest u raise =
-    let r = raise.1 in
-    let f = encode_utf8_all r.before in
-    let parts : p ++ rest ≡ f ++ (encode_utf8 r.char ++ (encode_utf8_all r.after ++ rest)) =
-    ap (λ x. x ++ rest) (sym (encodes-chars p u) ∙ ap encode_utf8_all r.split ∙ encodes-append r.before (r.char ∷ r.after))
-    ∙ append_assoc f (encode_utf8 r.char ++ encode_utf8_all r.after) rest ∙ ap (λ x. f ++ x) (append_assoc (encode_utf8 r.char) (encode_utf8_all r.after) rest) in
-    let made : s ≡ f ++ (encode_utf8 r.raised ++ []) = sym (encodes-chars s raise.0) ∙ ap encode_utf8_all r.answer ∙ encodes-append r.before (r.raised ∷ []) in
-    subst₂ IsUnder (sym parts) (sym made)
-    (same_front f (encode_utf8 r.char ++ (encode_utf8_all r.after ++ rest)) (encode_utf8 r.raised ++ []) ∙ encode_under r.char r.raised (encode_utf8_all r.after ++ rest) [] r.higher.1)
+-- ---- length
 
 -- a text raised has at most as many bytes
 pub raised_length : (p s : List ℕ) → IsUtf8 p → IsRaise p (Some s) → length s ≤ length p

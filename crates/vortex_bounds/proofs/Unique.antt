@@ -2,14 +2,11 @@
 use Rattle.std.proofs.Common.{◌≡◌, ℕ, List, length, refl, sym, ap, ◌∙◌, subst, ⊎_elim, IsUtf8, Option, Some, None, option_map}
 use Rattle.std.proofs.lemmas.Bool.{cases_lt}
 use Rattle.vortex_model.specs.Content.{Content, text, blob}
-use Rattle.vortex_model.specs.Bounds.{IsLow, IsHigh, IsHighText, IsHighBytes, IsRaise, AnyBytes, low, high}
-use Rattle.vortex_bounds.specs.Raising.{IsRaisedBeginning}
-use Rattle.vortex_bounds.specs.Laws.{IsWellFormed}
-use Rattle.vortex_bounds.proofs.Order.{upto_antisym}
-use Rattle.vortex_bounds.proofs.Beginnings.{longest_same}
+use Rattle.vortex_model.specs.Bounds.{IsLow, IsHigh, IsHighText, IsHighBytes, IsRaise, IsRaisedBeginning, IsLeastAbove, NoneAbove, IsWellFormed, AnyBytes, low, high}
+use Rattle.vortex_model.proofs.ByteOrder.{upto_antisym}
+use Rattle.vortex_model.proofs.Beginnings.{longest_same}
+use Rattle.vortex_model.proofs.BoundFunctions.{low_by_function, high_by_function}
 use Rattle.vortex_bounds.proofs.Raised.{raise_same}
-use Rattle.vortex_bounds.proofs.CountedUp.{IsStringAbove}
-use Rattle.vortex_bounds.proofs.Functions.{low_by_function, high_by_function}
 
 pub low_same : (v l m : Content) (L : ℕ) → IsLow v L l → IsLow v L m → l ≡ m
 low_same (text v) (text a) (text b) L p q = ap text (longest_same IsUtf8 v a b L p q)
@@ -19,6 +16,11 @@ low_same (blob v) (blob a) (blob b) L p q = ap blob (longest_same AnyBytes v a b
 low_same (blob v) (blob a) m L p q = absurd q
 low_same (blob v) l m L p q = absurd p
 low_same v l m L p q = p ∙ sym q
+
+-- the least string of that length above, or that there is none
+abbrev IsStringAbove : List ℕ → ℕ → Option (List ℕ) → Type 0
+IsStringAbove v L (Some h) = IsLeastAbove v L h
+IsStringAbove v L None = NoneAbove v L
 
 -- the bytes of the high of a longer text, and of longer bytes
 pub text_part : (v : List ℕ) (L : ℕ) (o : Option Content) → IsHighText v L o → (s : Option (List ℕ)) × (o ≡ option_map text s) × IsRaisedBeginning v L s

@@ -1,21 +1,8 @@
 -- Laws of shortened bounds.
-use Rattle.std.specs.Prelude.{◌≡◌, ℕ, ◌≤◌, List, [], length, Option, Some, IsUtf8}
-use Rattle.vortex_model.specs.Content.{Content, text, blob}
-use Rattle.vortex_model.specs.Valid.{AreBytes}
+use Rattle.std.specs.Prelude.{◌≡◌, ℕ, ◌≤◌, length, Option, Some}
+use Rattle.vortex_model.specs.Content.{Content}
 use Rattle.vortex_model.specs.Order.{IsAtMost}
-use Rattle.vortex_model.specs.Bounds.{IsLow, IsHigh, low, high}
-
--- a text is UTF-8, and bytes are bytes
-abbrev pub IsWellFormed : Content → Type 0
-IsWellFormed (text v) = IsUtf8 v
-IsWellFormed (blob v) = AreBytes v
-IsWellFormed c = Unit {0}
-
--- the bytes of a text or of bytes
-abbrev pub bytes_of : Content → List ℕ
-bytes_of (text v) = v
-bytes_of (blob v) = v
-bytes_of c = []
+use Rattle.vortex_model.specs.Bounds.{IsLow, IsHigh, IsWellFormed, bytes_of, low, high}
 
 -- the functions give the low and the high
 abbrev pub LowsAreOfTheFunction : Type 0

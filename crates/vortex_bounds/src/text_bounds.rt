@@ -1,8 +1,7 @@
 //! Bounds of texts, of at most so many bytes.
 ghost use Rattle.std.specs.Prelude.{◌≡◌, ◌≤◌, length, take, option_map, IsCharBoundary, IsOk, IfOk, IfSome};
-ghost use Rattle.vortex_model.specs.Bounds.{IsLow, IsHigh, is_longer};
+ghost use Rattle.vortex_model.specs.Bounds.{IsLow, IsHigh, IsRaisedBeginning, is_longer};
 ghost use Rattle.vortex_model.specs.Content.{text};
-ghost use Rattle.vortex_bounds.specs.Raising.{IsRaisedBeginning};
 
 use crate::raising::raise;
 use bytes::ByteStr as BufferString;

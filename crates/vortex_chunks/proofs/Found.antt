@@ -26,7 +26,7 @@ use Rattle.vortex_cuts.proofs.Cuts.{cut_is_valid}
 use Rattle.vortex_chunks.proofs.Rows.{list_all_at, rows_said, kept_each, kept_all}
 
 pub asked_of : (plan : Plan) → IsPlan plan → IsAsked (table_in plan) (predicate_in plan)
-asked_of plan is = record { kept = is.kept; faultless = is.faultless; no_like = is.no_like }
+asked_of plan is = record { faultless = is.faultless; no_like = is.no_like }
 
 module _ (plan : Plan) (is : IsPlan plan) (chunk : Chunk) (formed : IsTrue (is_formed (table_in plan).kind chunk)) where
   abbrev k : Kind

@@ -1,13 +1,12 @@
 -- What stands in a column of rows of a type.
-use Rattle.std.proofs.Common.{◌≡◌, refl, sym, ap, ◌∙◌, subst, ℕ, zero, suc, List, [], ◌∷◌, true, Option, Some, None, option_map, option_and_then, map}
+use Rattle.std.proofs.Common.{◌≡◌, refl, sym, ap, ◌∙◌, subst, ℕ, zero, suc, List, [], ◌∷◌, Option, Some, None, option_map, option_and_then, map}
 use Rattle.std.specs.List.{AllByRecursion}
-use Rattle.vortex_model.specs.Kind.{Kind, integer, struct, extension, Fields, no_fields, field, Nullability, non_nullable, nullable, stored, within, with_nullability}
+use Rattle.vortex_model.specs.Kind.{Kind, struct, extension, Fields, no_fields, field, Nullability, non_nullable, nullable, stored, within, with_nullability}
 use Rattle.vortex_model.specs.Content.{Content, null, tuple, Contents, nothing, first, nth}
 use Rattle.vortex_model.specs.Valid.{IsContent, Holds, FieldsHold}
 use Rattle.vortex_model.specs.Path.{Positions, field_at, type_at, at}
 use Rattle.vortex_model.specs.Kept.{kept_fault, kept_part_fault, kept_fields_fault, names_distinct, is_leaf}
 use Rattle.vortex_model.specs.Refusal.{repeated_name}
-use Rattle.vortex_model.specs.Pruning.{is_never_shortened}
 use Rattle.vortex_model.proofs.Held.{first_none, second_none, parts_faultless}
 use Rattle.vortex_model.proofs.Kept.{loosened}
 
@@ -75,7 +74,7 @@ leaf_within non_nullable k = refl
 leaf_within nullable (extension id meta k) = refl
 leaf_within nullable k = refl
 
--- ---- the leaves of what tables hold so far
+-- ---- the parts of what tables hold so far
 
 kept_within : (n : Nullability) (k : Kind) → kept_part_fault (within n k) ≡ kept_part_fault k
 kept_within non_nullable k = refl
@@ -99,12 +98,3 @@ part_kept k (i ∷ is) t h e = absurd (cc (e))
 pub at_kept : (k : Kind) (is : Positions) (t : Kind) → kept_fault k ≡ None → type_at k is ≡ Some t → kept_part_fault t ≡ None
 at_kept (struct fs non_nullable) is t h e = part_kept (struct fs non_nullable) is t h e
 at_kept k is t h e = absurd (cc (h))
-
-never_shortened : (t : Kind) → kept_part_fault t ≡ None → is_leaf t ≡ true → is_never_shortened t ≡ true
-never_shortened (integer j n) h w = refl
-never_shortened (struct fs n) h w = absurd (cc (w))
-never_shortened t h w = absurd (cc (h))
-
--- a leaf of a table is of integers so far
-pub kept_leaf : (k : Kind) (is : Positions) (t : Kind) → kept_fault k ≡ None → type_at k is ≡ Some t → is_leaf t ≡ true → is_never_shortened t ≡ true
-kept_leaf k is t h e w = never_shortened t (at_kept k is t h e) w

@@ -82,6 +82,18 @@ before_bound b (text c) (text d) h g = absurd (cc (h))
 before_bound b (blob c) (blob d) h g = absurd (cc (h))
 before_bound b c d h g = absurd (cc (g))
 
+-- two bounds, one after the other
+pub at_most_trans : (a b c : Content) → IsAtMost a b → IsAtMost b c → IsAtMost a c
+at_most_trans (truth a) (truth b) (truth c) h g = le_trans bool_cmp_total a b c h g
+at_most_trans (whole a) (whole b) (whole c) h g = le_trans int_cmp_total a b c h g
+at_most_trans (text a) (text b) (text c) h g = le_trans nat_list_cmp_total a b c h g
+at_most_trans (blob a) (blob b) (blob c) h g = le_trans nat_list_cmp_total a b c h g
+at_most_trans (truth a) (truth b) c h g = absurd (cc (g))
+at_most_trans (whole a) (whole b) c h g = absurd (cc (g))
+at_most_trans (text a) (text b) c h g = absurd (cc (g))
+at_most_trans (blob a) (blob b) c h g = absurd (cc (g))
+at_most_trans a b c h g = absurd (cc (h))
+
 -- a is d, or is at most d
 abbrev pub Bounds : Content → Content → Type 0
 Bounds a b = (a ≡ b) ⊎ IsAtMost a b

@@ -1,6 +1,6 @@
 -- What tables hold so far is what a table can hold.
 use Rattle.std.proofs.Common.{◌≡◌, refl, ap, ◌∙◌, Bool, true, false, Option, Some, None, if◌then◌else◌}
-use Rattle.vortex_model.specs.Kind.{Kind, integer, struct, Fields, no_fields, field, non_nullable}
+use Rattle.vortex_model.specs.Kind.{Kind, boolean, integer, utf8, binary, struct, Fields, no_fields, field, non_nullable}
 use Rattle.vortex_model.specs.Kept.{names_distinct, part_fault, fields_fault, type_fault, kept_part_fault, kept_fields_fault, kept_fault}
 use Rattle.vortex_model.specs.Refusal.{Refusal, repeated_name, or_else}
 
@@ -27,7 +27,10 @@ record_can false p q r e h = absurd (cc (e))
 
 mutual
   part_can : (k : Kind) → kept_part_fault k ≡ None → part_fault k ≡ None
+  part_can (boolean n) e = refl
   part_can (integer i n) e = refl
+  part_can (utf8 n) e = refl
+  part_can (binary n) e = refl
   part_can (struct fs n) e =
       record_can (names_distinct fs) (kept_fields_fault fs) (fields_fault fs) repeated_name e
       (parts_can fs (parts_faultless (names_distinct fs) (kept_fields_fault fs) repeated_name e))

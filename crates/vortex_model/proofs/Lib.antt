@@ -1,12 +1,16 @@
 pub mod Answers
 pub mod Batches
-mod Bounded
+pub mod Beginnings
+pub mod BoundFunctions
+pub mod Bounded
+pub mod ByteOrder
 pub mod Columns
 pub mod ContentOrder
 pub mod Contents
 mod Conversions
-mod CountUp
+pub mod CountUp
 mod Edges
+mod Encoded
 mod Examples
 pub mod Held
 pub mod Honesty
@@ -17,6 +21,7 @@ mod NoColumns
 pub mod Outcomes
 mod Passes
 pub mod Pruning
+pub mod Raised
 mod Readings
 pub mod Skipping
 mod Steps

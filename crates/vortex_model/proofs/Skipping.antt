@@ -5,7 +5,7 @@ use Rattle.vortex_model.specs.Kind.{Kind}
 use Rattle.vortex_model.specs.Content.{Content, null, truth}
 use Rattle.vortex_model.specs.Valid.{IsContent}
 use Rattle.vortex_model.specs.Path.{Names, Positions, positions, type_at, type_of_column, at}
-use Rattle.vortex_model.specs.Kept.{kept_fault, is_leaf}
+use Rattle.vortex_model.specs.Kept.{is_leaf}
 use Rattle.vortex_model.specs.Refusal.{Refusal, not_a_leaf, unequal_types, not_boolean, unsupported_predicate, or_else}
 use Rattle.vortex_model.specs.Expression.{Expression, column, compare, both, either, is_null as is_null_test, is_not_null as is_not_null_test, is_nan as is_nan_test, between, min, max, null_count, all_null, all_non_null}
 use Rattle.vortex_model.specs.Truth.{evaluate, value_at, is_true, selects}
@@ -17,10 +17,10 @@ use Rattle.vortex_model.specs.Sound.{of_proof}
 use Rattle.vortex_model.specs.Table.{Table, bound_length}
 use Rattle.vortex_model.specs.Scan.{chunk_zone, chunk_zone_at, kind_at, known, proves, skipped, whole as taken_whole, tested, chunk_outcome}
 use Rattle.vortex_model.specs.Command.{expression_fault, column_fault, unless, is_boolean, same_type}
-use Rattle.vortex_model.specs.Pruning.{has_no_like, is_never_shortened, found_in, IsAsked}
+use Rattle.vortex_model.specs.Pruning.{has_no_like, found_in, IsAsked}
 use Rattle.std.proofs.lemmas.List.Elements.{filter-append}
 use Rattle.vortex_model.proofs.Outcomes.{selected_next}
-use Rattle.vortex_model.proofs.Columns.{all_at_type, kept_leaf}
+use Rattle.vortex_model.proofs.Columns.{all_at_type}
 use Rattle.vortex_model.proofs.Zones.{honest_zone}
 use Rattle.vortex_model.proofs.Pruning.{IsTold, AreTold, falsified, satisfied}
 use Rattle.vortex_model.proofs.Honesty.{Among, AreHonestOf, told}
@@ -62,17 +62,13 @@ module _ (t : Table) (chunk : List Content) (rows : AllByRecursion (IsContent t.
   abbrev value_by : Option Positions → Content → Content
   value_by p row = elim p [ None ↦ null | Some is ↦ at row is ]
 
-  honest_by : (p : Option Positions) (u : Kind) → option_and_then (type_at t.kind) p ≡ Some u → is_never_shortened u ≡ true → IsHonest (statistics_of (zone_by p)) (map (value_by p) chunk)
+  honest_by : (p : Option Positions) (u : Kind) → option_and_then (type_at t.kind) p ≡ Some u → is_leaf u ≡ true → IsHonest (statistics_of (zone_by p)) (map (value_by p) chunk)
   honest_by None u e w = absurd (cc (e))
   honest_by (Some is) u e w = honest_zone u (kind_at t.kind is) (bound_length t is) (map (λ row. at row is) chunk) w (all_at_type t.kind is u chunk e rows)
 
-  never_shortened_by : (p : Option Positions) (u : Kind) → kept_fault t.kind ≡ None → option_and_then (type_at t.kind) p ≡ Some u → is_leaf u ≡ true → is_never_shortened u ≡ true
-  never_shortened_by None u h e w = absurd (cc (e))
-  never_shortened_by (Some is) u h e w = kept_leaf t.kind is u h e w
-
-  column_honest : (xs : Names) (u : Kind) → kept_fault t.kind ≡ None → type_of_column t.kind xs ≡ Some u → is_leaf u ≡ true →
+  column_honest : (xs : Names) (u : Kind) → type_of_column t.kind xs ≡ Some u → is_leaf u ≡ true →
       IsHonest (statistics_of (chunk_zone t chunk xs)) (map (value_at t.kind (column xs)) chunk)
-  column_honest xs u h e w = honest_by (positions t.kind xs) u e (never_shortened_by (positions t.kind xs) u h e w)
+  column_honest xs u e w = honest_by (positions t.kind xs) u e w
 
   known_honest : (xs : Names) → IsHonest (statistics_of (chunk_zone t chunk xs)) (map (value_at t.kind (column xs)) chunk) →
       AreHonestOf t.kind chunk (known (chunk_zone t chunk) (length chunk)) (column xs)
@@ -83,15 +79,15 @@ module _ (t : Table) (chunk : List Content) (rows : AllByRecursion (IsContent t.
   known_honest xs h all_non_null = inr (statistics_of (chunk_zone t chunk xs), h, refl)
   known_honest xs h a = inl refl
 
-  operand_honest : (x : Expression) → kept_fault t.kind ≡ None → expression_fault t.kind x ≡ None → AreHonestOf t.kind chunk (known (chunk_zone t chunk) (length chunk)) x
-  operand_honest (column xs) h e = let u = leaf_of (type_of_column t.kind xs) e in known_honest xs (column_honest xs u.0 h u.1 u.2)
-  operand_honest x h e = λ a. inl refl
+  operand_honest : (x : Expression) → expression_fault t.kind x ≡ None → AreHonestOf t.kind chunk (known (chunk_zone t chunk) (length chunk)) x
+  operand_honest (column xs) e = let u = leaf_of (type_of_column t.kind xs) e in known_honest xs (column_honest xs u.0 u.1 u.2)
+  operand_honest x e = λ a. inl refl
 
   -- ---- at one row
 
-  module _ (kept : kept_fault t.kind ≡ None) (row : Content) (here : Among row chunk) where
+  module _ (row : Content) (here : Among row chunk) where
     operand_told : (x : Expression) → expression_fault t.kind x ≡ None → IsTold t.kind (of_proof (known (chunk_zone t chunk) (length chunk)) chunk) row x
-    operand_told x e = told t.kind chunk (known (chunk_zone t chunk) (length chunk)) x (operand_honest x kept e) row here
+    operand_told x e = told t.kind chunk (known (chunk_zone t chunk) (length chunk)) x (operand_honest x e) row here
 
     two_none : (x y : Expression) (r : Option Refusal) → or_else (expression_fault t.kind x) (or_else (expression_fault t.kind y) r) ≡ None →
         (expression_fault t.kind x ≡ None) × (expression_fault t.kind y ≡ None)
@@ -155,13 +151,13 @@ module _ (t : Table) (e : Expression) (asked : IsAsked t e) where
   pub skipped_holds_none : (chunk : List Content) → AllByRecursion (IsContent t.kind) chunk →
       proves (chunk_zone t chunk) (length chunk) (falsifier t.kind e) ≡ true → filter (selects t.kind e) chunk ≡ []
   skipped_holds_none chunk rows h =
-      kept_none (selects t.kind e) chunk (λ row here. not_selected t chunk rows asked.kept row here e (falsifier t.kind e) no_fault asked.no_like refl h)
+      kept_none (selects t.kind e) chunk (λ row here. not_selected t chunk rows row here e (falsifier t.kind e) no_fault asked.no_like refl h)
 
   -- one whose zone maps satisfy it holds no other
   pub whole_holds_all : (chunk : List Content) → AllByRecursion (IsContent t.kind) chunk →
       proves (chunk_zone t chunk) (length chunk) (satisfier t.kind e) ≡ true → filter (selects t.kind e) chunk ≡ chunk
   whole_holds_all chunk rows h =
-      kept_all (selects t.kind e) chunk (λ row here. is_selected t chunk rows asked.kept row here e (satisfier t.kind e) no_fault refl h)
+      kept_all (selects t.kind e) chunk (λ row here. is_selected t chunk rows row here e (satisfier t.kind e) no_fault refl h)
 
   found_by : (chunk : List Content) → AllByRecursion (IsContent t.kind) chunk → (b c : Bool) →
       proves (chunk_zone t chunk) (length chunk) (falsifier t.kind e) ≡ b → proves (chunk_zone t chunk) (length chunk) (satisfier t.kind e) ≡ c →

@@ -1,92 +1,97 @@
--- The zone map of a column whose values are their own bounds is honest.
-use Rattle.std.proofs.Common.{◌≡◌, refl, sym, ◌∙◌, ap, subst, ℕ, suc, ℤ, List, [], ◌∷◌, Bool, true, false, not, if◌then◌else◌, Option, Some, None, arith, Contains}
+-- The zone map of a column of leaves is honest.
+use Rattle.std.proofs.Common.{◌≡◌, refl, sym, ◌∙◌, ap, subst, ℕ, suc, ℤ, List, [], ◌∷◌, Bool, true, false, not, if◌then◌else◌, Option, Some, None, arith, Contains, IsUtf8}
 use Rattle.std.specs.List.{AllByRecursion}
 use Rattle.std.specs.Ordering.{int_cmp, bool_cmp, is_le, ordering_reverse}
 use Rattle.std.specs.declared.cmp.Ordering.{Ordering}
 use Rattle.std.specs.declared.cmp.Ordering.TheVariants.{Less, Equal, Greater}
 use Rattle.std.specs.Cmp.{bool_cmp_total}
 use Rattle.std.proofs.lemmas.Cmp.{int_cmp_total, nat_list_cmp_total}
-use Rattle.vortex_model.specs.Kind.{Kind, IntKind, boolean, integer}
+use Rattle.vortex_model.specs.Kind.{Kind, IntKind, boolean, integer, utf8, binary}
 use Rattle.vortex_model.specs.Content.{Content, null, truth, whole, text, blob, is_null}
-use Rattle.vortex_model.specs.Valid.{IsContent, in_range}
-use Rattle.vortex_model.specs.Order.{at_most, IsAtMost}
-use Rattle.vortex_model.specs.Bounds.{low, high, is_longer}
+use Rattle.vortex_model.specs.Valid.{IsContent, AreBytes, in_range}
+use Rattle.vortex_model.specs.Order.{bytes_cmp, at_most, IsAtMost}
+use Rattle.vortex_model.specs.Bounds.{IsHigh, IsWellFormed, low, high, is_longer}
+use Rattle.vortex_model.specs.Kept.{is_leaf}
+use Rattle.vortex_model.specs.Laws.{is_leaf_value}
 use Rattle.vortex_model.specs.Typing.{sum_kind}
 use Rattle.vortex_model.specs.Statistics.{Precision, exact, absent, non_null, lesser, greater, least_of, greatest_of, sum_of, IsLeast, IsGreatest, IsHonest, IsHonestLeast, IsHonestGreatest, IsHonestValue}
 use Rattle.vortex_model.specs.ZoneMap.{bound_of, sum_in, zone_of, statistics_of}
-use Rattle.vortex_model.specs.Pruning.{is_never_shortened}
-use Rattle.vortex_model.proofs.ContentOrder.{le_trans}
+use Rattle.vortex_model.proofs.ContentOrder.{at_most_trans}
+use Rattle.vortex_model.proofs.BoundFunctions.{low_by_function, high_by_function, low_short, high_short}
+use Rattle.vortex_model.proofs.Bounded.{some_same, same_leaf_below, covered_low, covered_high}
 
 -- ---- the order of leaves
-
-pub at_most_trans : (a b c : Content) → IsAtMost a b → IsAtMost b c → IsAtMost a c
-at_most_trans (truth a) (truth b) (truth c) h g = le_trans bool_cmp_total a b c h g
-at_most_trans (whole a) (whole b) (whole c) h g = le_trans int_cmp_total a b c h g
-at_most_trans (text a) (text b) (text c) h g = le_trans nat_list_cmp_total a b c h g
-at_most_trans (blob a) (blob b) (blob c) h g = le_trans nat_list_cmp_total a b c h g
-at_most_trans (truth a) (truth b) c h g = absurd (cc (g))
-at_most_trans (whole a) (whole b) c h g = absurd (cc (g))
-at_most_trans (text a) (text b) c h g = absurd (cc (g))
-at_most_trans (blob a) (blob b) c h g = absurd (cc (g))
-at_most_trans a b c h g = absurd (cc (h))
 
 reversed_le : (o : Ordering) → is_le o ≡ false → is_le (ordering_reverse o) ≡ true
 reversed_le Less h = absurd (cc (h))
 reversed_le Equal h = absurd (cc (h))
 reversed_le Greater h = refl
 
--- a value of the type that is not null, where the type is integers or truth values
+-- a value of the type that is not null, where the type is a leaf
 abbrev pub IsValueOf : Kind → Content → Type 0
 IsValueOf (integer i n) (whole z) = Unit {0}
 IsValueOf (boolean n) (truth b) = Unit {0}
+IsValueOf (utf8 n) (text v) = IsUtf8 v
+IsValueOf (binary n) (blob v) = AreBytes v
 IsValueOf k c = ⊥
 
-its_value : (k : Kind) (c : Content) → is_never_shortened k ≡ true → IsContent k c → is_null c ≡ false → IsValueOf k c
+its_value : (k : Kind) (c : Content) → is_leaf k ≡ true → IsContent k c → is_null c ≡ false → IsValueOf k c
 its_value (integer i n) (whole z) w h e = tt
 its_value (integer i n) null w h e = absurd (cc (e))
 its_value (integer i n) c w h e = absurd h
 its_value (boolean n) (truth b) w h e = tt
 its_value (boolean n) null w h e = absurd (cc (e))
 its_value (boolean n) c w h e = absurd h
+its_value (utf8 n) (text v) w h e = h
+its_value (utf8 n) null w h e = absurd (cc (e))
+its_value (utf8 n) c w h e = absurd h
+its_value (binary n) (blob v) w h e = h
+its_value (binary n) null w h e = absurd (cc (e))
+its_value (binary n) c w h e = absurd h
 its_value k c w h e = absurd (cc (w))
 
 total : (k : Kind) (c d : Content) → IsValueOf k c → IsValueOf k d → at_most c d ≡ false → IsAtMost d c
 total (integer i n) (whole a) (whole b) p q h = ap is_le (int_cmp_total.antisymm b a) ∙ reversed_le (int_cmp a b) h
 total (boolean n) (truth a) (truth b) p q h = ap is_le (bool_cmp_total.antisymm b a) ∙ reversed_le (bool_cmp a b) h
+total (utf8 n) (text a) (text b) p q h = ap is_le (nat_list_cmp_total.antisymm b a) ∙ reversed_le (bytes_cmp a b) h
+total (binary n) (blob a) (blob b) p q h = ap is_le (nat_list_cmp_total.antisymm b a) ∙ reversed_le (bytes_cmp a b) h
 total (integer i n) (whole a) d p q h = absurd q
 total (integer i n) c d p q h = absurd p
 total (boolean n) (truth a) d p q h = absurd q
 total (boolean n) c d p q h = absurd p
+total (utf8 n) (text a) d p q h = absurd q
+total (utf8 n) c d p q h = absurd p
+total (binary n) (blob a) d p q h = absurd q
+total (binary n) c d p q h = absurd p
 total k c d p q h = absurd p
 
-its_own_reverse : (o : Ordering) → o ≡ ordering_reverse o → o ≡ Equal
-its_own_reverse Less e = absurd (cc (e))
-its_own_reverse Equal e = refl
-its_own_reverse Greater e = absurd (cc (e))
+its_leaf : (k : Kind) (c : Content) → IsValueOf k c → is_leaf_value c ≡ true
+its_leaf (integer i n) (whole a) p = refl
+its_leaf (boolean n) (truth a) p = refl
+its_leaf (utf8 n) (text a) p = refl
+its_leaf (binary n) (blob a) p = refl
+its_leaf (integer i n) c p = absurd p
+its_leaf (boolean n) c p = absurd p
+its_leaf (utf8 n) c p = absurd p
+its_leaf (binary n) c p = absurd p
+its_leaf k c p = absurd p
+
+its_form : (k : Kind) (c : Content) → IsValueOf k c → IsWellFormed c
+its_form (integer i n) (whole a) p = tt
+its_form (boolean n) (truth a) p = tt
+its_form (utf8 n) (text a) p = p
+its_form (binary n) (blob a) p = p
+its_form (integer i n) c p = absurd p
+its_form (boolean n) c p = absurd p
+its_form (utf8 n) c p = absurd p
+its_form (binary n) c p = absurd p
+its_form k c p = absurd p
 
 at_most_itself : (k : Kind) (c : Content) → IsValueOf k c → IsAtMost c c
-at_most_itself (integer i n) (whole a) p = ap is_le (its_own_reverse (int_cmp a a) (int_cmp_total.antisymm a a))
-at_most_itself (boolean n) (truth a) p = ap is_le (its_own_reverse (bool_cmp a a) (bool_cmp_total.antisymm a a))
-at_most_itself (integer i n) c p = absurd p
-at_most_itself (boolean n) c p = absurd p
-at_most_itself k c p = absurd p
-
-own_low : (k : Kind) (L : ℕ) (c : Content) → IsValueOf k c → bound_of (is_longer L c) (low L c) ≡ exact c
-own_low (integer i n) L (whole a) p = refl
-own_low (boolean n) L (truth a) p = refl
-own_low (integer i n) L c p = absurd p
-own_low (boolean n) L c p = absurd p
-own_low k L c p = absurd p
+at_most_itself k c p = same_leaf_below c (its_leaf k c p)
 
 abbrev high_bound : ℕ → Content → Precision Content
 high_bound L v = elim (high L v) [ None ↦ absent | Some h ↦ bound_of (is_longer L v) h ]
-
-own_high : (k : Kind) (L : ℕ) (c : Content) → IsValueOf k c → high_bound L c ≡ exact c
-own_high (integer i n) L (whole a) p = refl
-own_high (boolean n) L (truth a) p = refl
-own_high (integer i n) L c p = absurd p
-own_high (boolean n) L c p = absurd p
-own_high k L c p = absurd p
 
 -- ---- the least and the greatest
 
@@ -147,20 +152,35 @@ module _ (k : Kind) where
 
   -- ---- the zone map
 
+  -- the low of the least value: that value where it isn't longer, and else not above any
+  low_by : (L : ℕ) (v : Content) (cs : List Content) (longer : Bool) → is_longer L v ≡ longer → IsValueOf k v → IsLeast v (non_null cs) → IsHonestLeast (bound_of longer (low L v)) cs
+  low_by L v cs true e p h =
+      all_mapped (IsAtMost v) (IsAtMost (low L v)) (λ x g. covered_low v (low L v) x L (low_by_function v L (its_form k v p)) g) (non_null cs) h.least
+  low_by L v cs false e p h = subst (λ l. IsLeast l (non_null cs)) (sym (low_short v L (its_form k v p) e)) h
+
   low_honest : (L : ℕ) (cs : List Content) (o : Option Content) → FoundLeast o (non_null cs) → IsHonestLeast (elim o [ None ↦ absent | Some v ↦ bound_of (is_longer L v) (low L v) ]) cs
   low_honest L cs None h = tt
-  low_honest L cs (Some v) h = subst (λ p. IsHonestLeast p cs) (sym (own_low k L v h.0)) h.1
+  low_honest L cs (Some v) h = low_by L v cs (is_longer L v) refl h.0 h.1
+
+  -- the high of the greatest, where it has one
+  high_by : (L : ℕ) (v : Content) (cs : List Content) (o : Option Content) (longer : Bool) → high L v ≡ o → is_longer L v ≡ longer → IsValueOf k v → IsGreatest v (non_null cs) →
+      IsHonestGreatest (elim o [ None ↦ absent | Some h ↦ bound_of longer h ]) cs
+  high_by L v cs None longer f e p g = tt
+  high_by L v cs (Some h) true f e p g =
+      let is = subst (IsHigh v L) f (high_by_function v L (its_form k v p)) in
+      all_mapped (λ x. IsAtMost x v) (λ x. IsAtMost x h) (λ x m. covered_high v h x L is m) (non_null cs) g.greatest
+  high_by L v cs (Some h) false f e p g = subst (λ c. IsGreatest c (non_null cs)) (sym (some_same h v (sym f ∙ high_short v L e))) g
 
   high_honest : (L : ℕ) (cs : List Content) (o : Option Content) → FoundGreatest o (non_null cs) → IsHonestGreatest (elim o [ None ↦ absent | Some v ↦ high_bound L v ]) cs
   high_honest L cs None h = tt
-  high_honest L cs (Some v) h = subst (λ p. IsHonestGreatest p cs) (sym (own_high k L v h.0)) h.1
+  high_honest L cs (Some v) h = high_by L v cs (high L v) (is_longer L v) refl refl h.0 h.1
 
-  values_kept : (w : is_never_shortened k ≡ true) (c : Content) (cs : List Content) (b : Bool) → is_null c ≡ b → IsContent k c →
+  values_kept : (w : is_leaf k ≡ true) (c : Content) (cs : List Content) (b : Bool) → is_null c ≡ b → IsContent k c →
       AllByRecursion (IsValueOf k) (non_null cs) → AllByRecursion (IsValueOf k) (if not b then c ∷ non_null cs else non_null cs)
   values_kept w c cs true e h g = g
   values_kept w c cs false e h g = (its_value k c w h e, g)
 
-  values_of : (w : is_never_shortened k ≡ true) (cs : List Content) → AllByRecursion (IsContent k) cs → AllByRecursion (IsValueOf k) (non_null cs)
+  values_of : (w : is_leaf k ≡ true) (cs : List Content) → AllByRecursion (IsContent k) cs → AllByRecursion (IsValueOf k) (non_null cs)
   values_of w [] h = tt
   values_of w (c ∷ cs) h = values_kept w c cs (is_null c) refl h.0 (values_of w cs h.1)
 
@@ -173,7 +193,7 @@ module _ (k : Kind) where
       by_test false = tt
 
   -- the type may also be another than k, since only the sum's type depends on it
-  pub honest_zone : (l : Kind) (L : ℕ) (cs : List Content) → is_never_shortened k ≡ true → AllByRecursion (IsContent k) cs → IsHonest (statistics_of (zone_of l L cs)) cs
+  pub honest_zone : (l : Kind) (L : ℕ) (cs : List Content) → is_leaf k ≡ true → AllByRecursion (IsContent k) cs → IsHonest (statistics_of (zone_of l L cs)) cs
   honest_zone l L cs w h = record {
     least = low_honest L cs (least_of (non_null cs)) (least_found (non_null cs) (values_of w cs h));
     greatest = high_honest L cs (greatest_of (non_null cs)) (greatest_found (non_null cs) (values_of w cs h));

@@ -88,11 +88,31 @@ IsHighBytes v L (Some (blob h)) = IsLeastAbove v L h
 IsHighBytes v L None = NoneAbove v L
 IsHighBytes v L c = ⊥
 
+-- d is the least higher character with as many bytes as c
+abbrev pub IsNext : ℕ → ℕ → Type 0
+IsNext c d = IsHigher c d × ((e : ℕ) → IsHigher c e → d ≤ e)
+
+-- what raising the longest beginning of at most L bytes gives
+abbrev pub IsRaisedBeginning : List ℕ → ℕ → Option (List ℕ) → Type 0
+IsRaisedBeginning v L raised = (p : List ℕ) × IsLongestBeginning IsUtf8 v L p × IsRaise p raised
+
 -- What has at most L bytes, and what is neither text nor bytes, is its own high.
 abbrev pub IsHigh : Content → ℕ → Option Content → Type 0
 IsHigh (text v) L h = (length v ≤ L → h ≡ Some (text v)) × (L < length v → IsHighText v L h)
 IsHigh (blob v) L h = (length v ≤ L → h ≡ Some (blob v)) × (L < length v → IsHighBytes v L h)
 IsHigh v L h = h ≡ Some v
+
+-- a text is UTF-8, and bytes are bytes
+abbrev pub IsWellFormed : Content → Type 0
+IsWellFormed (text v) = IsUtf8 v
+IsWellFormed (blob v) = AreBytes v
+IsWellFormed c = Unit {0}
+
+-- the bytes of a text or of bytes
+abbrev pub bytes_of : Content → List ℕ
+bytes_of (text v) = v
+bytes_of (blob v) = v
+bytes_of c = []
 
 -- more than L bytes
 abbrev pub is_longer : ℕ → Content → Bool

@@ -40,6 +40,14 @@ type_fault k = Some not_a_record
 abbrev pub CanHold : Kind → Type 0
 CanHold k = type_fault k ≡ None
 
+-- a Bool, an integer, a text or bytes
+abbrev pub is_leaf : Kind → Bool
+is_leaf (boolean n) = true
+is_leaf (integer i n) = true
+is_leaf (utf8 n) = true
+is_leaf (binary n) = true
+is_leaf k = false
+
 -- what tables hold so far beside records
 abbrev pub is_kept_leaf : Kind → Bool
 is_kept_leaf (integer i n) = true
@@ -59,14 +67,6 @@ abbrev mutual
 abbrev pub kept_fault : Kind → Option Refusal
 kept_fault (struct fs non_nullable) = kept_part_fault (struct fs non_nullable)
 kept_fault k = Some not_a_record
-
--- a Bool, an integer, a text or bytes
-abbrev pub is_leaf : Kind → Bool
-is_leaf (boolean n) = true
-is_leaf (integer i n) = true
-is_leaf (utf8 n) = true
-is_leaf (binary n) = true
-is_leaf k = false
 
 -- these positions lead, through records alone, to a leaf
 abbrev pub is_leaf_at : Kind → Positions → Bool

@@ -72,13 +72,9 @@ is_leaf_value c = false
 abbrev pub LowsAreBelow : Type 0
 LowsAreBelow = (v : Content) (L : ℕ) (l : Content) → is_leaf_value v ≡ true → IsLow v L l → IsAtMost l v
 
-abbrev pub is_text : Content → Bool
-is_text (text v) = true
-is_text c = false
-
--- a value that is no text is not above its high
+-- nor above its high, where it has one
 abbrev pub HighsAreAbove : Type 0
-HighsAreAbove = (v : Content) (L : ℕ) (h : Content) → is_leaf_value v ≡ true → is_text v ≡ false → IsHigh v L (Some h) → IsAtMost v h
+HighsAreAbove = (v : Content) (L : ℕ) (h : Content) → is_leaf_value v ≡ true → IsHigh v L (Some h) → IsAtMost v h
 
 -- The row's value of a column in a comparison is null or in the box, and its value under a null test is what the count allows.
 abbrev pub MayHold : Kind → Box → Content → Expression → Type 0

@@ -1,11 +1,11 @@
 -- Laws of skipping: what a true proof says of the rows.
 use Rattle.std.specs.Prelude.{◌≡◌, ℕ, List, [], ◌++◌, length, map, filter, flat_map, Some, None, Bool, true, false, ◌&&◌}
 use Rattle.std.specs.List.{AllByRecursion}
-use Rattle.vortex_model.specs.Kind.{Kind, boolean, integer}
+use Rattle.vortex_model.specs.Kind.{Kind}
 use Rattle.vortex_model.specs.Content.{Content}
 use Rattle.vortex_model.specs.Valid.{IsContent}
 use Rattle.vortex_model.specs.Path.{Names}
-use Rattle.vortex_model.specs.Kept.{kept_fault}
+use Rattle.vortex_model.specs.Kept.{is_leaf}
 use Rattle.vortex_model.specs.Expression.{Expression, both, either, like}
 use Rattle.vortex_model.specs.Truth.{selects}
 use Rattle.vortex_model.specs.Cut.{cut_row}
@@ -24,12 +24,6 @@ has_no_like (either x y) = has_no_like x && has_no_like y
 has_no_like (like x form negated ignores_case) = false
 has_no_like e = true
 
--- the bounds of such a column are its least and its greatest value, never shortened
-abbrev pub is_never_shortened : Kind → Bool
-is_never_shortened (integer i n) = true
-is_never_shortened (boolean n) = true
-is_never_shortened k = false
-
 -- what a scan takes of a chunk with this outcome: nothing, all, or what passes the test
 abbrev pub found_in : (Content → Bool) → Outcome → List Content → List Content
 found_in p skipped_in_group chunk = []
@@ -45,13 +39,12 @@ FalsifiersAreSound = (k : Kind) (e proof : Expression) → has_no_like e ≡ tru
 abbrev pub SatisfiersAreSound : Type 0
 SatisfiersAreSound = (k : Kind) (e proof : Expression) → satisfier k e ≡ Some proof → IsSoundSatisfier k e proof
 
--- the zone map of a column of integers or of truth values is honest
+-- the zone map of a column of truth values, integers, texts or bytes is honest, however its bounds are shortened
 abbrev pub ZoneMapsAreHonest : Type 0
-ZoneMapsAreHonest = (k : Kind) (L : ℕ) (cs : List Content) → is_never_shortened k ≡ true → AllByRecursion (IsContent k) cs → IsHonest (statistics_of (zone_of k L cs)) cs
+ZoneMapsAreHonest = (k : Kind) (L : ℕ) (cs : List Content) → is_leaf k ≡ true → AllByRecursion (IsContent k) cs → IsHonest (statistics_of (zone_of k L cs)) cs
 
--- A predicate that may be asked of a table of what tables hold so far.
+-- A predicate that may be asked of a table, without LIKE.
 pub record IsAsked (t : Table) (e : Expression) : Type 0 where
-  pub kept : kept_fault t.kind ≡ None
   pub faultless : predicate_fault t.kind e ≡ None
   pub no_like : has_no_like e ≡ true
 

@@ -88,7 +88,7 @@ pub fn lows_are_below()
     ensures { LowsAreBelow }
 {}
 
-/// A value that is no text is not above its high.
+/// A value is not above its high, where it has one.
 pub fn highs_are_above()
     ensures { HighsAreAbove }
 {}
@@ -148,7 +148,7 @@ pub fn satisfiers_are_sound()
     ensures { SatisfiersAreSound }
 {}
 
-/// The zone map of a column of integers or of truth values is honest.
+/// The zone map of a column of truth values, integers, texts or bytes is honest, however its bounds are shortened.
 pub fn zone_maps_are_honest()
     ensures { ZoneMapsAreHonest }
 {}

@@ -1,6 +1,6 @@
 use Rattle.std.proofs.Common.{subst, sym}
 use Rattle.vortex_model.specs.Bounds.{AnyBytes, IsLongestBeginning}
-use Rattle.vortex_bounds.proofs.Beginnings.{take_longest}
+use Rattle.vortex_model.proofs.Beginnings.{take_longest}
 use Rattle.vortex_bounds.proofs.byte_bounds.lower_bytes.Goals as goal
 
 pub returns-clause-bound : goal.returns-clause-bound

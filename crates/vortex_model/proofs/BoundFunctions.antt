@@ -1,5 +1,5 @@
 -- The low and the high as functions.
-use Rattle.std.proofs.Common.{◌≡◌, ℕ, suc, ◌-◌, ◌<◌, ◌≤◌, Bool, true, false, List, [], ◌∷◌, ◌++◌, length, take, refl, sym, ap, ◌∙◌, subst, arith, IsUtf8, length-append, append-nil, chars, Option, Some, None, option_map, MatchOption, if◌then◌else◌, nat_le, nat_lt, ◌==◌, ◌||◌}
+use Rattle.std.proofs.Common.{◌≡◌, ℕ, suc, ◌-◌, ◌<◌, ◌≤◌, Bool, true, false, List, [], ◌∷◌, ◌++◌, length, take, refl, sym, ap, ◌∙◌, subst, arith, IsUtf8, length-append, append-nil, chars, Option, Some, None, option_map, MatchOption, if◌then◌else◌, nat_le, nat_lt, ◌==◌, ◌||◌, take_all}
 use Rattle.std.specs.Char.{IsScalar, encode_utf8, len_utf8}
 use Rattle.std.specs.Str.{encode_utf8_all}
 use Rattle.std.proofs.Math.Utf8.{scalars}
@@ -7,13 +7,10 @@ use Rattle.std.proofs.lemmas.Bool.{leb-true, leb-false}
 use Rattle.std.proofs.lemmas.Bool.Decides.{nat_tests}
 use Rattle.std.proofs.lemmas.Str.{encodes-append, encodes-chars, scalars-chars, length-encode, chars-append}
 use Rattle.vortex_model.specs.Content.{Content, text, blob}
-use Rattle.vortex_model.specs.Valid.{AreBytes}
-use Rattle.vortex_model.specs.Bounds.{IsLongestBeginning, AnyBytes, IsHighest, IsRaised, IsRaise, CannotBeRaised, IsLow, IsHigh, IsHighText, IsHighBytes, low, high, characters_within, text_within, next_character, raise_characters, raise, count_up}
-use Rattle.vortex_bounds.specs.Raising.{IsNext, IsRaisedBeginning}
-use Rattle.vortex_bounds.specs.Laws.{IsWellFormed, bytes_of}
-use Rattle.vortex_bounds.proofs.Beginnings.{take_longest, scalars_left, begins_length}
-use Rattle.vortex_bounds.proofs.Raised.{raise_made}
-use Rattle.vortex_bounds.proofs.CountedUp.{IsStringAbove, counted_above}
+use Rattle.vortex_model.specs.Bounds.{IsLongestBeginning, AnyBytes, IsHighest, IsRaised, IsRaise, CannotBeRaised, IsLow, IsHigh, IsHighText, IsNext, IsRaisedBeginning, IsWellFormed, bytes_of, is_longer, low, high, characters_within, text_within, next_character, raise_characters, raise, count_up}
+use Rattle.vortex_model.proofs.Beginnings.{take_longest, longest_same, scalars_left, begins_length}
+use Rattle.vortex_model.proofs.Raised.{raise_made}
+use Rattle.vortex_model.proofs.CountUp.{high_of_bytes}
 
 -- ---- the longest beginning of whole characters
 
@@ -145,10 +142,6 @@ text_high : (v : List ℕ) (L : ℕ) (o : Option (List ℕ)) → IsRaisedBeginni
 text_high v L None h = h
 text_high v L (Some s) h = h
 
-blob_high : (v : List ℕ) (L : ℕ) (o : Option (List ℕ)) → IsStringAbove v L o → IsHighBytes v L (option_map blob o)
-blob_high v L None h = h
-blob_high v L (Some s) h = h
-
 longer : (m n : ℕ) → nat_lt m n ≡ true → m < n
 longer m n e = grind (arith, nat_tests, e)
 
@@ -163,15 +156,9 @@ text_by v L true u e =
     (λ short. absurd (omega (arith, lt, short)), λ long. text_high v L (raise p) (p, low, raise_by_function p low.passes))
 text_by v L false u e = let le = not_longer L (length v) e in (λ short. refl, λ long. absurd (omega (arith, le, long)))
 
-blob_by : (v : List ℕ) (L : ℕ) (t : Bool) → AreBytes v → nat_lt L (length v) ≡ t → IsHigh (blob v) L (if t then option_map blob (count_up (take L v)) else Some (blob v))
-blob_by v L true b e =
-    let lt = longer L (length v) e in
-    (λ short. absurd (omega (arith, lt, short)), λ long. blob_high v L (count_up (take L v)) (counted_above v L b lt))
-blob_by v L false b e = let le = not_longer L (length v) e in (λ short. refl, λ long. absurd (omega (arith, le, long)))
-
 pub high_by_function : (v : Content) (L : ℕ) → IsWellFormed v → IsHigh v L (high L v)
 high_by_function (text v) L u = text_by v L (nat_lt L (length v)) u refl
-high_by_function (blob v) L b = blob_by v L (nat_lt L (length v)) b refl
+high_by_function (blob v) L b = high_of_bytes v L b
 high_by_function v L w = refl
 
 -- ---- a value that isn't longer is its own low and high
@@ -188,3 +175,14 @@ pub high_itself : (v : Content) (L : ℕ) → length (bytes_of v) ≤ L → IsHi
 high_itself (text v) L le = (λ short. refl, λ long. absurd (omega (arith, le, long)))
 high_itself (blob v) L le = (λ short. refl, λ long. absurd (omega (arith, le, long)))
 high_itself v L le = refl
+
+-- so the functions give it back
+pub low_short : (v : Content) (L : ℕ) → IsWellFormed v → is_longer L v ≡ false → low L v ≡ v
+low_short (text v) L u e = let le = not_longer L (length v) e in ap text (longest_same IsUtf8 v (text_within L v) v L (low_of_text v L u) (whole_longest IsUtf8 v L u le))
+low_short (blob v) L b e = let le = not_longer L (length v) e in ap blob (take_all L v le)
+low_short v L w e = refl
+
+pub high_short : (v : Content) (L : ℕ) → is_longer L v ≡ false → high L v ≡ Some v
+high_short (text v) L e = ap (λ b. if b then option_map text (raise (text_within L v)) else Some (text v)) e
+high_short (blob v) L e = ap (λ b. if b then option_map blob (count_up (take L v)) else Some (blob v)) e
+high_short v L e = refl

@@ -12,7 +12,7 @@ use Rattle.vortex_model.proofs.ContentOrder.{le_trans}
 abbrev pub IsUnder : List ℕ → List ℕ → Type 0
 IsUnder v w = slice_cmp nat_cmp v w ≡ Less
 
-less_so : (o : Ordering) → is_lt o ≡ true → o ≡ Less
+pub less_so : (o : Ordering) → is_lt o ≡ true → o ≡ Less
 less_so Less h = refl
 less_so Equal h = absurd (cc (h))
 less_so Greater h = absurd (cc (h))

@@ -3,7 +3,7 @@ use Rattle.std.proofs.Common.{◌≡◌, ℕ, ◌+◌, ◌/◌, ◌%◌, ◌<◌
 use Rattle.std.specs.Char.{encode_utf8}
 use Rattle.std.proofs.lemmas.Bool.{cond-true, cond-false, cases_lt}
 use Rattle.std.proofs.lemmas.Str.{encode_ascii}
-use Rattle.vortex_bounds.proofs.Order.{IsUnder, under_head, under_step}
+use Rattle.vortex_model.proofs.ByteOrder.{IsUnder, under_head, under_step}
 
 pub encode_two : (c : ℕ) → 128 ≤ c → c < 2048 → encode_utf8 c ≡ (192 + c / 64) ∷ (128 + c % 64) ∷ []
 unfolding encode_utf8
