@@ -3,11 +3,24 @@
 use std::process::ExitCode;
 use vortex_dtype::DTypeError;
 
+/// The most parts that a program can have.
+const MOST_PARTS: usize = 16;
+
+/// A part of the checks: its name, and how many of its calls were right and wrong.
+#[derive(Clone, Copy, Drop)]
+struct Part {
+    name: &'static str,
+    right: u32,
+    wrong: u32,
+}
+
 /// What was checked so far. It takes no memory.
 pub struct Checks<'a> {
     rt: &'a HostRuntime,
     right: u32,
     wrong: u32,
+    parts: [Part; MOST_PARTS],
+    part_count: usize,
 }
 
 impl<'a> Checks<'a> {
@@ -17,6 +30,12 @@ impl<'a> Checks<'a> {
             rt,
             right: 0,
             wrong: 0,
+            parts: [Part {
+                name: "",
+                right: 0,
+                wrong: 0,
+            }; MOST_PARTS],
+            part_count: 0,
         }
     }
 
@@ -28,6 +47,31 @@ impl<'a> Checks<'a> {
             self.wrong += 1;
             let _ = println!(self.rt; "wrong: {name}");
         }
+    }
+
+    /// Counts one of many calls of this name, the one of this number.
+    pub fn holds_at(&mut self, name: &str, number: usize, holds: bool) {
+        if holds {
+            self.right += 1;
+        } else {
+            self.wrong += 1;
+            let _ = println!(self.rt; "wrong: {name} {number}");
+        }
+    }
+
+    /// Ends a part: the calls since the last part ended have this name, and a line of their own at the end.
+    pub fn end_part(&mut self, name: &'static str) {
+        let (mut right, mut wrong) = (self.right, self.wrong);
+        for part in &self.parts[..self.part_count] {
+            right -= part.right;
+            wrong -= part.wrong;
+        }
+        if self.part_count == MOST_PARTS {
+            self.holds("a part more than there can be", false);
+            return;
+        }
+        self.parts[self.part_count] = Part { name, right, wrong };
+        self.part_count += 1;
     }
 
     /// Counts a call that is to be refused by this error. Refused memory is handed on.
@@ -52,13 +96,15 @@ impl<'a> Checks<'a> {
         }
     }
 
-    /// The status: failure where memory was refused and all was right until then, and else success, with a last line that says how many calls were
-    /// right. So a run that is wrong has a line that a right one lacks, and never the status of a refused one.
+    /// The status: failure where memory was refused and all was right until then, and else success, with a line for each part and a last one that say
+    /// how many calls were right. So a run that is wrong has a line that a right one lacks, and never the status of a refused one.
     pub fn end(self, outcome: Result<(), DTypeError>) -> ExitCode {
         let Checks {
             rt,
             right,
             mut wrong,
+            parts,
+            part_count,
         } = self;
         match outcome {
             Ok(()) => (),
@@ -71,6 +117,9 @@ impl<'a> Checks<'a> {
                 wrong += 1;
                 let _ = println!(rt; "wrong: refused, since {error}");
             }
+        }
+        for Part { name, right, wrong } in &parts[..part_count] {
+            let _ = println!(rt; "{name}: {right} calls right, {wrong} wrong");
         }
         let _ = println!(rt; "{right} calls right, {wrong} wrong");
         ExitCode::SUCCESS

@@ -58,6 +58,3 @@ pub mod run {
         Machine, MemorySink, MemorySource, RunError, ShortText, Sink, Source, Spoken, Tap,
     };
 }
-
-#[cfg(test)]
-mod tests;

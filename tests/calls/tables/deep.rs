@@ -1,0 +1,63 @@
+//! Records that nest deeper than any line says.
+
+use crate::checks::Checks;
+use crate::make::{cell, integers, number};
+use std::alloc::{AllocError, Global};
+use vortex_table::dtype::{
+    DType, Field, FieldName, FieldNames, FieldPath, Nullability, StructField, StructFields,
+};
+use vortex_table::expr::{col, gt};
+use vortex_table::scalar::ScalarValue;
+use vortex_table::table::{Table, TableError};
+
+/// How many records stand around the number.
+const DEPTH: usize = 100;
+
+/// The value of rows with one field each, as deep as asked for, and one number inside.
+fn nested_row(alloc: Global, depth: usize, number: i32) -> Result<Option<ScalarValue>, AllocError> {
+    let mut value = cell(number);
+    for _ in 0..depth {
+        let mut cells = Vec::new(alloc);
+        cells.push(value)?;
+        value = Some(ScalarValue::Tuple(cells));
+    }
+    Ok(value)
+}
+
+/// A record of one field, so deep, with a kind of integers inside.
+fn nested_type(alloc: Global, depth: usize) -> Result<DType, AllocError> {
+    let mut dtype = integers();
+    for _ in 0..depth {
+        let mut fields = Vec::new(alloc);
+        fields.push(StructField {
+            name: FieldName::new(alloc, "p")?,
+            dtype,
+        })?;
+        dtype = DType::Struct(StructFields::from_vec(fields)?, Nullability::NonNullable);
+    }
+    Ok(dtype)
+}
+
+/// Three rows under a hundred records, scanned by the number inside.
+pub fn records_may_nest_deep(alloc: Global, checks: &mut Checks<'_>) -> Result<(), TableError> {
+    let dtype = nested_type(alloc, DEPTH)?;
+    let mut table = Table::create(alloc, dtype.clone()?, 16)?;
+    let mut values = Vec::new(alloc);
+    for number in 0..3 {
+        values.push(nested_row(alloc, DEPTH, number)?)?;
+    }
+    table.append_owned(&dtype, values, &[])?;
+    let mut names = Vec::new(alloc);
+    let mut steps = Vec::new(alloc);
+    for _ in 0..DEPTH {
+        names.push(FieldName::new(alloc, "p")?)?;
+        steps.push(Field::Name(FieldName::new(alloc, "p")?))?;
+    }
+    let above = gt(alloc, col(FieldNames::new(names)), number(1)?)?;
+    let mut paths = Vec::new(alloc);
+    paths.push(FieldPath::new(steps))?;
+    let answer = table.scan(alloc, &paths, &above)?;
+    checks.holds("the row", answer.rows.len() == 1 && answer.rows_tested == 3);
+    checks.holds("the type", answer.dtype == dtype);
+    Ok(())
+}
