@@ -206,6 +206,7 @@ fn read_union(
 }
 
 /// The tags, where each fits a signed byte.
+#[tactic(none)]
 fn narrow_tags(alloc: Global, tags: &[i64]) -> Result<Vec<i8>, DTypeError>
     ensures { Gives (λ v. v.items) result (read_if (are_tags tags.now) tags.now) }
 {

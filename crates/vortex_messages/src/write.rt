@@ -1,9 +1,9 @@
 //! From a type to the message that says it.
-ghost use Rattle.std.specs.Prelude.{◌≡◌, [], IfOk};
+ghost use Rattle.std.specs.Prelude.{◌≡◌, Some, IfOk};
 ghost use Rattle.vortex_model.specs.Kind.{is_nullable, nullability_of};
 ghost use Rattle.vortex_kinds.specs.View.{nullability_of_flag};
 ghost use Rattle.vortex_types.specs.View.{kind_of, fields_of, variants_of};
-ghost use Rattle.vortex_messages.specs.Messages.{maps, node, leaf, tree, no_trees, written, written_fields, written_variants, field_names, variant_names, variant_tags};
+ghost use Rattle.vortex_messages.specs.Messages.{maps, records, unions, extended, node, leaf, tree, no_trees, written, written_fields, written_variants, field_names, variant_names, variant_tags};
 ghost use Rattle.vortex_messages.specs.View.{form_of, tree_of, trees_of};
 
 use crate::message::{Message, MessageKind};
@@ -13,6 +13,7 @@ use vortex_kinds::nullability::Nullability;
 use vortex_types::dtype::DType;
 use vortex_types::struct_fields::StructField;
 use vortex_types::union_variants::UnionVariant;
+use vortex_types::{BufferString, ByteBuffer};
 
 /// The message that says the type. An extension's metadata is always there.
 #[cycle(to_proto)]
@@ -38,40 +39,30 @@ pub fn to_proto(alloc: Global, dtype: &DType) -> Result<Message, AllocError>
         DType::Variant(nullability) => Ok(write_leaf(alloc, MessageKind::Variant, *nullability)),
         DType::List(element, nullability) => {
             let child = to_proto(alloc, element)?;
-            let message = write_over(alloc, MessageKind::List, *nullability, child)?;
-            Ok(message)
+            write_over(alloc, MessageKind::List, *nullability, child)
         }
         DType::FixedSizeList(element, size, nullability) => {
             let child = to_proto(alloc, element)?;
             let kind = MessageKind::FixedSizeList { size: *size };
-            let message = write_over(alloc, kind, *nullability, child)?;
-            Ok(message)
+            write_over(alloc, kind, *nullability, child)
         }
         DType::Map(map, nullability) => {
             let key = to_proto(alloc, map.key_dtype())?;
             let value = to_proto(alloc, map.value_dtype())?;
-            let message = write_map(alloc, map.keys_sorted(), *nullability, key, value)?;
-            Ok(message)
+            write_map(alloc, map.keys_sorted(), *nullability, key, value)
         }
         DType::Struct(fields, nullability) => {
             let children = write_fields(alloc, fields.as_slice())?;
-            let names = names_of_fields(alloc, fields.as_slice())?;
-            Ok(write_node(MessageKind::Struct { names }, *nullability, children))
+            write_struct(alloc, fields.as_slice(), *nullability, children)
         }
         DType::Union(variants, nullability) => {
             let children = write_variants(alloc, variants.as_slice())?;
-            let names = names_of_variants(alloc, variants.as_slice())?;
-            let tags = tags_of_variants(alloc, variants.as_slice())?;
-            Ok(write_node(MessageKind::Union { names, tags }, *nullability, children))
+            write_union(alloc, variants.as_slice(), *nullability, children)
         }
         DType::Extension(extension) => {
             let child = to_proto(alloc, extension.storage_dtype())?;
-            let kind = MessageKind::Extension {
-                id: extension.id().clone()?,
-                metadata: Some(extension.serialize_metadata().clone()?),
-            };
-            let message = write_over(alloc, kind, extension.nullability(), child)?;
-            Ok(message)
+            let (id, metadata) = (extension.id(), extension.serialize_metadata());
+            write_extension(alloc, id, metadata, extension.nullability(), child)
         }
     }
 }
@@ -152,6 +143,57 @@ fn write_map(
         nullable: nullability.is_nullable(),
         children,
     })
+}
+
+/// A record's node over the messages of its fields.
+#[tactic(auto, using(crate::proofs::Parts::one_level))]
+fn write_struct(
+    alloc: Global,
+    fields: &[StructField],
+    nullability: Nullability,
+    children: Vec<Message>,
+) -> Result<Message, AllocError>
+    ensures { IfOk result (λ message. tree_of message
+        ≡ node (records (field_names (fields_of fields.now))) (is_nullable (nullability_of_flag nullability)) (trees_of children.items)) }
+{
+    let names = names_of_fields(alloc, fields)?;
+    Ok(write_node(MessageKind::Struct { names }, nullability, children))
+}
+
+/// A union's node over the messages of its choices.
+#[tactic(auto, using(crate::proofs::Parts::one_level))]
+fn write_union(
+    alloc: Global,
+    variants: &[UnionVariant],
+    nullability: Nullability,
+    children: Vec<Message>,
+) -> Result<Message, AllocError>
+    ensures { IfOk result (λ message. tree_of message
+        ≡ node (unions (variant_names (variants_of variants.now)) (variant_tags (variants_of variants.now)))
+        (is_nullable (nullability_of_flag nullability)) (trees_of children.items)) }
+{
+    let names = names_of_variants(alloc, variants)?;
+    let tags = tags_of_variants(alloc, variants)?;
+    Ok(write_node(MessageKind::Union { names, tags }, nullability, children))
+}
+
+/// An extension's node over the message of its storage.
+#[tactic(auto, using(crate::proofs::Parts::one_level))]
+fn write_extension(
+    alloc: Global,
+    id: &BufferString,
+    metadata: &ByteBuffer,
+    nullability: Nullability,
+    storage: Message,
+) -> Result<Message, AllocError>
+    ensures { IfOk result (λ message. tree_of message
+        ≡ node (extended id.now (Some metadata.now)) (is_nullable (nullability_of_flag nullability)) (tree (tree_of storage) no_trees)) }
+{
+    let kind = MessageKind::Extension {
+        id: id.clone()?,
+        metadata: Some(metadata.clone()?),
+    };
+    write_over(alloc, kind, nullability, storage)
 }
 
 /// A node over these children.
