@@ -1,6 +1,6 @@
 //! The records that a map's entries are.
-ghost use Rattle.std.specs.Prelude.{◌≡◌, IfOk};
-ghost use Rattle.vortex_types.specs.View.{EntryKinds, kind_of, field_of, entries_in};
+ghost use Rattle.std.specs.Prelude.{◌≡◌, [], ◌∷◌, IfOk};
+ghost use Rattle.vortex_types.specs.View.{EntryKinds, kind_of, field_of, fields_of, fields_in, entries_in};
 ghost use Rattle.vortex_records.specs.Records.{entry_kind};
 
 use std::alloc::{AllocError, Global};
@@ -26,12 +26,19 @@ impl MapDTypeExt for MapDType {
     fn entries_dtype(&self, alloc: Global) -> Result<DType, AllocError> {
         let key = named(alloc, "key", self.key_dtype())?;
         let value = named(alloc, "value", self.value_dtype())?;
-        let mut fields = Vec::with_capacity(alloc, 2)?;
-        fields.push(key)?;
-        fields.push(value)?;
-        let fields = StructFields::from_vec(fields)?;
+        let fields = both(alloc, key, value)?;
         Ok(DType::Struct(fields, Nullability::NonNullable))
     }
+}
+
+#[tactic(auto, using(vortex_types::proofs::Views::built))]
+fn both(alloc: Global, key: StructField, value: StructField) -> Result<StructFields, AllocError>
+    ensures { IfOk result (λ fields. fields_in fields ≡ fields_of (key ∷ value ∷ [])) }
+{
+    let mut fields = Vec::with_capacity(alloc, 2)?;
+    fields.push(key)?;
+    fields.push(value)?;
+    StructFields::from_vec(fields)
 }
 
 #[tactic(auto, using(vortex_types::proofs::Views::built))]
