@@ -1,4 +1,5 @@
 pub mod Forms
+pub mod Loops
 pub mod Others
 pub mod Sizes
 pub mod Tests

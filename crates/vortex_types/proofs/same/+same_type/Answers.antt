@@ -1,4 +1,7 @@
+use Rattle.std.proofs.Common.{arith, rules, refl, sym, ◌∙◌}
 use Rattle.vortex_types.proofs.Forms.{apart, of_truths, of_numbers, of_decimals, of_texts, of_bytes, of_lists, of_fixed_lists, of_maps, of_records, of_unions, of_variants, of_extensions}
+use Rattle.vortex_types.proofs.Loops.{first_fails, second_fails, both_hold, first_of_three_fails, all_hold, differ, go_on, end, all_fields, one_field, more_fields, all_choices, one_choice, more_choices}
+use Rattle.vortex_types.proofs.Tests.{tests}
 use Rattle.vortex_types.proofs.same.+same_type.Goals as goal
 
 pub same_type-returns-in_default-2 : goal.same_type-returns-in_default-2
@@ -36,3 +39,130 @@ same_type-returns-in_default-12 t c = apart of_variants _ _ (_, c.in_default.is-
 
 pub same_type-returns-in_default-13 : goal.same_type-returns-in_default-13
 same_type-returns-in_default-13 t c = apart of_extensions _ _ (_, c.in_default.is-0) (λ h. c.in_default.not-Extension-1 h.0 h.1)
+
+pub same_choices-returns-then-xs-ys : goal.same_choices-returns-then-xs-ys
+same_choices-returns-then-xs-ys t c = grind (arith, tests)
+
+pub same_choices-loop-i-init : goal.same_choices-loop-i-init
+same_choices-loop-i-init t c = grind (arith, tests)
+
+pub same_choices-offset_bounds-xs-i : goal.same_choices-offset_bounds-xs-i
+same_choices-offset_bounds-xs-i t c = grind (arith, tests)
+
+pub same_choices-bounds-xs-i : goal.same_choices-bounds-xs-i
+same_choices-bounds-xs-i t c = grind (arith, tests)
+
+pub same_choices-offset_bounds-ys-i : goal.same_choices-offset_bounds-ys-i
+same_choices-offset_bounds-ys-i t c = grind (arith, tests)
+
+pub same_choices-bounds-ys-i : goal.same_choices-bounds-ys-i
+same_choices-bounds-ys-i t c = grind (arith, tests)
+
+pub same_choices-loop-i-smaller : goal.same_choices-loop-i-smaller
+same_choices-loop-i-smaller t c = grind (arith, tests)
+
+pub same_parts-returns-then-xs-ys : goal.same_parts-returns-then-xs-ys
+same_parts-returns-then-xs-ys t c = grind (arith, tests)
+
+pub same_parts-loop-i-init : goal.same_parts-loop-i-init
+same_parts-loop-i-init t c = grind (arith, tests)
+
+pub same_parts-offset_bounds-xs-i : goal.same_parts-offset_bounds-xs-i
+same_parts-offset_bounds-xs-i t c = grind (arith, tests)
+
+pub same_parts-bounds-xs-i : goal.same_parts-bounds-xs-i
+same_parts-bounds-xs-i t c = grind (arith, tests)
+
+pub same_parts-offset_bounds-ys-i : goal.same_parts-offset_bounds-ys-i
+same_parts-offset_bounds-ys-i t c = grind (arith, tests)
+
+pub same_parts-bounds-ys-i : goal.same_parts-bounds-ys-i
+same_parts-bounds-ys-i t c = grind (arith, tests)
+
+pub same_parts-loop-i-smaller : goal.same_parts-loop-i-smaller
+same_parts-loop-i-smaller t c = grind (arith, tests)
+
+pub same_type-returns-then-eq : goal.same_type-returns-then-eq
+same_type-returns-then-eq t c = grind (arith, tests)
+
+pub same_type-returns-else-eq : goal.same_type-returns-else-eq
+same_type-returns-else-eq t c = grind (arith, tests)
+
+pub same_type-returns-then-same_type : goal.same_type-returns-then-same_type
+same_type-returns-then-same_type t c = grind (arith, tests)
+
+pub same_type-returns-else-same_type : goal.same_type-returns-else-same_type
+same_type-returns-else-same_type t c = grind (arith, tests)
+
+pub same_type-returns-then-i-j : goal.same_type-returns-then-i-j
+same_type-returns-then-i-j t c = grind (arith, tests)
+
+pub same_type-returns-else-i-j : goal.same_type-returns-else-i-j
+same_type-returns-else-i-j t c = grind (arith, tests)
+
+pub same_type-returns-then-same_parts : goal.same_type-returns-then-same_parts
+same_type-returns-then-same_parts t c = grind (arith, tests)
+
+pub same_type-returns-else-same_parts : goal.same_type-returns-else-same_parts
+same_type-returns-else-same_parts t c = grind (arith, tests)
+
+pub same_type-returns-then-same_choices : goal.same_type-returns-then-same_choices
+same_type-returns-then-same_choices t c = grind (arith, tests)
+
+pub same_type-returns-else-same_choices : goal.same_type-returns-else-same_choices
+same_type-returns-else-same_choices t c = grind (arith, tests)
+
+pub same_type-returns-else-has_same_name : goal.same_type-returns-else-has_same_name
+same_type-returns-else-has_same_name t c = grind (arith, tests)
+
+pub same_parts-returns-then-ne : goal.same_parts-returns-then-ne
+same_parts-returns-then-ne t c =
+    differ all_fields one_field refl more_fields c.args.xs.now c.args.ys.now c.loop-i.i
+    c.index-xs-i.result c.index-ys-i.result c.loop-i-test.true c.loop-i.invariant.same_length c.index-xs-i.is c.index-ys-i.is
+    (first_fails _ _ (sym c.ne.ensures ∙ c.if-ne.true)) c.loop-i.invariant.left
+
+pub same_parts-returns-then-not-same_type : goal.same_parts-returns-then-not-same_type
+same_parts-returns-then-not-same_type t c =
+    differ all_fields one_field refl more_fields c.args.xs.now c.args.ys.now c.loop-i.i
+    c.index-xs-i.result c.index-ys-i.result c.loop-i-test.true c.loop-i.invariant.same_length c.index-xs-i.is c.index-ys-i.is
+    (second_fails _ _ (sym c.same_type.ensures ∙ c.if-not-same_type.true)) c.loop-i.invariant.left
+
+pub same_parts-loop-i-preserved : goal.same_parts-loop-i-preserved
+same_parts-loop-i-preserved t c = record {
+  same_length = c.loop-i.invariant.same_length;
+  left =
+      go_on all_fields one_field refl more_fields c.args.xs.now c.args.ys.now c.loop-i.i
+      c.index-xs-i.result c.index-ys-i.result c.loop-i-test.true c.loop-i.invariant.same_length c.index-xs-i.is c.index-ys-i.is
+      (both_hold _ _ (sym c.ne.ensures ∙ c.if-ne.false) (sym c.same_type.ensures ∙ c.if-not-same_type.false)) c.loop-i.invariant.left;
+}
+
+pub same_parts-returns : goal.same_parts-returns
+same_parts-returns t c =
+    end all_fields one_field refl more_fields c.args.xs.now c.args.ys.now c.loop-i.i
+    c.loop-i-test.false c.loop-i.invariant.same_length c.loop-i.invariant.left
+
+pub same_choices-returns-then-ne : goal.same_choices-returns-then-ne
+same_choices-returns-then-ne t c =
+    differ all_choices one_choice refl more_choices c.args.xs.now c.args.ys.now c.loop-i.i
+    c.index-xs-i.result c.index-ys-i.result c.loop-i-test.true c.loop-i.invariant.same_length c.index-xs-i.is c.index-ys-i.is
+    (first_of_three_fails _ _ _ (sym c.ne.ensures ∙ c.if-ne.true)) c.loop-i.invariant.left
+
+pub same_choices-returns-then-not-same_type : goal.same_choices-returns-then-not-same_type
+same_choices-returns-then-not-same_type t c =
+    differ all_choices one_choice refl more_choices c.args.xs.now c.args.ys.now c.loop-i.i
+    c.index-xs-i.result c.index-ys-i.result c.loop-i-test.true c.loop-i.invariant.same_length c.index-xs-i.is c.index-ys-i.is
+    (second_fails _ _ (sym c.same_type.ensures ∙ c.if-not-same_type.true)) c.loop-i.invariant.left
+
+pub same_choices-loop-i-preserved : goal.same_choices-loop-i-preserved
+same_choices-loop-i-preserved t c = record {
+  same_length = c.loop-i.invariant.same_length;
+  left =
+      go_on all_choices one_choice refl more_choices c.args.xs.now c.args.ys.now c.loop-i.i
+      c.index-xs-i.result c.index-ys-i.result c.loop-i-test.true c.loop-i.invariant.same_length c.index-xs-i.is c.index-ys-i.is
+      (all_hold _ _ _ (sym c.ne.ensures ∙ c.if-ne.false) (search rules) (sym c.same_type.ensures ∙ c.if-not-same_type.false)) c.loop-i.invariant.left;
+}
+
+pub same_choices-returns : goal.same_choices-returns
+same_choices-returns t c =
+    end all_choices one_choice refl more_choices c.args.xs.now c.args.ys.now c.loop-i.i
+    c.loop-i-test.false c.loop-i.invariant.same_length c.loop-i.invariant.left
