@@ -4,3 +4,4 @@ mod Masks
 mod Resolved
 mod Sets
 mod Steps
+mod Walks

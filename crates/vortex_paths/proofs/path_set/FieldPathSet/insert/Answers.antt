@@ -1,3 +1,5 @@
+use Rattle.std.proofs.Common.{arith}
+use Rattle.vortex_paths.proofs.Sets.{inserted}
 use Rattle.std.proofs.Common.{◌∙◌, sym}
 use Rattle.vortex_paths.specs.View.{steps_of, paths_of}
 use Rattle.vortex_paths.proofs.Sets.{inserted_again, distinct_after}
@@ -10,3 +12,18 @@ pub invariant_of-self : goal.invariant_of-self
 invariant_of-self c = record {
   distinct = distinct_after c.args.self.now.paths.items c.push.new.self.items c.args.path _ c.push.ensures.items c.args.self.now.distinct (sym c.contains.ensures ∙ c.if-contains.false);
 }
+
+pub returns-then-contains-clause-fresh : goal.returns-then-contains-clause-fresh
+returns-then-contains-clause-fresh c = grind (arith, inserted)
+
+pub returns-then-contains-clause-err : goal.returns-then-contains-clause-err
+returns-then-contains-clause-err c = grind (arith, inserted)
+
+pub returns-clause-fresh : goal.returns-clause-fresh
+returns-clause-fresh c = grind (arith, inserted)
+
+pub returns-clause-ok : goal.returns-clause-ok
+returns-clause-ok c = grind (arith, inserted)
+
+pub returns-clause-err : goal.returns-clause-err
+returns-clause-err c = grind (arith, inserted)
