@@ -1,5 +1,5 @@
 -- What is known of a type by its class.
-use Rattle.std.proofs.Common.{◌≡◌, ℕ, List, [], ◌∷◌, Option, Some, None, option_map, option_and_then, Bool, true, false, refl, sym, ap, ◌∙◌, subst}
+use Rattle.std.proofs.Common.{◌≡◌, ℕ, List, [], ◌∷◌, Option, Some, None, option_map, option_and_then, true, false, refl, sym, ap, ◌∙◌, subst}
 use Rattle.vortex_model.specs.Kind.{Kind, null_only, boolean, integer, float, decimal, utf8, binary, list, fixed_list, mapping, struct, Fields, union, variant, extension, Nullability, non_nullable, nullable, nullability_of, with_nullability, within}
 use Rattle.vortex_model.specs.Path.{Names, Positions, positions, position_in, position_named, part_at, field_at, type_at, type_of_column}
 use Rattle.vortex_model.specs.Command.{part_named}

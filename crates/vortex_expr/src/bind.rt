@@ -166,41 +166,48 @@ fn check_truths(left: Leaf, right: Leaf) -> Result<Leaf, PredicateError>
 }
 
 /// The predicate with its columns resolved. A column that is nowhere reads null.
+#[cycle(resolve)]
 fn resolve(alloc: Global, dtype: &DType, e: &Expression) -> Result<BoundExpression, AllocError>
     ensures tree { IfOk result (λ bound. bound ≡ bound_of (kind_of dtype.now) e.now) }
     ensures no_like { OnOk result (has_no_like e.now ≡ true) }
 {
     match &e.node {
-        Node::Literal(value) => {
-            let literal = literal_of(value)?;
-            Ok(literal)
-        }
-        Node::Column(path) => {
-            let column = resolve_column(alloc, dtype, path)?;
-            Ok(column)
-        }
+        Node::Literal(value) => literal_of(value),
+        Node::Column(path) => resolve_column(alloc, dtype, path),
         Node::Compare(comparison, x, y) => {
-            let left = resolve(alloc, dtype, x)?;
-            let right = resolve(alloc, dtype, y)?;
-            let both = bound_compare(alloc, *comparison, left, right)?;
-            Ok(both)
+            let (left, right) = resolve_both(alloc, dtype, x, y)?;
+            bound_compare(alloc, *comparison, left, right)
         }
         Node::And(x, y) => {
-            let left = resolve(alloc, dtype, x)?;
-            let right = resolve(alloc, dtype, y)?;
-            let both = bound_and(alloc, left, right)?;
-            Ok(both)
+            let (left, right) = resolve_both(alloc, dtype, x, y)?;
+            bound_and(alloc, left, right)
         }
         Node::Or(x, y) => {
-            let left = resolve(alloc, dtype, x)?;
-            let right = resolve(alloc, dtype, y)?;
-            let either = bound_or(alloc, left, right)?;
-            Ok(either)
+            let (left, right) = resolve_both(alloc, dtype, x, y)?;
+            bound_or(alloc, left, right)
         }
         Node::Stat(_, _) => Ok(BoundExpression {
             node: BoundNode::Literal(None),
         }),
     }
+}
+
+/// Two predicates with their columns resolved.
+#[cycle(resolve)]
+fn resolve_both(
+    alloc: Global,
+    dtype: &DType,
+    left: &Expression,
+    right: &Expression,
+) -> Result<(BoundExpression, BoundExpression), AllocError>
+    ensures left { IfOk result (λ both. both.0 ≡ bound_of (kind_of dtype.now) left.now) }
+    ensures right { IfOk result (λ both. both.1 ≡ bound_of (kind_of dtype.now) right.now) }
+    ensures no_like { OnOk result (has_no_like left.now ≡ true) }
+    ensures no_like_right { OnOk result (has_no_like right.now ≡ true) }
+{
+    let first = resolve(alloc, dtype, left)?;
+    let second = resolve(alloc, dtype, right)?;
+    Ok((first, second))
 }
 
 /// A literal's value.

@@ -74,6 +74,20 @@ pub fn root(alloc: Global) -> Expression
     col(FieldNames::new(Vec::new(alloc)))
 }
 
+/// Two expressions, each in a box of its own.
+fn boxed(
+    alloc: Global,
+    left: Expression,
+    right: Expression,
+) -> Result<(Box<Expression>, Box<Expression>), AllocError>
+    ensures left { IfOk result (λ boxes. boxes.0.value ≡ left) }
+    ensures right { IfOk result (λ boxes. boxes.1.value ≡ right) }
+{
+    let first = Box::new(alloc, left)?;
+    let second = Box::new(alloc, right)?;
+    Ok((first, second))
+}
+
 /// A comparison of two expressions.
 pub fn compare(
     alloc: Global,
@@ -83,8 +97,9 @@ pub fn compare(
 ) -> Result<Expression, AllocError>
     ensures { IfOk result (λ e. e ≡ compare (comparison_of comparison) left right) }
 {
+    let (left, right) = boxed(alloc, left, right)?;
     Ok(Expression {
-        node: Node::Compare(comparison, Box::new(alloc, left)?, Box::new(alloc, right)?),
+        node: Node::Compare(comparison, left, right),
     })
 }
 
@@ -134,8 +149,9 @@ pub fn lt_eq(alloc: Global, left: Expression, right: Expression) -> Result<Expre
 pub fn and(alloc: Global, left: Expression, right: Expression) -> Result<Expression, AllocError>
     ensures { IfOk result (λ e. e ≡ both left right) }
 {
+    let (left, right) = boxed(alloc, left, right)?;
     Ok(Expression {
-        node: Node::And(Box::new(alloc, left)?, Box::new(alloc, right)?),
+        node: Node::And(left, right),
     })
 }
 
@@ -143,8 +159,9 @@ pub fn and(alloc: Global, left: Expression, right: Expression) -> Result<Express
 pub fn or(alloc: Global, left: Expression, right: Expression) -> Result<Expression, AllocError>
     ensures { IfOk result (λ e. e ≡ either left right) }
 {
+    let (left, right) = boxed(alloc, left, right)?;
     Ok(Expression {
-        node: Node::Or(Box::new(alloc, left)?, Box::new(alloc, right)?),
+        node: Node::Or(left, right),
     })
 }
 

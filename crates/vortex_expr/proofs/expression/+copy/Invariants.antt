@@ -1,5 +1,5 @@
 -- Two sides count one less than the tree that joins them.
-use Rattle.std.proofs.Common.{ℕ, ◌+◌, ◌*◌}
+use Rattle.std.proofs.Common.{◌+◌, ◌*◌}
 use Rattle.vortex_expr.specs.TreeCode.{size_of}
 use Rattle.vortex_expr.proofs.expression.+copy.Given as goal
 
