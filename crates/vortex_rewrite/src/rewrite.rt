@@ -198,52 +198,63 @@ fn keep_from_nan(
 ) -> Result<Expression, AllocError>
     ensures { IfOk result (λ proof. proof ≡ kept_from_nan left right x.now y.now (comparison_falsifier (comparison_of comparison) x.now y.now)) }
 {
-    let proof = compare_bounds(alloc, comparison, x, y)?;
     if left || right {
-        guarded_twice(alloc, left, right, x, y, proof)
+        guarded_twice(alloc, comparison, left, right, x, y)
     } else {
-        Ok(proof)
+        compare_bounds(alloc, comparison, x, y)
     }
 }
 
-/// A proof, where the flagged sides hold no NaN by the count or by the flag.
+/// The proof by the bounds, where the flagged sides hold no NaN by the count or by the flag.
 fn guarded_twice(
     alloc: Global,
+    comparison: Comparison,
     left: bool,
     right: bool,
     x: &Expression,
     y: &Expression,
-    proof: Expression,
 ) -> Result<Expression, AllocError>
-    ensures { IfOk result (λ all. all ≡ either (guarded no_nan_by_count left right x.now y.now proof) (guarded no_nan_by_flag left right x.now y.now proof)) }
+    ensures { IfOk result (λ all. all ≡ either
+        (guarded no_nan_by_count left right x.now y.now (comparison_falsifier (comparison_of comparison) x.now y.now))
+        (guarded no_nan_by_flag left right x.now y.now (comparison_falsifier (comparison_of comparison) x.now y.now))) }
 {
-    let again = proof.clone()?;
-    let by_count = guarded(alloc, NanGuard::Count, left, right, x, y, proof)?;
-    let by_flag = guarded(alloc, NanGuard::Flag, left, right, x, y, again)?;
+    let by_count = guarded(alloc, NanGuard::Count, comparison, left, right, x, y)?;
+    let by_flag = guarded(alloc, NanGuard::Flag, comparison, left, right, x, y)?;
     or(alloc, by_count, by_flag)
 }
 
-/// A proof, where the flagged sides hold no NaN.
+/// The proof by the bounds, where the flagged sides hold no NaN.
 fn guarded(
     alloc: Global,
     guard: NanGuard,
+    comparison: Comparison,
     left: bool,
     right: bool,
     x: &Expression,
     y: &Expression,
-    proof: Expression,
 ) -> Result<Expression, AllocError>
-    ensures { IfOk result (λ all. all ≡ guarded (guard_of guard) left right x.now y.now proof) }
+    ensures { IfOk result (λ all. all ≡ guarded (guard_of guard) left right x.now y.now (comparison_falsifier (comparison_of comparison) x.now y.now)) }
 {
     match (left, right) {
-        (true, true) => {
-            let guards = no_nan_in_both(alloc, guard, x, y)?;
-            and(alloc, guards, proof)
-        }
-        (true, false) => guarded_by_one(alloc, guard, x, proof),
-        (false, true) => guarded_by_one(alloc, guard, y, proof),
-        (false, false) => Ok(proof),
+        (true, true) => guarded_by(alloc, no_nan_in_both(alloc, guard, x, y)?, comparison, x, y),
+        (true, false) => guarded_by(alloc, no_nan(alloc, guard, x)?, comparison, x, y),
+        (false, true) => guarded_by(alloc, no_nan(alloc, guard, y)?, comparison, x, y),
+        (false, false) => compare_bounds(alloc, comparison, x, y),
     }
+}
+
+/// The proof by the bounds, under a guard.
+fn guarded_by(
+    alloc: Global,
+    guard: Expression,
+    comparison: Comparison,
+    x: &Expression,
+    y: &Expression,
+) -> Result<Expression, AllocError>
+    ensures { IfOk result (λ all. all ≡ both guard (comparison_falsifier (comparison_of comparison) x.now y.now)) }
+{
+    let proof = compare_bounds(alloc, comparison, x, y)?;
+    and(alloc, guard, proof)
 }
 
 /// The proof that no value of either expression is NaN.
@@ -258,19 +269,6 @@ fn no_nan_in_both(
     let first = no_nan(alloc, guard, x)?;
     let second = no_nan(alloc, guard, y)?;
     and(alloc, first, second)
-}
-
-/// A proof, where an expression holds no NaN.
-fn guarded_by_one(
-    alloc: Global,
-    guard: NanGuard,
-    e: &Expression,
-    proof: Expression,
-) -> Result<Expression, AllocError>
-    ensures { IfOk result (λ all. all ≡ both (guard_of guard e.now) proof) }
-{
-    let first = no_nan(alloc, guard, e)?;
-    and(alloc, first, proof)
 }
 
 /// The proof that no value of an expression is NaN.
@@ -413,9 +411,11 @@ fn both_proofs(
 ) -> Result<Option<Expression>, AllocError>
     ensures { IfOk result (λ proof. proof ≡ both_there left right) }
 {
-    match (left, right) {
-        (Some(x), Some(y)) => Ok(Some(and(alloc, x, y)?)),
-        (Some(_), None) => Ok(None),
-        (None, _) => Ok(None),
+    match left.zip(right) {
+        Some((x, y)) => {
+            let proof = and(alloc, x, y)?;
+            Ok(Some(proof))
+        }
+        None => Ok(None),
     }
 }
