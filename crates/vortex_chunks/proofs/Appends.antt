@@ -7,8 +7,8 @@ use Rattle.vortex_model.specs.Valid.{valid}
 use Rattle.vortex_model.specs.Convert.{converts}
 use Rattle.vortex_model.specs.Refusal.{Refusal, invalid_value, not_convertible, or_else}
 use Rattle.vortex_model.specs.Command.{unless, first_invalid, first_unconvertible}
-use Rattle.vortex_scalar.specs.View.{raw_in, content_in}
-use Rattle.vortex_scalar.specs.declared.scalar_value.ScalarValue.{ScalarValue}
+use Rattle.vortex_values.specs.View.{raw_in, content_in}
+use Rattle.vortex_values.specs.declared.scalar_value.ScalarValue.{ScalarValue}
 use Rattle.vortex_chunks.specs.Bounds.{row_content}
 use Rattle.vortex_chunks.specs.Error.{Explains}
 use Rattle.vortex_chunks.specs.declared.error.TableError.{TableError}

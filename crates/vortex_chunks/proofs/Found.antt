@@ -11,8 +11,8 @@ use Rattle.vortex_model.specs.Scan.{skipped, whole, tested, chunk_outcome}
 use Rattle.vortex_model.specs.Pruning.{IsAsked, found_in}
 use Rattle.vortex_model.proofs.Skipping.{found_rightly}
 use Rattle.vortex_model.proofs.ContentOrder.{true_left, true_right}
-use Rattle.vortex_scalar.specs.View.{raw_of}
-use Rattle.vortex_scalar.specs.declared.scalar_value.ScalarValue.{ScalarValue}
+use Rattle.vortex_values.specs.View.{raw_of}
+use Rattle.vortex_values.specs.declared.scalar_value.ScalarValue.{ScalarValue}
 use Rattle.vortex_chunks.specs.Chunk.{chunk_rows}
 use Rattle.vortex_cuts.specs.Cut.{content_cut, kept_by, raw_cut}
 use Rattle.vortex_chunks.specs.Plan.{IsPlan, table_in, paths_in, predicate_in}

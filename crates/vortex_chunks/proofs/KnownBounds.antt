@@ -9,8 +9,8 @@ use Rattle.vortex_model.specs.Statistics.{least_of, greatest_of, non_null, shown
 use Rattle.vortex_model.specs.ZoneMap.{ZoneMap, zone_of, bound_of}
 use Rattle.vortex_model.specs.Bounds.{low, high, is_longer}
 use Rattle.vortex_model.specs.Scan.{known}
-use Rattle.vortex_scalar.specs.View.{integer_of}
-use Rattle.vortex_scalar.specs.declared.pvalue.PValue.{PValue}
+use Rattle.vortex_values.specs.Numbers.{integer_of}
+use Rattle.vortex_values.specs.declared.pvalue.PValue.{PValue}
 use Rattle.vortex_chunks.specs.declared.bounds.ColumnBounds.{ColumnBounds}
 use Rattle.vortex_chunks.specs.Bounds.{numbers_in, is_at_most, lesser, greater, before, best_of, IsBoundsOf}
 use Rattle.vortex_chunks.specs.Given.{number_or_null, said_by}

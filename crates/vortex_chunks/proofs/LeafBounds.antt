@@ -4,7 +4,7 @@ use Rattle.std.proofs.lemmas.List.{take_more}
 use Rattle.vortex_model.specs.Path.{Positions, same_positions}
 use Rattle.vortex_model.proofs.ContentOrder.{true_left, true_right}
 use Rattle.vortex_schema.proofs.Places.{positions_so, positions_itself, is_among}
-use Rattle.vortex_scalar.specs.declared.scalar_value.ScalarValue.{ScalarValue}
+use Rattle.vortex_values.specs.declared.scalar_value.ScalarValue.{ScalarValue}
 use Rattle.vortex_chunks.specs.Bounds.{column_at, IsBoundsOf, AreBoundsOf}
 use Rattle.vortex_chunks.specs.Given.{bounds_at}
 use Rattle.vortex_chunks.specs.Table.{same_leaves}

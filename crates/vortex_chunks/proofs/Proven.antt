@@ -19,7 +19,7 @@ use Rattle.vortex_model.specs.Command.{expression_fault, column_fault, unless, i
 use Rattle.vortex_model.proofs.ContentOrder.{true_left, true_right}
 use Rattle.vortex_model.proofs.Columns.{all_at_type, at_kept}
 use Rattle.vortex_rewrite.specs.Stats.{is_proved}
-use Rattle.vortex_scalar.specs.View.{raw_of}
+use Rattle.vortex_values.specs.View.{raw_of}
 use Rattle.vortex_chunks.specs.declared.bounds.ColumnBounds.{ColumnBounds}
 use Rattle.vortex_chunks.specs.declared.chunk.Chunk.{Chunk}
 use Rattle.vortex_chunks.specs.declared.plan.Plan.{Plan}

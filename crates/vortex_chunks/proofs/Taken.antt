@@ -4,10 +4,10 @@ use Rattle.std.proofs.lemmas.List.{map_more, map-append}
 use Rattle.std.proofs.lemmas.List.Elements.{filter-append, All-push}
 use Rattle.vortex_model.specs.Kind.{Kind}
 use Rattle.vortex_model.specs.Content.{Content, content_of}
-use Rattle.vortex_scalar.specs.View.{raw_of}
-use Rattle.vortex_scalar.specs.Scalar.{scalar_kind, scalar_content}
-use Rattle.vortex_scalar.specs.declared.scalar.Scalar.{Scalar}
-use Rattle.vortex_scalar.specs.declared.scalar_value.ScalarValue.{ScalarValue}
+use Rattle.vortex_values.specs.View.{raw_of}
+use Rattle.vortex_scalars.specs.Scalar.{scalar_kind, scalar_content}
+use Rattle.vortex_scalars.specs.declared.scalar.Scalar.{Scalar}
+use Rattle.vortex_values.specs.declared.scalar_value.ScalarValue.{ScalarValue}
 use Rattle.vortex_expr.specs.Bound.{Bound}
 use Rattle.vortex_chunks.specs.Bounds.{row_content}
 use Rattle.vortex_cuts.specs.Cut.{tree_of, content_cut, raw_cut}

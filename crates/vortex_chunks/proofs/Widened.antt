@@ -7,8 +7,8 @@ use Rattle.vortex_model.specs.Content.{Content, null, whole, is_null}
 use Rattle.vortex_model.specs.Path.{Positions, at}
 use Rattle.vortex_model.specs.Statistics.{nulls_of}
 use Rattle.vortex_model.specs.ZoneMap.{values_at}
-use Rattle.vortex_scalar.specs.View.{integer_of}
-use Rattle.vortex_scalar.specs.declared.scalar_value.ScalarValue.{ScalarValue}
+use Rattle.vortex_values.specs.Numbers.{integer_of}
+use Rattle.vortex_values.specs.declared.scalar_value.ScalarValue.{ScalarValue}
 use Rattle.vortex_chunks.specs.declared.bounds.ColumnBounds.{ColumnBounds}
 use Rattle.vortex_chunks.specs.Bounds.{row_content, column_at, number_in, numbers_in, lesser, greater, best_of, with_value, one_null, IsBoundsOf}
 use Rattle.vortex_chunks.proofs.Best.{Associates, lesser_assoc, greater_assoc, best_of_more}

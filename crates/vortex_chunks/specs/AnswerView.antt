@@ -2,7 +2,7 @@
 use Rattle.std.specs.Prelude.{◌≡◌, map, All}
 use Rattle.vortex_model.specs.Scan as model
 use Rattle.vortex_types.specs.View.{kind_of}
-use Rattle.vortex_scalar.specs.Scalar.{scalar_kind, scalar_content}
+use Rattle.vortex_scalars.specs.Scalar.{scalar_kind, scalar_content}
 use Rattle.vortex_chunks.specs.declared.answer.ScanAnswer.{ScanAnswer}
 
 abbrev pub answer_of : ScanAnswer → model.ScanAnswer

@@ -6,8 +6,9 @@ use Rattle.vortex_model.specs.Content.{Content, null, whole, content_of}
 use Rattle.vortex_model.specs.Path.{Positions}
 use Rattle.vortex_model.specs.Statistics.{nulls_of}
 use Rattle.vortex_model.specs.ZoneMap.{values_at}
-use Rattle.vortex_scalar.specs.View.{raw_of, integer_of}
-use Rattle.vortex_scalar.specs.declared.scalar_value.ScalarValue.{ScalarValue}
+use Rattle.vortex_values.specs.Numbers.{integer_of}
+use Rattle.vortex_values.specs.View.{raw_of}
+use Rattle.vortex_values.specs.declared.scalar_value.ScalarValue.{ScalarValue}
 use Rattle.vortex_chunks.specs.declared.bounds.ColumnBounds.{ColumnBounds}
 
 -- what a row says

@@ -4,8 +4,8 @@ use Rattle.vortex_model.specs.Kind.{Kind}
 use Rattle.vortex_model.specs.Content.{Content, null, truth, whole}
 use Rattle.vortex_model.specs.Path.{Positions, positions, same_positions}
 use Rattle.vortex_model.specs.Expression.{Expression, column, Aggregate, min, max, null_count, all_null, all_non_null}
-use Rattle.vortex_scalar.specs.View.{integer_of}
-use Rattle.vortex_scalar.specs.declared.pvalue.PValue.{PValue}
+use Rattle.vortex_values.specs.Numbers.{integer_of}
+use Rattle.vortex_values.specs.declared.pvalue.PValue.{PValue}
 use Rattle.vortex_chunks.specs.declared.bounds.ColumnBounds.{ColumnBounds}
 
 abbrev pub number_or_null : Option PValue → Content

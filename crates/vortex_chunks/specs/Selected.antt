@@ -4,8 +4,8 @@ use Rattle.vortex_model.specs.Content.{Content}
 use Rattle.vortex_model.specs.Truth.{is_true}
 use Rattle.vortex_model.specs.Valid.{valid}
 use Rattle.vortex_types.specs.View.{kind_of}
-use Rattle.vortex_scalar.specs.View.{raw_of}
-use Rattle.vortex_scalar.specs.declared.scalar_value.ScalarValue.{ScalarValue}
+use Rattle.vortex_values.specs.View.{raw_of}
+use Rattle.vortex_values.specs.declared.scalar_value.ScalarValue.{ScalarValue}
 use Rattle.vortex_expr.specs.Bound.{Bound, bound_value}
 use Rattle.vortex_cuts.specs.Cut.{tree_of, content_cut, raw_cut}
 use Rattle.vortex_cuts.specs.declared.cut.Cut.{Cut}

@@ -4,7 +4,7 @@ use Rattle.std.specs.List.{list_all}
 use Rattle.vortex_model.specs.Kind.{Kind}
 use Rattle.vortex_model.specs.Path.{Positions, same_positions}
 use Rattle.vortex_model.specs.Valid.{valid}
-use Rattle.vortex_scalar.specs.View.{raw_of}
+use Rattle.vortex_values.specs.View.{raw_of}
 use Rattle.vortex_schema.specs.Leaves.{leaf_positions}
 use Rattle.vortex_chunks.specs.declared.chunk.Chunk.{Chunk}
 

@@ -1,6 +1,6 @@
 //! What a scan answers.
 
-use vortex_scalar::scalar::Scalar;
+use vortex_scalars::scalar::Scalar;
 use vortex_types::dtype::DType;
 
 /// The rows that a scan selected, and how it found them.

@@ -8,7 +8,7 @@ ghost use Rattle.vortex_model.specs.Kept.{kept_fault};
 ghost use Rattle.vortex_model.specs.Refusal.{invalid_value, not_convertible, or_else};
 ghost use Rattle.vortex_model.specs.Command.{unless, first_invalid, first_unconvertible};
 ghost use Rattle.vortex_types.specs.View.{kind_of};
-ghost use Rattle.vortex_scalar.specs.View.{raw_of, raw_in, raw_at, content_at};
+ghost use Rattle.vortex_values.specs.View.{raw_of, raw_in, raw_at, content_at};
 ghost use Rattle.vortex_chunks.specs.Bounds.{row_content};
 ghost use Rattle.vortex_chunks.specs.Error.{Explains};
 
@@ -18,12 +18,12 @@ use crate::chunk::Chunk;
 use crate::error::TableError;
 use std::alloc::{AllocError, Global};
 use std::rc::Rc;
-use vortex_scalar::cast::cast_value;
-use vortex_scalar::error::ScalarError;
-use vortex_scalar::scalar_value::ScalarValue;
-use vortex_scalar::validate::validate;
+use vortex_scalars::cast::cast_value;
+use vortex_scalars::validate::validate;
 use vortex_schema::leaves::Positions;
 use vortex_types::dtype::DType;
+use vortex_values::error::ScalarError;
+use vortex_values::scalar_value::ScalarValue;
 
 // The first row, by its index, that isn't valid for the type.
 fn first_invalid(dtype: &DType, values: &[Option<ScalarValue>]) -> Option<usize>

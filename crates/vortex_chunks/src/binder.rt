@@ -13,13 +13,13 @@ use vortex_expr::bind::column_positions;
 use vortex_expr::expression::{Expression, lit};
 use vortex_kinds::nullability::Nullability;
 use vortex_rewrite::stats::StatBinder;
-use vortex_scalar::pvalue::PValue;
-use vortex_scalar::scalar::Scalar;
-use vortex_scalar::scalar_value::ScalarValue;
+use vortex_scalars::scalar::Scalar;
 use vortex_types::dtype::DType;
+use vortex_values::pvalue::PValue;
+use vortex_values::scalar_value::ScalarValue;
 
 // A literal of the number.
-#[tactic(auto, using(vortex_types::proofs::Views::one_level, vortex_scalar::proofs::Views::one_level, crate::proofs::Literals::numbers))]
+#[tactic(auto, using(vortex_types::proofs::Views::one_level, vortex_values::proofs::Views::one_level, crate::proofs::Literals::numbers))]
 fn number(value: PValue) -> Expression
     ensures { IsAnswer (Some result) (number_or_null (Some value)) }
 {
@@ -38,7 +38,7 @@ fn number_if_there(value: Option<PValue>) -> Option<Expression>
 }
 
 // A literal of the truth value.
-#[tactic(auto, using(vortex_types::proofs::Views::one_level, vortex_scalar::proofs::Views::one_level))]
+#[tactic(auto, using(vortex_types::proofs::Views::one_level, vortex_values::proofs::Views::one_level))]
 fn truth(value: bool) -> Expression
     ensures { IsAnswer (Some result) (truth value) }
 {

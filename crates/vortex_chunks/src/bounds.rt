@@ -1,14 +1,15 @@
 //! The least and the greatest number of a leaf, and its nulls.
 ghost use Rattle.std.specs.Prelude.{◌≡◌, ◌+◌, ◌<◌, ◌^◌, ◌-◌, [], option_map, IfOk};
-ghost use Rattle.vortex_scalar.specs.View.{integer_of, content_at};
+ghost use Rattle.vortex_values.specs.Numbers.{integer_of};
+ghost use Rattle.vortex_values.specs.View.{content_at};
 ghost use Rattle.vortex_chunks.specs.Bounds.{lesser, greater, behind, with_value, one_null, column_at, IsBoundsOf, AreBoundsOf};
 
 use std::alloc::{AllocError, Global};
 use std::cmp::Ordering;
 use vortex_expr::bound::part_at;
-use vortex_scalar::pvalue::PValue;
-use vortex_scalar::scalar_value::ScalarValue;
 use vortex_schema::leaves::Positions;
+use vortex_values::pvalue::PValue;
+use vortex_values::scalar_value::ScalarValue;
 
 /// What a chunk keeps of a leaf of integers.
 #[derive(Clone, Copy, Debug)]
@@ -70,7 +71,7 @@ impl ColumnBounds {
     }
 
     // The bounds with one more value.
-    #[tactic(auto, using(vortex_scalar::proofs::Views::one_level))]
+    #[tactic(auto, using(vortex_values::proofs::Views::one_level))]
     fn with(self, value: Option<&ScalarValue>) -> ColumnBounds
         requires { self.null_count < 2 ^ 64 - 1 }
         ensures least { option_map integer_of result.least ≡ with_value lesser (option_map integer_of self.least) (content_at value.entry) }
@@ -88,8 +89,9 @@ impl ColumnBounds {
                 greatest: greatest_with(self.greatest, *number),
                 null_count: self.null_count,
             },
-            Some(ScalarValue::Bool(_)) => self,
-            Some(ScalarValue::Tuple(_)) => self,
+            Some(ScalarValue::Bool(_)) | Some(ScalarValue::Utf8(_)) => self,
+            Some(ScalarValue::Binary(_)) | Some(ScalarValue::Tuple(_)) => self,
+            Some(ScalarValue::Union(_)) | Some(ScalarValue::Variant(_)) => self,
         }
     }
 }

@@ -5,8 +5,8 @@ ghost use Rattle.vortex_chunks.specs.Given.{bounds_at};
 
 use crate::bounds::ColumnBounds;
 use std::rc::Rc;
-use vortex_scalar::scalar_value::ScalarValue;
 use vortex_schema::leaves::Positions;
+use vortex_values::scalar_value::ScalarValue;
 
 /// Rows that were appended at once, with the bounds of their leaves.
 #[derive(Drop)]

@@ -15,7 +15,7 @@ use vortex_expr::bound::BoundExpression;
 use vortex_expr::expression::Expression;
 use vortex_paths::path::FieldPath;
 use vortex_rewrite::stats::prove_with;
-use vortex_scalar::scalar::Scalar;
+use vortex_scalars::scalar::Scalar;
 
 /// What becomes of a chunk.
 #[derive(Clone, Copy, Debug, PartialEq, Eq)]
@@ -44,7 +44,7 @@ impl Plan<'_> {
     ghost use Rattle.std.specs.Prelude.{◌≡◌, ◌++◌, All, IfOk, OnOk, IsTrue, is_some, map};
     ghost use Rattle.vortex_model.specs.Scan.{chunk_outcome, scanned};
     ghost use Rattle.vortex_types.specs.View.{kind_of};
-    ghost use Rattle.vortex_scalar.specs.Scalar.{scalar_kind, scalar_content};
+    ghost use Rattle.vortex_scalars.specs.Scalar.{scalar_kind, scalar_content};
     ghost use Rattle.vortex_chunks.specs.AnswerView.{answer_of, IsTyped};
     ghost use Rattle.vortex_chunks.specs.Chunk.{chunk_rows};
     ghost use Rattle.vortex_chunks.specs.Outcome.{outcome_of};

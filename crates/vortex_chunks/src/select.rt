@@ -1,15 +1,15 @@
 //! The rows that a scan takes of a chunk.
 ghost use Rattle.std.specs.Prelude.{◌≡◌, ◌++◌, All, OnOk, map};
 ghost use Rattle.vortex_types.specs.View.{kind_of};
-ghost use Rattle.vortex_scalar.specs.Scalar.{scalar_kind, scalar_content};
+ghost use Rattle.vortex_scalars.specs.Scalar.{scalar_kind, scalar_content};
 ghost use Rattle.vortex_chunks.specs.Bounds.{row_content};
 ghost use Rattle.vortex_chunks.specs.Selected.{cut_rows, selected_rows, CanBeCut};
 
 use std::alloc::{AllocError, Global};
 use vortex_cuts::cut::{Cut, cut_row};
 use vortex_expr::bound::BoundExpression;
-use vortex_scalar::scalar::Scalar;
-use vortex_scalar::scalar_value::ScalarValue;
+use vortex_scalars::scalar::Scalar;
+use vortex_values::scalar_value::ScalarValue;
 
 /// Adds each row, cut.
 pub fn take_rows(

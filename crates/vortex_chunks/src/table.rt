@@ -13,9 +13,9 @@ use crate::chunk::Chunk;
 use crate::error::TableError;
 use std::alloc::Global;
 use std::rc::Rc;
-use vortex_scalar::scalar_value::ScalarValue;
 use vortex_schema::leaves::{Positions, leaf_positions};
 use vortex_types::dtype::DType;
+use vortex_values::scalar_value::ScalarValue;
 
 /// A type, and rows of it in chunks.
 #[derive(Drop)]
@@ -48,7 +48,7 @@ impl Table {
     ghost use Rattle.vortex_model.specs.Valid.{valid};
     ghost use Rattle.vortex_model.specs.Command.{create, append, appended, create_fault, created, refusal, after};
     ghost use Rattle.vortex_types.specs.View.{kind_of};
-    ghost use Rattle.vortex_scalar.specs.View.{raw_in, raw_of};
+    ghost use Rattle.vortex_values.specs.View.{raw_in, raw_of};
     ghost use Rattle.vortex_chunks.specs.Bounds.{row_content};
     ghost use Rattle.vortex_chunks.specs.Error.{Explains};
     ghost use Rattle.vortex_chunks.specs.TableView.{table_of};

@@ -1,12 +1,13 @@
 -- One level of what a cut keeps, and the values of a record.
 use Rattle.std.proofs.Common.{◌≡◌, refl, sym, ◌∙◌, ap, ℕ, zero, suc, ◌<◌, ◌≤◌, List, [], ◌∷◌, length, map, get_or, Option, Some, None, arith, rules, Vec, Global, option_copied}
 use Rattle.std.specs.Borrow.{Bor}
-use Rattle.vortex_model.specs.Content.{raw_null, raw_tuple, Raws, raw_first}
-use Rattle.vortex_scalar.specs.View.{raw_of, raws_in, raw_in, raw_at, raws_from}
-use Rattle.vortex_scalar.specs.declared.scalar_value.ScalarValue as value
-use Rattle.vortex_scalar.specs.declared.scalar_value.ScalarValue.{ScalarValue}
-use Rattle.vortex_scalar.proofs.Views.{raw_of-Tuple}
-use Rattle.vortex_cuts.specs.Cut.{Tree, whole, parts, KeptPart, parts_from, tree_of, part_of_field, parts_of, raw_nth, raw_cut, raws_cut, cut_part}
+use Rattle.vortex_model.specs.Content.{Raw, raw_null, raw_tuple, Raws, raw_first}
+use Rattle.vortex_values.specs.Parts.{items_in}
+use Rattle.vortex_values.specs.View.{raw_of, raws_in, raw_in, raw_at, raws_from}
+use Rattle.vortex_values.specs.declared.scalar_value.ScalarValue as value
+use Rattle.vortex_values.specs.declared.scalar_value.ScalarValue.{ScalarValue}
+use Rattle.vortex_values.proofs.Views.{raw_of-Tuple}
+use Rattle.vortex_cuts.specs.Cut.{Tree, whole, parts, Parts, KeptPart, parts_from, tree_of, part_of_field, parts_of, raw_nth, raw_cut, raws_cut, cut_part}
 use Rattle.vortex_cuts.specs.declared.projection.Projection as projection
 use Rattle.vortex_cuts.specs.declared.projection.KeptField as field
 use Rattle.vortex_cuts.specs.declared.projection.KeptField.{KeptField}
@@ -27,6 +28,15 @@ pub kept_record : (vs : Vec (Option ScalarValue) Global) (rs : Raws) (v : Vec Ke
     raw_of (value.Tuple vs) ≡ raw_cut (tree_of (projection.Fields v)) (raw_tuple rs)
 kept_record vs rs v h =
     raw_of-Tuple vs ∙ ap (λ ss. raw_tuple (raws_from ss)) h ∙ ap raw_tuple (each_part rs (map part_of_field v.items)) ∙ ap (λ t. raw_cut t (raw_tuple rs)) (sym (tree_of-Fields v))
+
+-- the values of a record are there, or it is none and stays as it is
+pub is_tuple : (rs : Raws) (r : Raw) → Some rs ≡ items_in r → r ≡ raw_tuple rs
+is_tuple rs (raw_tuple ss) e = ap raw_tuple (sym (cc (e)))
+is_tuple rs r e = absurd (cc (e))
+
+pub no_record : (ps : Parts) (r : Raw) → None ≡ items_in r → raw_cut (parts ps) r ≡ r
+no_record ps (raw_tuple rs) e = absurd (cc (e))
+no_record ps r e = refl
 
 -- ---- the value at a position
 

@@ -6,8 +6,8 @@ ghost use Rattle.vortex_model.specs.Cut.{cut_kind, cut_type};
 ghost use Rattle.vortex_model.specs.Command.{names_of};
 ghost use Rattle.vortex_types.specs.View.{kind_of, field_of};
 ghost use Rattle.vortex_paths.specs.View.{step_of};
-ghost use Rattle.vortex_scalar.specs.View.{raw_of};
-ghost use Rattle.vortex_scalar.specs.Scalar.{scalar_kind, scalar_content};
+ghost use Rattle.vortex_values.specs.View.{raw_of};
+ghost use Rattle.vortex_scalars.specs.Scalar.{scalar_kind, scalar_content};
 ghost use Rattle.vortex_cuts.specs.Cut.{paths_of, names_at, behind, beyond, is_root, ask_for_all, lead_on, kept_by, whole, cut_named, kept_list, tree_of, part_of_field, raw_cut};
 
 use crate::projection::{KeptField, Projection, cut_value};
@@ -16,10 +16,10 @@ use vortex_kinds::field_names::FieldName;
 use vortex_kinds::nullability::Nullability;
 use vortex_paths::field::Field;
 use vortex_paths::path::FieldPath;
-use vortex_scalar::scalar::Scalar;
-use vortex_scalar::scalar_value::ScalarValue;
+use vortex_scalars::scalar::Scalar;
 use vortex_types::dtype::DType;
 use vortex_types::struct_fields::{StructField, StructFields};
+use vortex_values::scalar_value::ScalarValue;
 
 /// What paths ask for of values: the type of what is kept, and what that is.
 #[derive(Drop)]

@@ -1,10 +1,10 @@
 //! What a cut keeps of a value.
 ghost use Rattle.std.specs.Prelude.{◌≡◌, IfOk, map};
 ghost use Rattle.vortex_cuts.specs.Cut.{tree_of, part_of_field, cut_part, raw_nth, raw_cut};
-ghost use Rattle.vortex_scalar.specs.View.{raw_of, raw_in, raw_at, raws_in};
+ghost use Rattle.vortex_values.specs.View.{raw_of, raw_in, raw_at, raws_in};
 
 use std::alloc::{AllocError, Global};
-use vortex_scalar::scalar_value::ScalarValue;
+use vortex_values::scalar_value::ScalarValue;
 
 /// What a cut keeps of a value.
 #[derive(Drop)]
@@ -50,13 +50,15 @@ pub fn cut_value(
             let copy = value.clone()?;
             Ok(copy)
         }
-        Projection::Fields(fields) => match value {
-            ScalarValue::Tuple(values) => {
+        Projection::Fields(fields) => match value.as_list() {
+            Some(values) => {
                 let kept = cut_values(fields, alloc, values)?;
                 Ok(ScalarValue::Tuple(kept))
             }
-            ScalarValue::Bool(flag) => Ok(ScalarValue::Bool(*flag)),
-            ScalarValue::Primitive(number) => Ok(ScalarValue::Primitive(*number)),
+            None => {
+                let copy = value.clone()?;
+                Ok(copy)
+            }
         },
     }
 }

@@ -1,3 +1,4 @@
 pub mod Items
 pub mod Classes
 pub mod Checks
+pub mod Truths

@@ -1,5 +1,5 @@
 -- The tree of a node of a bound predicate, whose children are seen as theirs.
-use Rattle.vortex_scalar.specs.View.{content_in}
+use Rattle.vortex_values.specs.View.{content_in}
 use Rattle.vortex_expr.specs.declared.bound.BoundNode.{BoundNode}
 use Rattle.vortex_expr.specs.declared.bound.BoundNode.TheVariants.{Literal, Column, Compare, And, Or}
 use Rattle.vortex_expr.specs.Bound.{Bound, fixed, place, test, each, some}

@@ -1,17 +1,16 @@
 -- What an operand says.
 use Rattle.std.specs.Prelude.{Bool, Option, Some, None}
-use Rattle.vortex_model.specs.Content.{Content, null, truth, whole, tuple, contents_of}
+use Rattle.vortex_model.specs.Content.{Content, content_of, null, truth}
 use Rattle.std.specs.declared.cmp.Ordering.{Ordering}
 use Rattle.vortex_model.specs.Order.{content_cmp}
-use Rattle.vortex_scalar.specs.View.{raws_in}
+use Rattle.vortex_values.specs.View.{raw_of}
 use Rattle.vortex_expr.specs.declared.value.Value.{Value}
 use Rattle.vortex_expr.specs.declared.value.Value.TheVariants as value
 
 abbrev pub seen : Value → Content
 seen value.Null = null
 seen (value.Truth b) = truth b
-seen (value.Number z) = whole z
-seen (value.Tuple r) = tuple (contents_of (raws_in r.now.items))
+seen (value.Stored r) = content_of (raw_of r.now)
 
 -- null stands for neither true nor false
 abbrev pub truth_content : Option Bool → Content

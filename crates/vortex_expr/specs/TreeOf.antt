@@ -1,6 +1,6 @@
 -- The tree of a node, whose children are seen as theirs.
 use Rattle.vortex_model.specs.Expression.{Expression, literal, column, compare, both, either, statistic}
-use Rattle.vortex_scalar.specs.Scalar.{scalar_kind, scalar_content}
+use Rattle.vortex_scalars.specs.Scalar.{scalar_kind, scalar_content}
 use Rattle.vortex_expr.specs.declared.expression.Node.{Node}
 use Rattle.vortex_expr.specs.declared.expression.Node.TheVariants.{Literal, Column, Compare, And, Or, Stat}
 use Rattle.vortex_expr.specs.Tree.{comparison_of, aggregate_of}

@@ -8,7 +8,7 @@ ghost use Rattle.vortex_model.specs.Truth.{value_at};
 ghost use Rattle.vortex_model.specs.Command.{predicate_fault};
 ghost use Rattle.vortex_model.specs.Pruning.{has_no_like};
 ghost use Rattle.vortex_types.specs.View.{kind_of};
-ghost use Rattle.vortex_scalar.specs.Scalar.{scalar_kind, scalar_content};
+ghost use Rattle.vortex_scalars.specs.Scalar.{scalar_kind, scalar_content};
 ghost use Rattle.vortex_expr.specs.Bound.{fixed, bound_value, bound_of, bound_place};
 ghost use Rattle.vortex_expr.specs.Faults.{IsReason, IsChecked, IsSameOf, truths_of};
 
@@ -18,9 +18,9 @@ use crate::types::{Leaf, TypeClass, class_of, column_class, field_named};
 use std::alloc::{AllocError, AllocFailed, Global};
 use thiserror::Error;
 use vortex_kinds::field_names::FieldNames;
-use vortex_scalar::clone::copy_value;
-use vortex_scalar::scalar::Scalar;
+use vortex_scalars::scalar::Scalar;
 use vortex_types::dtype::DType;
+use vortex_values::clone::copy_value;
 
 /// Why a predicate is refused.
 #[derive(Clone, Copy, Debug, PartialEq, Eq, Drop, Error)]

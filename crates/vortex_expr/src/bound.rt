@@ -3,16 +3,16 @@ ghost use Rattle.std.specs.Prelude.{◌≡◌, IfOk};
 ghost use Rattle.vortex_model.specs.Content.{content_of, contents_of, nth};
 ghost use Rattle.vortex_model.specs.Path.{at, part_of};
 ghost use Rattle.vortex_model.specs.Truth.{is_true};
-ghost use Rattle.vortex_scalar.specs.View.{raw_of, raws_in, content_at};
+ghost use Rattle.vortex_values.specs.View.{raw_of, raws_in, content_at};
 ghost use Rattle.vortex_expr.specs.Bound.{test, each, some, bound_value};
 ghost use Rattle.vortex_expr.specs.Seen.{seen};
 ghost use Rattle.vortex_expr.specs.Tree.{comparison_of};
 
 use crate::operator::Comparison;
-use crate::value::{Value, both_hold, compare_values, one_holds, read, truth_value};
+use crate::value::{Value, both_hold, compare_values, one_holds, read, truth_of, truth_value};
 use std::alloc::{AllocError, Global};
 use std::marker::Model;
-use vortex_scalar::scalar_value::ScalarValue;
+use vortex_values::scalar_value::ScalarValue;
 
 /// A predicate over rows of a type, as Vortex's `BoundExpression`, made by `bind`. A clause sees the tree, with positions in place of names.
 #[cycle(bound)]
@@ -92,13 +92,11 @@ pub(crate) fn bound_or(
 
 impl BoundExpression {
     /// Whether the predicate is true of a row. It allocates nothing.
+    #[tactic(auto, using(crate::proofs::Truths::is_true_by))]
     pub fn selects(&self, row: &ScalarValue) -> bool
         ensures { result ≡ is_true (bound_value self.now (content_of (raw_of row.now))) }
     {
-        match value_at_row(self, row) {
-            Value::Truth(b) => b,
-            _ => false,
-        }
+        truth_of(value_at_row(self, row)).unwrap_or(false)
     }
 }
 
@@ -131,20 +129,16 @@ pub fn part_at<'a>(row: &'a ScalarValue, path: &[usize]) -> Option<&'a ScalarVal
 }
 
 /// What a record has at a position.
-#[tactic(auto, using(vortex_scalar::proofs::Views::one_level))]
+#[tactic(auto, using(crate::proofs::Items::parts))]
 fn member<'a>(value: Option<&'a ScalarValue>, index: usize) -> Option<&'a ScalarValue>
     ensures { content_at result ≡ part_of (content_at value.entry) index }
 {
-    match value {
-        Some(ScalarValue::Tuple(items)) => item_at(items, index),
-        _ => None,
-    }
+    item_at(value?.as_list()?, index)
 }
 
 /// The value at a position among a record's values.
-#[tactic(auto, using(crate::proofs::Items::by_item))]
-fn item_at(items: &Vec<Option<ScalarValue>>, index: usize) -> Option<&ScalarValue>
-    ensures { content_at result ≡ nth (contents_of (raws_in items.now.items)) index }
+fn item_at(items: &[Option<ScalarValue>], index: usize) -> Option<&ScalarValue>
+    ensures { content_at result ≡ nth (contents_of (raws_in items.now)) index }
 {
     match items.get(index) {
         Some(item) => item.as_ref(),

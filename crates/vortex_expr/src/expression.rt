@@ -1,7 +1,7 @@
 //! Predicates over rows, and proofs over statistics, as trees.
 ghost use Rattle.std.specs.Prelude.{◌≡◌, IfOk, IfSome, IfNone, None, []};
 ghost use Rattle.vortex_model.specs.Expression.{literal, column, compare, both, either, equal, not_equal, greater, at_least, less, at_most, statistic};
-ghost use Rattle.vortex_scalar.specs.Scalar.{scalar_kind, scalar_content};
+ghost use Rattle.vortex_scalars.specs.Scalar.{scalar_kind, scalar_content};
 ghost use Rattle.vortex_expr.specs.Tree.{combined, comparison_of, aggregate_of, path_of};
 
 use crate::aggregate::AggregateFn;
@@ -9,7 +9,7 @@ use crate::operator::{Comparison, Operator};
 use std::alloc::{AllocError, Global};
 use std::marker::Model;
 use vortex_kinds::field_names::FieldNames;
-use vortex_scalar::scalar::Scalar;
+use vortex_scalars::scalar::Scalar;
 
 /// An expression over the rows of a table, as Vortex's `Expression`. A clause sees the tree.
 #[cycle(expression)]

@@ -6,6 +6,5 @@ pub mod bind;
 pub mod bound;
 pub mod expression;
 pub mod operator;
-mod order;
 pub mod types;
 pub mod value;

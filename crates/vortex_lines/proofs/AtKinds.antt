@@ -8,7 +8,7 @@ use Rattle.vortex_model.specs.Kind.{Kind, integer, float, struct, Fields}
 use Rattle.vortex_model.specs.Content.{Raw, raw_tuple}
 use Rattle.vortex_kinds.specs.Numbers.{NumberKind}
 use Rattle.vortex_types.specs.Parts.{fields_in_kind, numbers_in_kind}
-use Rattle.vortex_scalar.specs.View.{raws_from}
+use Rattle.vortex_values.specs.View.{raws_from}
 use Rattle.vortex_lines.specs.Rows.{number_of, reading, readings}
 
 -- a tuple of these fields, where there are any

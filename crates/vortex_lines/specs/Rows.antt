@@ -6,7 +6,7 @@ use Rattle.vortex_model.specs.Kind.{IntKind, Kind, integer, struct, Fields, no_f
 use Rattle.vortex_model.specs.Content.{Raw, raw_null, raw_number, raw_tuple}
 use Rattle.vortex_model.specs.Valid.{in_range}
 use Rattle.vortex_kinds.specs.Numbers.{NumberKind, whole, real}
-use Rattle.vortex_scalar.specs.View.{raws_from}
+use Rattle.vortex_values.specs.View.{raws_from}
 
 -- an integer of the kind
 abbrev pub number_at : IntKind → Num → Option Raw

@@ -5,7 +5,7 @@ ghost use Rattle.vortex_type_lines.specs.Parsed.{Gives};
 ghost use Rattle.vortex_lines.specs.Line.{layout_named, layouts_of, layouts_in, rows_in, create_in, append_in, scan_in, verb_named, command_in, command_of};
 ghost use Rattle.vortex_lines.specs.View.{layout_of, verb_of, shown};
 ghost use Rattle.vortex_types.specs.View.{kind_of};
-ghost use Rattle.vortex_scalar.specs.View.{raw_in};
+ghost use Rattle.vortex_values.specs.View.{raw_in};
 
 use crate::paths::read_paths;
 use crate::predicates::read_predicate;
@@ -15,9 +15,9 @@ use std::alloc::Global;
 use vortex_chunks::table::Layout;
 use vortex_expr::expression::Expression;
 use vortex_paths::path::FieldPath;
-use vortex_scalar::scalar_value::ScalarValue;
 use vortex_type_lines::{Fault, is_whole, one_if_there, parse, read_dtype, size};
 use vortex_types::dtype::DType;
+use vortex_values::scalar_value::ScalarValue;
 
 /// A command of a line.
 #[derive(Drop)]

@@ -1,5 +1,5 @@
 //! Predicates of a scan from JSON.
-ghost use Rattle.std.specs.Prelude.{◌≡◌, is_some, option_map};
+ghost use Rattle.std.specs.Prelude.{◌≡◌, None, is_some, option_map};
 ghost use Rattle.serde_json.specs.View.{view, items_view};
 ghost use Rattle.vortex_model.specs.Expression.{compare};
 ghost use Rattle.vortex_types.specs.View.{kind_of};
@@ -11,7 +11,7 @@ use serde_json::Value;
 use std::alloc::Global;
 use vortex_expr::expression::{Expression, col, eq, gt, gt_eq, lit, lt, lt_eq, not_eq};
 use vortex_kinds::field_names::FieldNames;
-use vortex_scalar::scalar::Scalar;
+use vortex_scalars::scalar::Scalar;
 use vortex_type_lines::{Fault, length, read_dtype, read_names};
 use vortex_types::dtype::DType;
 
@@ -91,6 +91,13 @@ fn is_comparison(name: &str) -> bool
     }
 }
 
+// What is no comparison of the two. A function of its own drops them.
+fn refuse(_left: Expression, _right: Expression) -> Result<Expression, Fault>
+    ensures { Gives (λ e. e) result None }
+{
+    Err(Fault::Bad)
+}
+
 /// The comparison of this name.
 fn compare(
     alloc: Global,
@@ -107,7 +114,7 @@ fn compare(
         ">=" => Ok(gt_eq(alloc, left, right)?),
         "<" => Ok(lt(alloc, left, right)?),
         "<=" => Ok(lt_eq(alloc, left, right)?),
-        _ => Err(Fault::Bad),
+        _ => refuse(left, right),
     }
 }
 

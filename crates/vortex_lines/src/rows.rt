@@ -3,18 +3,18 @@ ghost use Rattle.std.specs.Prelude.{◌≡◌, map, IfOk, IfErr};
 ghost use Rattle.serde_json.specs.View.{view, items_view, number_view};
 ghost use Rattle.vortex_kinds.specs.View.{number_kind_of};
 ghost use Rattle.vortex_types.specs.View.{kind_of, fields_in, fields_of};
-ghost use Rattle.vortex_scalar.specs.View.{raw_in};
+ghost use Rattle.vortex_values.specs.View.{raw_in};
 ghost use Rattle.vortex_type_lines.specs.Parsed.{Gives};
 ghost use Rattle.vortex_lines.specs.Rows.{number_of, reading, readings, row_at, rows_at};
 
 use serde_json::{Number, Value};
 use std::alloc::Global;
 use vortex_kinds::ptype::PType;
-use vortex_scalar::pvalue::PValue;
-use vortex_scalar::scalar_value::ScalarValue;
 use vortex_type_lines::Fault;
 use vortex_types::dtype::DType;
 use vortex_types::struct_fields::StructField;
+use vortex_values::pvalue::PValue;
+use vortex_values::scalar_value::ScalarValue;
 
 /// The number of a kind that a JSON number is, if it is in range. Kinds of floats have none.
 fn read_number(ptype: PType, number: &Number) -> Result<Option<ScalarValue>, Fault>

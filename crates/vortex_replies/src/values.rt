@@ -2,13 +2,14 @@
 ghost use Rattle.std.specs.Prelude.{◌≡◌, ◌++◌, OnOk, false};
 ghost use Rattle.std.specs.Fmt.{signed_decimal};
 ghost use Rattle.vortex_model.specs.Content.{content_of, contents_of};
-ghost use Rattle.vortex_scalar.specs.View.{raw_of, raw_at, raws_in, integer_of};
+ghost use Rattle.vortex_values.specs.Numbers.{integer_of};
+ghost use Rattle.vortex_values.specs.View.{raw_of, raw_at, raws_in};
 ghost use Rattle.vortex_replies.specs.Text.{content_text, contents_text, numbers_text};
 
 use std::alloc::AllocError;
-use vortex_scalar::pvalue::PValue;
-use vortex_scalar::scalar_value::ScalarValue;
-use vortex_type_texts::{push_comma, push_flag, push_number};
+use vortex_type_texts::{push_comma, push_flag, push_number, push_quoted};
+use vortex_values::pvalue::PValue;
+use vortex_values::scalar_value::ScalarValue;
 
 /// Writes the numbers with commas between.
 pub fn push_numbers(out: &mut Vec<u8>, numbers: &[usize]) -> Result<(), AllocError>
@@ -38,8 +39,9 @@ fn push_integer(out: &mut Vec<u8>, number: PValue) -> Result<(), AllocError>
     }
 }
 
-/// Writes a value: a number, a truth value, or an array by position.
-#[tactic(auto, using(vortex_scalar::proofs::Views::one_level))]
+/// Writes a value: a number, a truth value, a text, or an array by position. Of bytes, and of the values of unions and variants,
+/// nothing is written.
+#[tactic(auto, using(vortex_values::proofs::Views::one_level))]
 #[cycle(value)]
 pub fn push_value(out: &mut Vec<u8>, value: &ScalarValue) -> Result<(), AllocError>
     ensures { OnOk result (out.new.items ≡ out.old.items ++ content_text (content_of (raw_of value.now))) }
@@ -47,16 +49,18 @@ pub fn push_value(out: &mut Vec<u8>, value: &ScalarValue) -> Result<(), AllocErr
     match value {
         ScalarValue::Bool(flag) => push_flag(out, *flag),
         ScalarValue::Primitive(number) => push_integer(out, *number),
+        ScalarValue::Utf8(text) => push_quoted(*out.allocator(), out, text.as_str()),
         ScalarValue::Tuple(values) => {
             out.extend_from_slice(b"[")?;
             push_values(out, values)?;
             out.extend_from_slice(b"]")?;
             Ok(())
         }
+        ScalarValue::Binary(_) | ScalarValue::Union(_) | ScalarValue::Variant(_) => Ok(()),
     }
 }
 
-#[tactic(auto, using(vortex_scalar::proofs::Views::one_level))]
+#[tactic(auto, using(vortex_values::proofs::Views::one_level))]
 #[cycle(value)]
 fn push_values(out: &mut Vec<u8>, values: &[Option<ScalarValue>]) -> Result<(), AllocError>
     ensures { OnOk result (out.new.items ≡ out.old.items ++ contents_text false (contents_of (raws_in values.now))) }

@@ -1,2 +1,3 @@
 pub mod Falsifiers
 pub mod Placeholders
+pub mod TruthLiterals

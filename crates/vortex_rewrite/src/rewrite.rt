@@ -5,7 +5,7 @@ ghost use Rattle.vortex_model.specs.Expression.{compare, both, either, equal, no
 ghost use Rattle.vortex_model.specs.Typing.{type_of, has_bounds};
 ghost use Rattle.vortex_model.specs.Rewrite.{truth_literal, count_literal, bound_of, is_bounded, is_of_floats, is_float_placeholder, comparison_falsifier, comparison_falsifiers, guarded, no_nan_by_count, no_nan_by_flag, joined_proofs, either_there, both_there, falsifier, satisfier};
 ghost use Rattle.vortex_types.specs.View.{kind_of};
-ghost use Rattle.vortex_scalar.specs.Scalar.{scalar_content};
+ghost use Rattle.vortex_scalars.specs.Scalar.{scalar_content};
 ghost use Rattle.vortex_expr.specs.Tree.{comparison_of, aggregate_of};
 ghost use Rattle.vortex_rewrite.specs.Literals.{literal_falsifier, literal_satisfier};
 ghost use Rattle.vortex_rewrite.specs.Guards.{guard_of, kept_from_nan};
@@ -18,10 +18,10 @@ use vortex_expr::operator::Comparison;
 use vortex_expr::types::TypeClass;
 use vortex_kinds::nullability::Nullability;
 use vortex_kinds::ptype::PType;
-use vortex_scalar::pvalue::PValue;
-use vortex_scalar::scalar::Scalar;
-use vortex_scalar::scalar_value::ScalarValue;
+use vortex_scalars::scalar::Scalar;
 use vortex_types::dtype::DType;
+use vortex_values::pvalue::PValue;
+use vortex_values::scalar_value::ScalarValue;
 
 /// A proof, over statistics, that no row satisfies a predicate over rows of this type, as Vortex's `falsify`. There may be none.
 pub fn falsify(
@@ -68,7 +68,7 @@ pub fn satisfy(
 }
 
 /// A truth value, the same for each row.
-#[tactic(auto, using(vortex_types::proofs::Views::one_level, vortex_scalar::proofs::Views::one_level))]
+#[tactic(auto, using(vortex_types::proofs::Views::one_level, vortex_values::proofs::Views::one_level))]
 fn truth(value: bool) -> Expression
     ensures { result ≡ truth_literal value }
 {
@@ -79,25 +79,21 @@ fn truth(value: bool) -> Expression
 }
 
 /// The proof that a literal is false.
-#[tactic(auto, using(vortex_scalar::proofs::Views::one_level))]
+#[tactic(auto, using(crate::proofs::TruthLiterals::literals))]
 fn falsify_literal(value: &Scalar) -> Option<Expression>
     ensures { result ≡ literal_falsifier (scalar_content value.now) }
 {
-    match value.value() {
-        Some(ScalarValue::Bool(b)) => Some(truth(!*b)),
-        _ => None,
-    }
+    let flag = value.value()?.as_bool()?;
+    Some(truth(!flag))
 }
 
 /// The proof that a literal is true.
-#[tactic(auto, using(vortex_scalar::proofs::Views::one_level))]
+#[tactic(auto, using(crate::proofs::TruthLiterals::literals))]
 fn satisfy_literal(value: &Scalar) -> Option<Expression>
     ensures { result ≡ literal_satisfier (scalar_content value.now) }
 {
-    match value.value() {
-        Some(ScalarValue::Bool(b)) => Some(truth(*b)),
-        _ => None,
-    }
+    let flag = value.value()?.as_bool()?;
+    Some(truth(flag))
 }
 
 /// The proof that a comparison is true of no row.
@@ -285,7 +281,7 @@ fn no_nan(alloc: Global, guard: NanGuard, e: &Expression) -> Result<Expression, 
 }
 
 /// The literal for a count of none.
-#[tactic(auto, using(vortex_types::proofs::Views::one_level, vortex_scalar::proofs::Views::one_level))]
+#[tactic(auto, using(vortex_types::proofs::Views::one_level, vortex_values::proofs::Views::one_level))]
 fn no_rows() -> Expression
     ensures { result ≡ count_literal 0 }
 {

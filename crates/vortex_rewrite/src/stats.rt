@@ -11,9 +11,11 @@ ghost use Rattle.vortex_expr.specs.Tree.{aggregate_of};
 use std::alloc::{AllocError, Global};
 use vortex_expr::aggregate::AggregateFn;
 use vortex_expr::expression::{Expression, Node, and, compare, lit, or};
-use vortex_expr::value::{Value, both_hold, compare_values, one_holds, read, truth_value};
+use vortex_expr::value::{
+    Value, both_hold, compare_values, one_holds, read, truth_of, truth_value,
+};
 use vortex_kinds::nullability::Nullability;
-use vortex_scalar::scalar::Scalar;
+use vortex_scalars::scalar::Scalar;
 use vortex_types::dtype::DType;
 
 /// What knows statistics, as Vortex's `StatBinder`.
@@ -91,7 +93,7 @@ fn bind_stat<B: StatBinder>(
 }
 
 /// The literal for a statistic that is not known.
-#[tactic(auto, using(vortex_types::proofs::Views::one_level, vortex_scalar::proofs::Views::one_level))]
+#[tactic(auto, using(vortex_types::proofs::Views::one_level, vortex_values::proofs::Views::one_level))]
 fn missing_stat() -> Expression
     ensures { result ≡ literal (boolean nullable) null }
 {
@@ -106,12 +108,7 @@ pub fn prove(bound: &Expression) -> Option<bool>
     if reads_columns(bound) {
         return None;
     }
-    match value_of_proof(bound) {
-        Value::Truth(b) => Some(b),
-        Value::Null => None,
-        Value::Number(_) => None,
-        Value::Tuple(_) => None,
-    }
+    truth_of(value_of_proof(bound))
 }
 
 /// Whether a proof, as `falsify` or `satisfy` makes it, is true of what the binder knows. A column outside its placeholders counts as null.
@@ -162,10 +159,5 @@ fn value_of_proof<'a>(bound: &'a Expression) -> Value<'a>
 fn is_true(value: Value) -> bool
     ensures { result ≡ is_true (seen value.entry) }
 {
-    match value {
-        Value::Truth(b) => b,
-        Value::Null => false,
-        Value::Number(_) => false,
-        Value::Tuple(_) => false,
-    }
+    truth_of(value).unwrap_or(false)
 }

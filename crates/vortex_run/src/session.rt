@@ -4,7 +4,7 @@ ghost use Rattle.std.proofs.Common.{inl};
 ghost use Rattle.vortex_model.specs.Command.{create, append, scan};
 ghost use Rattle.vortex_types.specs.View.{kind_of};
 ghost use Rattle.vortex_paths.specs.View.{steps_of};
-ghost use Rattle.vortex_scalar.specs.View.{raw_in};
+ghost use Rattle.vortex_values.specs.View.{raw_in};
 ghost use Rattle.vortex_chunks.specs.AnswerView.{answer_of};
 ghost use Rattle.vortex_replies.specs.Text.{scan_text};
 ghost use Rattle.vortex_streams.specs.Lines.{with_lf};
@@ -19,10 +19,10 @@ use vortex_expr::expression::Expression;
 use vortex_lines::{Command, read_command};
 use vortex_paths::path::FieldPath;
 use vortex_replies::push_scan;
-use vortex_scalar::scalar_value::ScalarValue;
 use vortex_streams::{Machine, Spoken};
 use vortex_type_lines::Fault;
 use vortex_types::dtype::DType;
+use vortex_values::scalar_value::ScalarValue;
 
 /// Writes the line of a scan's answer in place of what the buffer holds.
 fn write_found(alloc: Global, answer: &ScanAnswer, out: &mut Vec<u8>) -> Result<(), AllocError>

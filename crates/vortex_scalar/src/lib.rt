@@ -1,12 +1,38 @@
-//! Values of columns, with their validity for a type and their conversion between types.
+//! Values of columns: raw values, values with their type, their validity and conversion, and shortened bounds.
+//!
+//! The layer stands in several crates, and this one gathers their items, as a reader of values alone takes them.
 #![tactic(auto)]
 
-pub mod cast;
-pub mod clone;
-pub mod error;
-mod kept;
-mod leaves;
-pub mod pvalue;
-pub mod scalar;
-pub mod scalar_value;
-pub mod validate;
+pub use vortex_bounds::byte_bounds::{lower_bytes, upper_bytes};
+pub use vortex_bounds::characters::next_character;
+pub use vortex_bounds::string_like::StringLike;
+pub use vortex_bounds::text_bounds::{lower_text, upper_text};
+pub use vortex_makers::makers::ScalarMakers;
+pub use vortex_nested_views::ext_scalar::ExtScalar;
+pub use vortex_nested_views::list_scalar::ListScalar;
+pub use vortex_nested_views::map_scalar::MapScalar;
+pub use vortex_nested_views::nested_views::NestedScalarViews;
+pub use vortex_nested_views::struct_scalar::StructScalar;
+pub use vortex_nested_views::union_scalar::UnionScalar;
+pub use vortex_nested_views::variant_scalar::VariantScalar;
+pub use vortex_order::compare::compare_values;
+pub use vortex_order::feed::feed_value;
+pub use vortex_order::same::same_values;
+pub use vortex_scalars::cast::cast_value;
+pub use vortex_scalars::scalar::Scalar;
+pub use vortex_scalars::validate::validate;
+pub use vortex_truncation::truncation::{ScalarTruncation, lower_bound, upper_bound};
+pub use vortex_values::clone::copy_value;
+pub use vortex_values::error::ScalarError;
+pub use vortex_values::match_each_pvalue;
+pub use vortex_values::natives::CoercePValue;
+pub use vortex_values::pvalue::PValue;
+pub use vortex_values::scalar_value::ScalarValue;
+pub use vortex_values::union_value::UnionValue;
+pub use vortex_values::variant_value::VariantValue;
+pub use vortex_views::binary_scalar::BinaryScalar;
+pub use vortex_views::bool_scalar::BoolScalar;
+pub use vortex_views::numeric_operator::NumericOperator;
+pub use vortex_views::primitive_scalar::PrimitiveScalar;
+pub use vortex_views::scalar_views::ScalarViews;
+pub use vortex_views::utf8_scalar::Utf8Scalar;

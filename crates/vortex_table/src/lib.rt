@@ -23,12 +23,11 @@ pub mod dtype {
 
 /// Values, their validity and their conversion.
 pub mod scalar {
-    pub use vortex_scalar::cast::cast_value;
-    pub use vortex_scalar::error::ScalarError;
-    pub use vortex_scalar::pvalue::PValue;
-    pub use vortex_scalar::scalar::Scalar;
-    pub use vortex_scalar::scalar_value::ScalarValue;
-    pub use vortex_scalar::validate::validate;
+    pub use vortex_scalar::{
+        CoercePValue, PValue, Scalar, ScalarError, ScalarValue, StringLike, UnionValue,
+        VariantValue, cast_value, copy_value, lower_bytes, lower_text, match_each_pvalue,
+        next_character, upper_bytes, upper_text, validate,
+    };
 }
 
 /// Predicates, and the proofs over bounds that are made of them.

@@ -53,7 +53,7 @@ fn push_numbers(out: &mut Vec<u8>, ptype: PType, nullability: Nullability) -> Re
 
 /// Writes a text with its quotes and escapes. An `Err` leaves nothing.
 #[tactic(auto, using(crate::proofs::Pieces::print_one))]
-fn push_quoted(alloc: Global, out: &mut Vec<u8>, text: &str) -> Result<(), AllocError>
+pub fn push_quoted(alloc: Global, out: &mut Vec<u8>, text: &str) -> Result<(), AllocError>
     ensures { OnOk result (out.new.items ≡ out.old.items ++ quoted text.now) }
 {
     let mut writer = Writer::new(mem::replace(out, Vec::new(alloc)));

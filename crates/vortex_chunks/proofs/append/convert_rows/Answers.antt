@@ -3,7 +3,7 @@ use Rattle.vortex_model.specs.Content.{content_of}
 use Rattle.vortex_model.specs.Valid.{valid}
 use Rattle.vortex_model.specs.Command.{first_unconvertible}
 use Rattle.vortex_types.specs.View.{kind_of}
-use Rattle.vortex_scalar.specs.View.{raw_in, raw_at, content_in, content_at}
+use Rattle.vortex_values.specs.View.{raw_in, raw_at, content_in, content_at}
 use Rattle.vortex_chunks.specs.Bounds.{row_content}
 use Rattle.vortex_cuts.proofs.Projections.{raw_copied}
 use Rattle.vortex_chunks.specs.Error.{Explains}

@@ -1,7 +1,7 @@
 use Rattle.std.proofs.Common.{◌≡◌, drop, map}
 use Rattle.vortex_model.specs.Command.{first_invalid}
 use Rattle.vortex_types.specs.View.{kind_of}
-use Rattle.vortex_scalar.specs.View.{raw_in}
+use Rattle.vortex_values.specs.View.{raw_in}
 use Rattle.vortex_chunks.proofs.append.first_invalid.Given as goal
 
 abbrev pub invariant-loop-index : goal.invariant-loop-index

@@ -1,4 +1,4 @@
-use Rattle.vortex_scalar.specs.View.{content_at}
+use Rattle.vortex_values.specs.View.{content_at}
 use Rattle.vortex_chunks.proofs.Widened.{bounds_more}
 use Rattle.vortex_chunks.proofs.bounds.leaf_bounds.Goals as goal
 

@@ -1,6 +1,6 @@
 use Rattle.std.proofs.Common.{◌≡◌, sym, ap, ◌∙◌, subst, map, All}
 use Rattle.vortex_types.specs.View.{kind_of}
-use Rattle.vortex_scalar.specs.Scalar.{scalar_kind, scalar_content}
+use Rattle.vortex_scalars.specs.Scalar.{scalar_kind, scalar_content}
 use Rattle.vortex_chunks.proofs.Taken.{selected_yes, selected_no, kinds_more}
 use Rattle.vortex_chunks.proofs.select.select_rows.Goals as goal
 use Rattle.vortex_chunks.proofs.select.select_rows.Goals.{then-selects+in_ok-row+in_ok-push, else-selects}

@@ -1,6 +1,6 @@
 use Rattle.std.proofs.Common.{sym, ap, ◌∙◌, append-nil, subst, map, All, ◌≡◌}
 use Rattle.vortex_types.specs.View.{kind_of}
-use Rattle.vortex_scalar.specs.Scalar.{scalar_kind, scalar_content}
+use Rattle.vortex_scalars.specs.Scalar.{scalar_kind, scalar_content}
 use Rattle.vortex_chunks.proofs.Taken.{taken_more, kinds_more}
 use Rattle.vortex_chunks.proofs.select.take_rows.Goals as goal
 

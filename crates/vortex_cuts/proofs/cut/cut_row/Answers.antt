@@ -2,7 +2,7 @@ use Rattle.std.proofs.Common.{sym, ap, subst, ◌∙◌, IsTrue}
 use Rattle.vortex_model.specs.Content.{content_of}
 use Rattle.vortex_model.specs.Valid.{valid}
 use Rattle.vortex_types.specs.View.{kind_of}
-use Rattle.vortex_scalar.specs.View.{raw_of}
+use Rattle.vortex_values.specs.View.{raw_of}
 use Rattle.vortex_cuts.proofs.cut.cut_row.Goals as goal
 
 pub new_unchecked-requires : goal.new_unchecked-requires

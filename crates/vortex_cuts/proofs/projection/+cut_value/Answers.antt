@@ -1,19 +1,23 @@
-use Rattle.std.proofs.Common.{◌≡◌, sym, ap, ◌∙◌, map}
-use Rattle.vortex_model.specs.Content.{raw_tuple}
-use Rattle.vortex_scalar.specs.View.{raw_of, raw_at, raws_in}
-use Rattle.vortex_scalar.proofs.Views.{raw_of-Tuple}
-use Rattle.vortex_cuts.specs.Cut.{tree_of, part_of_field, cut_part, raw_cut}
-use Rattle.vortex_cuts.proofs.Projections.{kept_record, cut_null}
+use Rattle.std.proofs.Common.{sym, ap, ◌∙◌}
+use Rattle.vortex_values.specs.View.{raw_of, raw_at, raws_in}
+use Rattle.vortex_cuts.specs.Cut.{tree_of, parts_of, raw_cut}
+use Rattle.vortex_cuts.specs.declared.projection.Projection as projection
+use Rattle.vortex_cuts.proofs.Projections.{kept_record, is_tuple, no_record, tree_of-Fields, cut_null}
 use Rattle.vortex_cuts.proofs.projection.+cut_value.Goals as goal
 
-pub cut_value-returns-in_ok-kept-in-Tuple : goal.cut_value-returns-in_ok-kept-in-Tuple
-cut_value-returns-in_ok-kept-in-Tuple t c =
-    let values = c.in-Tuple.values in
+pub cut_value-returns-in_ok-kept-in-Some : goal.cut_value-returns-in_ok-kept-in-Some
+cut_value-returns-in_ok-kept-in-Some t c =
+    let rs = raws_in c.in-Some.values.now in
     let fields = c.in-Fields.fields in
-    let says : raw_of c.args.value.now ≡ raw_tuple (raws_in values.items) = ap raw_of c.in-Tuple.is ∙ raw_of-Tuple values in
-    kept_record c.in_ok-kept-in-Tuple.kept (raws_in values.items) fields
-    (c.in_ok-kept-in-Tuple.ensures ∙ ap (λ xs. map (cut_part (raws_in xs)) (map part_of_field fields.items)) c.deref.ensures.value)
-    ∙ (λ i. raw_cut (tree_of (sym c.in-Fields.is i)) (sym says i))
+    kept_record c.in_ok-kept-in-Some.kept rs fields c.in_ok-kept-in-Some.ensures
+    ∙ ap (raw_cut (tree_of (projection.Fields fields))) (sym (is_tuple rs (raw_of c.args.value.now) c.in-Some.ensures))
+    ∙ (λ i. raw_cut (tree_of (sym c.in-Fields.is i)) (raw_of c.args.value.now))
+
+pub cut_value-returns-in_ok-copy-in-None : goal.cut_value-returns-in_ok-copy-in-None
+cut_value-returns-in_ok-copy-in-None t c =
+    let fields = c.in-Fields.fields in
+    c.in_ok-copy-in-None.ensures.cases ∙ sym (ap (λ u. raw_cut u (raw_of c.args.value.now)) (tree_of-Fields fields) ∙ no_record (parts_of fields.items) (raw_of c.args.value.now) c.in-None.ensures)
+    ∙ (λ i. raw_cut (tree_of (sym c.in-Fields.is i)) (raw_of c.args.value.now))
 
 pub cut_cell-returns-in-None : goal.cut_cell-returns-in-None
 cut_cell-returns-in-None t c =

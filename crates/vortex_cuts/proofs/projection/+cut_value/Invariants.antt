@@ -1,5 +1,5 @@
 use Rattle.std.proofs.Common.{◌≡◌, take, map}
-use Rattle.vortex_scalar.specs.View.{raw_in, raws_in}
+use Rattle.vortex_values.specs.View.{raw_in, raws_in}
 use Rattle.vortex_cuts.specs.Cut.{cut_part, part_of_field}
 use Rattle.vortex_cuts.proofs.projection.+cut_value.Given as goal
 

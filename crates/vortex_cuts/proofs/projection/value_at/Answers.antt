@@ -1,5 +1,5 @@
 use Rattle.std.proofs.Common.{sym, ap, ◌∙◌}
-use Rattle.vortex_scalar.specs.View.{raw_in}
+use Rattle.vortex_values.specs.View.{raw_in}
 use Rattle.vortex_cuts.proofs.Projections.{nth_there, nth_past, raw_copied}
 use Rattle.vortex_cuts.proofs.projection.value_at.Goals as goal
 

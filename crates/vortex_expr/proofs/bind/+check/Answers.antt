@@ -1,5 +1,5 @@
 use Rattle.vortex_types.specs.View.{kind_of}
-use Rattle.vortex_scalar.specs.Scalar.{scalar_content}
+use Rattle.vortex_scalars.specs.Scalar.{scalar_content}
 use Rattle.vortex_expr.specs.Tree.{comparison_of}
 use Rattle.vortex_expr.proofs.Checks.{compare_checked, both_checked, either_checked}
 use Rattle.vortex_expr.proofs.bind.+check.Goals as goal

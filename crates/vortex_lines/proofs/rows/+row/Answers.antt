@@ -4,8 +4,8 @@ use Rattle.serde_json.specs.View.{view, items_view, number_view}
 use Rattle.serde_json.proofs.Views.{view-Array}
 use Rattle.vortex_model.specs.Content.{Raw, raw_tuple}
 use Rattle.vortex_types.specs.View.{kind_of}
-use Rattle.vortex_scalar.specs.View.{raw_in, raws_from}
-use Rattle.vortex_scalar.proofs.Views.{raw_of-Tuple}
+use Rattle.vortex_values.specs.View.{raw_in, raws_from}
+use Rattle.vortex_values.proofs.Views.{raw_of-Tuple}
 use Rattle.vortex_type_lines.specs.Parsed.{Gives}
 use Rattle.vortex_lines.specs.Rows.{reading}
 use Rattle.vortex_lines.proofs.AtKinds.{tuple_in, reading-array, view-Number, number_in, reading-number}

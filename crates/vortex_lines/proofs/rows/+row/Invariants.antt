@@ -2,7 +2,7 @@ use Rattle.std.proofs.Common.{◌≡◌, List, ◌++◌, option_map, map, drop}
 use Rattle.serde_json.specs.View.{items_view}
 use Rattle.vortex_model.specs.Content.{Raw}
 use Rattle.vortex_types.specs.View.{fields_of}
-use Rattle.vortex_scalar.specs.View.{raw_in}
+use Rattle.vortex_values.specs.View.{raw_in}
 use Rattle.vortex_lines.specs.Rows.{readings}
 use Rattle.vortex_lines.proofs.rows.+row.Given as goal
 

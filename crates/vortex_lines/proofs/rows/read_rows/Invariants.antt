@@ -2,7 +2,7 @@ use Rattle.std.proofs.Common.{◌≡◌, ◌++◌, map}
 use Rattle.std.specs.Vec.Iter.{into_iter_items}
 use Rattle.serde_json.specs.View.{items_view}
 use Rattle.vortex_types.specs.View.{kind_of}
-use Rattle.vortex_scalar.specs.View.{raw_in}
+use Rattle.vortex_values.specs.View.{raw_in}
 use Rattle.vortex_lines.specs.Rows.{rows_at}
 use Rattle.vortex_lines.proofs.rows.read_rows.Given as goal
 

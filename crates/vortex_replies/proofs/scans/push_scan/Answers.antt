@@ -1,5 +1,5 @@
 use Rattle.std.proofs.Common.{◌++◌, false, map, ap, ◌∙◌}
-use Rattle.vortex_scalar.specs.Scalar.{scalar_content}
+use Rattle.vortex_scalars.specs.Scalar.{scalar_content}
 use Rattle.vortex_replies.specs.Text.{rows_text}
 use Rattle.vortex_replies.proofs.Pieces.{three_in_order}
 use Rattle.vortex_replies.proofs.scans.push_scan.Goals as goal

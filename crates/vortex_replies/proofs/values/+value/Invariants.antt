@@ -1,6 +1,6 @@
 use Rattle.std.proofs.Common.{◌≡◌, ◌++◌, false, drop}
 use Rattle.vortex_model.specs.Content.{contents_of}
-use Rattle.vortex_scalar.specs.View.{raws_in}
+use Rattle.vortex_values.specs.View.{raws_in}
 use Rattle.vortex_replies.specs.Text.{contents_text}
 use Rattle.vortex_replies.proofs.values.+value.Given as goal
 

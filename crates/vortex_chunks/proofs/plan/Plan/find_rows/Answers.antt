@@ -1,5 +1,5 @@
 use Rattle.std.proofs.Common.{sym, ap, ◌∙◌, ◌++◌, map, subst, append-nil}
-use Rattle.vortex_scalar.specs.Scalar.{scalar_content}
+use Rattle.vortex_scalars.specs.Scalar.{scalar_content}
 use Rattle.vortex_chunks.specs.Bounds.{row_content}
 use Rattle.vortex_chunks.specs.Outcome.{outcome_of}
 use Rattle.vortex_chunks.specs.Selected.{CanBeCut, cut_rows, selected_rows}

@@ -1,6 +1,6 @@
 use Rattle.std.proofs.Common.{◌≡◌, All, drop}
 use Rattle.vortex_types.specs.View.{kind_of}
-use Rattle.vortex_scalar.specs.Scalar.{scalar_kind}
+use Rattle.vortex_scalars.specs.Scalar.{scalar_kind}
 use Rattle.vortex_chunks.specs.AnswerView.{answer_of}
 use Rattle.vortex_chunks.specs.Plan.{table_in, paths_in}
 use Rattle.vortex_chunks.specs.Progress.{no_answer}

@@ -4,7 +4,7 @@ use Rattle.vortex_model.specs.Kept.{kept_fault}
 use Rattle.vortex_model.specs.Table.{rows_of}
 use Rattle.vortex_model.specs.Command.{append, refusal, first_invalid, first_unconvertible}
 use Rattle.vortex_types.specs.View.{kind_of}
-use Rattle.vortex_scalar.specs.View.{raw_in}
+use Rattle.vortex_values.specs.View.{raw_in}
 use Rattle.vortex_chunks.specs.Error.{Explains}
 use Rattle.vortex_chunks.specs.TableView.{table_of}
 use Rattle.vortex_chunks.proofs.Explained.{none_so, explained_two}

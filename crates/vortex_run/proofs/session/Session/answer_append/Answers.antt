@@ -4,7 +4,7 @@ use Rattle.vortex_model.specs.Command.{append}
 use Rattle.vortex_model.specs.Refusal.{no_table}
 use Rattle.vortex_model.specs.Reply.{refused}
 use Rattle.vortex_types.specs.View.{kind_of}
-use Rattle.vortex_scalar.specs.View.{raw_in}
+use Rattle.vortex_values.specs.View.{raw_in}
 use Rattle.vortex_chunks.specs.TableView.{table_of}
 use Rattle.vortex_run.specs.Said.{error_answer}
 use Rattle.vortex_run.specs.State.{table_in}

@@ -1,0 +1,154 @@
+//! Makers of values with their type.
+ghost use Rattle.std.specs.Prelude.{◌≡◌, IsUtf8, is_ok, IfOk, OnOk, IfErr};
+ghost use Rattle.vortex_model.specs.Kind.{Kind, boolean, integer, utf8, binary, list, variant, non_nullable, nullable, with_nullability, same_kind};
+ghost use Rattle.vortex_model.specs.Content.{Raw, raw_null, raw_truth, raw_number, raw_text, raw_blob, raw_tuple, raw_scalar, no_raws};
+ghost use Rattle.vortex_kinds.specs.Numbers.{whole, type_of_numbers};
+ghost use Rattle.vortex_kinds.specs.View.{nullability_of_flag, number_kind_of};
+ghost use Rattle.vortex_types.specs.Parts.{storage_of};
+ghost use Rattle.vortex_types.specs.View.{kind_of, extension_kind};
+ghost use Rattle.vortex_values.specs.Numbers.{kind_of_number, integer_of, raw_of_number, is_number_of};
+ghost use Rattle.vortex_values.specs.declared.error.ScalarError.TheVariants.{Invalid};
+ghost use Rattle.vortex_scalars.specs.Scalar.{scalar_kind, scalar_raw};
+
+use crate::extensions::{extension_value, variant_value};
+use crate::leaves::{binary_value, bool_value, number_value, text_value};
+use crate::lists::empty_list;
+use std::alloc::{AllocError, Global};
+use std::rc::Rc;
+use vortex_kinds::nullability::Nullability;
+use vortex_kinds::ptype::PType;
+use vortex_natives::native::NativePType;
+use vortex_natives::native_dtype::NativeDType;
+use vortex_scalars::scalar::Scalar;
+use vortex_types::dtype::DType;
+use vortex_types::extension::ExtDTypeRef;
+use vortex_types::{BufferString, ByteBuffer};
+use vortex_values::error::ScalarError;
+use vortex_values::pvalue::PValue;
+
+/// Makers of a value with its type, as those of Vortex's `Scalar`. No value that a maker is given is null, but for those with a
+/// type of their own.
+pub trait ScalarMakers {
+    ghost kind: { Self → Kind };
+
+    ghost raw: { Self → Raw };
+
+    /// A truth value.
+    fn bool(value: bool, nullability: Nullability) -> Self
+        ensures dtype { kind result ≡ boolean (nullability_of_flag nullability) }
+        ensures value { raw result ≡ raw_truth value };
+
+    /// An integer of the machine.
+    fn primitive<T: NativePType>(value: T, nullability: Nullability) -> Self
+        ensures dtype { kind result ≡ integer T.kind (nullability_of_flag nullability) }
+        ensures value { raw result ≡ raw_number T.kind (T.integer value) };
+
+    /// An integer of this kind. `Invalid` where it is one of another.
+    fn primitive_value(
+        value: PValue,
+        ptype: PType,
+        nullability: Nullability,
+    ) -> Result<Self, ScalarError>
+        ensures when { is_ok result ≡ is_number_of (number_kind_of ptype) (kind_of_number value) (integer_of value) }
+        ensures dtype { IfOk result (λ made. kind made ≡ type_of_numbers (number_kind_of ptype) (nullability_of_flag nullability)) }
+        ensures value { IfOk result (λ made. raw made ≡ raw_of_number value) }
+        ensures refused { IfErr result (λ e. e ≡ Invalid) };
+
+    /// A text.
+    fn utf8(text: BufferString, nullability: Nullability) -> Self
+        ensures dtype { kind result ≡ utf8 (nullability_of_flag nullability) }
+        ensures value { raw result ≡ raw_text text };
+
+    /// A text that these bytes are in UTF-8. `Invalid` where they are none.
+    fn try_utf8(bytes: ByteBuffer, nullability: Nullability) -> Result<Self, ScalarError>
+        ensures dtype { IfOk result (λ made. kind made ≡ utf8 (nullability_of_flag nullability)) }
+        ensures value { IfOk result (λ made. raw made ≡ raw_text bytes) }
+        ensures accepted { OnOk result (IsUtf8 bytes) }
+        ensures refused { IfErr result (λ e. (e ≡ Invalid) × (IsUtf8 bytes → ⊥)) };
+
+    /// Bytes.
+    fn binary(bytes: ByteBuffer, nullability: Nullability) -> Self
+        ensures dtype { kind result ≡ binary (nullability_of_flag nullability) }
+        ensures value { raw result ≡ raw_blob bytes };
+
+    /// The empty list of elements of a type.
+    fn list_empty(alloc: Global, element: Rc<DType>, nullability: Nullability) -> Self
+        ensures dtype { kind result ≡ list (kind_of element.value) (nullability_of_flag nullability) }
+        ensures value { raw result ≡ raw_tuple no_raws };
+
+    /// The value as one of an extension. `Invalid` where its type is another than the storage's.
+    fn extension_ref(extension: ExtDTypeRef, storage: Self) -> Result<Self, ScalarError>
+        ensures when { is_ok result ≡ same_kind (kind storage) (storage_of (extension_kind extension)) }
+        ensures dtype { IfOk result (λ made. kind made ≡ extension_kind extension) }
+        ensures value { IfOk result (λ made. raw made ≡ raw storage) }
+        ensures refused { IfErr result (λ e. e ≡ Invalid) };
+
+    /// The value with its type, as one value of a variant that is never null.
+    fn variant(alloc: Global, value: Self) -> Result<Self, AllocError>
+        ensures dtype { IfOk result (λ made. kind made ≡ variant non_nullable) }
+        ensures value { IfOk result (λ made. raw made ≡ raw_scalar (kind value) (raw value)) };
+
+    /// Null of the type that columns of the machine's values have, made nullable.
+    fn null_native<T: NativeDType>(alloc: Global) -> Result<Self, AllocError>
+        ensures dtype { IfOk result (λ made. kind made ≡ with_nullability nullable T.values) }
+        ensures value { IfOk result (λ made. raw made ≡ raw_null) };
+}
+
+impl ScalarMakers for Scalar {
+    ghost kind = { scalar_kind };
+
+    ghost raw = { scalar_raw };
+
+    fn bool(value: bool, nullability: Nullability) -> Scalar {
+        bool_value(value, nullability)
+    }
+
+    fn primitive<T: NativePType>(value: T, nullability: Nullability) -> Scalar {
+        number_value(PValue::of_native(value), nullability)
+    }
+
+    fn primitive_value(
+        value: PValue,
+        ptype: PType,
+        nullability: Nullability,
+    ) -> Result<Scalar, ScalarError> {
+        if !value.is_of(ptype) {
+            return Err(ScalarError::Invalid);
+        }
+        Ok(number_value(value, nullability))
+    }
+
+    fn utf8(text: BufferString, nullability: Nullability) -> Scalar {
+        text_value(text, nullability)
+    }
+
+    fn try_utf8(bytes: ByteBuffer, nullability: Nullability) -> Result<Scalar, ScalarError> {
+        match BufferString::from_utf8(bytes) {
+            Ok(text) => Ok(text_value(text, nullability)),
+            Err(_) => Err(ScalarError::Invalid),
+        }
+    }
+
+    fn binary(bytes: ByteBuffer, nullability: Nullability) -> Scalar {
+        binary_value(bytes, nullability)
+    }
+
+    fn list_empty(alloc: Global, element: Rc<DType>, nullability: Nullability) -> Scalar {
+        empty_list(alloc, element, nullability)
+    }
+
+    fn extension_ref(extension: ExtDTypeRef, storage: Scalar) -> Result<Scalar, ScalarError> {
+        extension_value(extension, storage)
+    }
+
+    fn variant(alloc: Global, value: Scalar) -> Result<Scalar, AllocError> {
+        let made = variant_value(alloc, value)?;
+        Ok(made)
+    }
+
+    fn null_native<T: NativeDType>(alloc: Global) -> Result<Scalar, AllocError> {
+        let dtype = T::dtype(alloc)?;
+        let dtype = dtype.as_nullable()?;
+        Ok(Scalar::null(dtype))
+    }
+}

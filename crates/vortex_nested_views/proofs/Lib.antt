@@ -1,0 +1,6 @@
+pub mod Choices
+pub mod Elements
+pub mod Pairs
+pub mod Records
+pub mod Storage
+pub mod Whichever

@@ -1,0 +1,16 @@
+-- The values of extensions are those of their storage.
+use Rattle.std.proofs.Common.{◌≡◌, Option, Some, refl}
+use Rattle.vortex_model.specs.Kind.{Kind, extension}
+use Rattle.vortex_model.specs.Content.{Raw}
+use Rattle.vortex_model.specs.Valid.{valid}
+use Rattle.vortex_types.specs.Parts.{extension_in_kind, storage_of}
+
+pub extension_is : (k x : Kind) → extension_in_kind k ≡ Some x → x ≡ k
+extension_is (extension id meta l) x h = cc (h)
+extension_is k x h = absurd (cc (h))
+
+pub storage_valid : (k x : Kind) (r : Raw) → extension_in_kind k ≡ Some x → valid (storage_of k) r ≡ valid k r
+storage_valid (extension id meta l) x r h = refl
+storage_valid k x r h = absurd (cc (h))
+
+pub ruleset stored = (extension_is, storage_valid)

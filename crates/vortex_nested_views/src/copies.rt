@@ -1,0 +1,53 @@
+//! Scalars made of copies.
+ghost use Rattle.std.specs.Prelude.{◌≡◌, IsTrue, IfOk, map, option_map};
+ghost use Rattle.vortex_model.specs.Valid.{valid, all_have};
+ghost use Rattle.vortex_types.specs.View.{kind_of};
+ghost use Rattle.vortex_values.specs.View.{raw_at, raws_in};
+ghost use Rattle.vortex_views.specs.Views.{typed_scalar};
+ghost use Rattle.vortex_nested_views.specs.Places.{item_at, each_of};
+
+use std::alloc::{AllocError, Global};
+use vortex_scalars::scalar::Scalar;
+use vortex_types::dtype::DType;
+use vortex_values::clone::copy_value;
+use vortex_values::scalar_value::ScalarValue;
+
+/// A copy of the value, as one of a copy of the type.
+pub(crate) fn scalar_of(dtype: &DType, value: Option<&ScalarValue>) -> Result<Scalar, AllocError>
+    requires { IsTrue (valid (kind_of dtype.now) (raw_at value)) }
+    ensures { IfOk result (λ scalar. typed_scalar scalar ≡ (kind_of dtype.now, raw_at value.entry)) }
+{
+    let dtype = dtype.clone()?;
+    let value = copy_value(value)?;
+    Ok(Scalar::new_unchecked(dtype, value))
+}
+
+/// The value at this place, and `None` past the end. Null is `Some(None)`.
+#[tactic(auto, using(crate::proofs::Elements::items))]
+pub(crate) fn value_at(values: &[Option<ScalarValue>], index: usize) -> Option<Option<&ScalarValue>>
+    ensures { option_map raw_at result ≡ item_at (raws_in values.now) index }
+{
+    if index >= values.len() {
+        return None;
+    }
+    let value = values[index].as_ref();
+    Some(value)
+}
+
+/// A copy of each of the values, as one of a copy of the type.
+#[tactic(auto, using(crate::proofs::Elements::copied))]
+pub(crate) fn scalars_of(
+    alloc: Global,
+    dtype: &DType,
+    values: &[Option<ScalarValue>],
+) -> Result<Vec<Scalar>, AllocError>
+    requires { IsTrue (all_have (kind_of dtype.now) (raws_in values.now)) }
+    ensures { IfOk result (λ scalars. map typed_scalar scalars.items ≡ each_of (kind_of dtype.now) (raws_in values.now)) }
+{
+    let mut scalars = Vec::with_capacity(alloc, values.len())?;
+    for value in values {
+        let scalar = scalar_of(dtype, value.as_ref())?;
+        scalars.push(scalar)?;
+    }
+    Ok(scalars)
+}

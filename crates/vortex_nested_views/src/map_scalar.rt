@@ -1,0 +1,203 @@
+//! Maps with their type.
+ghost use Rattle.std.specs.Prelude.{◌≡◌, ◌==◌, IsTrue, Some, IfOk, map, option_map};
+ghost use Rattle.vortex_model.specs.Content.{content_of, is_null};
+ghost use Rattle.vortex_model.specs.Valid.{valid, entries_have};
+ghost use Rattle.vortex_types.specs.Parts.{is_map_kind, entries_in_kind};
+ghost use Rattle.vortex_types.specs.View.{kind_of, entries_in};
+ghost use Rattle.vortex_values.specs.View.{raw_at, raws_in};
+ghost use Rattle.vortex_views.specs.Forms.{GivesView};
+ghost use Rattle.vortex_views.specs.Views.{typed_scalar};
+ghost use Rattle.vortex_nested_views.specs.Held.{raw_of_items};
+ghost use Rattle.vortex_nested_views.specs.Places.{part_count};
+ghost use Rattle.vortex_nested_views.specs.Entries.{pair_in, entry_at, each_key, each_value, keys_of, values_of};
+
+use crate::copies::{scalar_of, value_at};
+use std::alloc::{AllocError, Global};
+use vortex_scalars::scalar::Scalar;
+use vortex_scalars::validate::validate;
+use vortex_types::dtype::DType;
+use vortex_types::map_dtype::MapDType;
+use vortex_values::error::ScalarError;
+use vortex_values::scalar_value::ScalarValue;
+
+/// A map or null with its type, as Vortex's `MapScalar`.
+#[derive(Drop)]
+pub struct MapScalar<'a> {
+    dtype: &'a DType,
+    entries: Option<&'a [Option<ScalarValue>]>,
+    ghost is_map: { IsTrue (is_map_kind (kind_of dtype.now)) },
+    ghost is_valid: { IsTrue (valid (kind_of dtype.now) (raw_of_items entries)) },
+}
+
+impl<'a> MapScalar<'a> {
+    ghost use Rattle.vortex_nested_views.specs.Nested.{typed_map};
+
+    /// The value as one of the type. `Invalid` where the type isn't of maps, or does not have the value.
+    pub fn try_new(
+        dtype: &'a DType,
+        value: Option<&'a ScalarValue>,
+    ) -> Result<MapScalar<'a>, ScalarError>
+        ensures { GivesView typed_map is_map_kind (kind_of dtype.now) (raw_at value.entry) result }
+    {
+        if !dtype.is_map() || !validate(dtype, value) {
+            return Err(ScalarError::Invalid);
+        }
+        Ok(MapScalar::new(dtype, value))
+    }
+
+    /// The same of a value that the type has.
+    #[tactic(auto, using(crate::proofs::Pairs::held))]
+    pub(crate) fn new(dtype: &'a DType, value: Option<&'a ScalarValue>) -> MapScalar<'a>
+        requires kind { IsTrue (is_map_kind (kind_of dtype.now)) }
+        requires valid { IsTrue (valid (kind_of dtype.now) (raw_at value)) }
+        ensures { typed_map result ≡ (kind_of dtype.now, raw_at value.entry) }
+    {
+        let entries = match value {
+            Some(value) => value.as_list(),
+            None => None,
+        };
+        MapScalar { dtype, entries }
+    }
+
+    /// The type.
+    pub fn dtype(&self) -> &'a DType
+        ensures { kind_of result.now ≡ (typed_map self.now).0 }
+    {
+        self.dtype
+    }
+
+    /// The types of keys and values.
+    pub fn map_dtype(&self) -> &'a MapDType
+        ensures { entries_in_kind (typed_map self.now).0 ≡ Some (entries_in result.now) }
+    {
+        match self.dtype.as_map_opt() {
+            Some(map) => map,
+            None => unreachable!(),
+        }
+    }
+
+    /// Whether the value is null.
+    pub fn is_null(&self) -> bool
+        ensures { result ≡ is_null (content_of (typed_map self.now).1) }
+    {
+        self.entries.is_none()
+    }
+
+    /// How many entries there are. Null has none.
+    #[tactic(auto, using(crate::proofs::Elements::counted))]
+    pub fn len(&self) -> usize
+        ensures { result ≡ part_count (typed_map self.now).1 }
+    {
+        match self.entries {
+            Some(entries) => entries.len(),
+            None => 0,
+        }
+    }
+
+    /// Whether there are no entries.
+    pub fn is_empty(&self) -> bool
+        ensures { result ≡ (part_count (typed_map self.now).1 == 0) }
+    {
+        self.len() == 0
+    }
+
+    /// Copies of the key and the value of the entry at this place, and `None` past the end. Null has no entries.
+    #[tactic(auto, using(crate::proofs::Pairs::placed))]
+    pub fn entry(&self, index: usize) -> Result<Option<(Scalar, Scalar)>, AllocError>
+        ensures { IfOk result (λ entry. option_map (λ pair. (typed_scalar pair.0, typed_scalar pair.1)) entry ≡ entry_at (typed_map self.now) index) }
+    {
+        let Some(entries) = self.entries else {
+            return Ok(None);
+        };
+        let Some(entry) = value_at(entries, index) else {
+            return Ok(None);
+        };
+        let Some((key, value)) = pair_of(entry) else {
+            return Ok(None);
+        };
+        let types = self.map_dtype();
+        let key = scalar_of(types.key_dtype(), key)?;
+        let value = scalar_of(types.value_dtype(), value)?;
+        Ok(Some((key, value)))
+    }
+
+    /// Copies of the keys in order, and `None` of null.
+    #[tactic(auto, using(crate::proofs::Pairs::all))]
+    pub fn keys(&self, alloc: Global) -> Result<Option<Vec<Scalar>>, AllocError>
+        ensures { IfOk result (λ all. option_map (λ keys. map typed_scalar keys.items) all ≡ keys_of (typed_map self.now)) }
+    {
+        let Some(entries) = self.entries else {
+            return Ok(None);
+        };
+        let all = key_copies(alloc, self.map_dtype(), entries)?;
+        Ok(Some(all))
+    }
+
+    /// Copies of the values in the order of their keys, and `None` of null.
+    #[tactic(auto, using(crate::proofs::Pairs::all))]
+    pub fn values(&self, alloc: Global) -> Result<Option<Vec<Scalar>>, AllocError>
+        ensures { IfOk result (λ all. option_map (λ values. map typed_scalar values.items) all ≡ values_of (typed_map self.now)) }
+    {
+        let Some(entries) = self.entries else {
+            return Ok(None);
+        };
+        let all = value_copies(alloc, self.map_dtype(), entries)?;
+        Ok(Some(all))
+    }
+}
+
+#[tactic(auto, using(crate::proofs::Pairs::copied))]
+fn key_copies(
+    alloc: Global,
+    types: &MapDType,
+    entries: &[Option<ScalarValue>],
+) -> Result<Vec<Scalar>, AllocError>
+    requires { IsTrue (entries_have (entries_in types.now).key (entries_in types.now).value (raws_in entries.now)) }
+    ensures { IfOk result (λ keys. map typed_scalar keys.items ≡ each_key (entries_in types.now).key (raws_in entries.now)) }
+{
+    let mut keys = Vec::with_capacity(alloc, entries.len())?;
+    for entry in entries {
+        match pair_of(entry.as_ref()) {
+            Some((key, _)) => {
+                let key = scalar_of(types.key_dtype(), key)?;
+                keys.push(key)?;
+            }
+            None => unreachable!(),
+        }
+    }
+    Ok(keys)
+}
+
+#[tactic(auto, using(crate::proofs::Pairs::copied))]
+fn value_copies(
+    alloc: Global,
+    types: &MapDType,
+    entries: &[Option<ScalarValue>],
+) -> Result<Vec<Scalar>, AllocError>
+    requires { IsTrue (entries_have (entries_in types.now).key (entries_in types.now).value (raws_in entries.now)) }
+    ensures { IfOk result (λ values. map typed_scalar values.items ≡ each_value (entries_in types.now).value (raws_in entries.now)) }
+{
+    let mut values = Vec::with_capacity(alloc, entries.len())?;
+    for entry in entries {
+        match pair_of(entry.as_ref()) {
+            Some((_, value)) => {
+                let value = scalar_of(types.value_dtype(), value)?;
+                values.push(value)?;
+            }
+            None => unreachable!(),
+        }
+    }
+    Ok(values)
+}
+
+/// The key and the value of an entry, each `None` where it is null.
+#[tactic(auto, using(crate::proofs::Pairs::split))]
+fn pair_of(entry: Option<&ScalarValue>) -> Option<(Option<&ScalarValue>, Option<&ScalarValue>)>
+    ensures { option_map (λ pair. (raw_at pair.0, raw_at pair.1)) result ≡ pair_in (raw_at entry.entry) }
+{
+    let items = entry?.as_list()?;
+    match items {
+        [key, value] => Some((key.as_ref(), value.as_ref())),
+        _ => None,
+    }
+}

@@ -1,0 +1,107 @@
+//! Records with their type.
+ghost use Rattle.std.specs.Prelude.{◌≡◌, IsTrue, Some, IfOk, option_map};
+ghost use Rattle.vortex_model.specs.Content.{content_of, is_null};
+ghost use Rattle.vortex_model.specs.Valid.{valid};
+ghost use Rattle.vortex_types.specs.Parts.{is_struct_kind, fields_in_kind};
+ghost use Rattle.vortex_types.specs.View.{kind_of, fields_in};
+ghost use Rattle.vortex_records.specs.Records.{names_of};
+ghost use Rattle.vortex_values.specs.View.{raw_at};
+ghost use Rattle.vortex_nested_views.specs.Held.{raw_of_items};
+ghost use Rattle.vortex_nested_views.specs.Places.{field_of_record, field_named};
+
+use crate::copies::{scalar_of, value_at};
+use std::alloc::{AllocError, Global};
+use vortex_kinds::field_names::{FieldName, FieldNames};
+use vortex_records::struct_fields_ext::StructFieldsExt;
+use vortex_scalars::scalar::Scalar;
+use vortex_types::dtype::DType;
+use vortex_types::struct_fields::StructFields;
+use vortex_values::scalar_value::ScalarValue;
+
+/// A record or null with its type, as Vortex's `StructScalar`.
+#[derive(Drop)]
+pub struct StructScalar<'a> {
+    dtype: &'a DType,
+    values: Option<&'a [Option<ScalarValue>]>,
+    ghost is_record: { IsTrue (is_struct_kind (kind_of dtype.now)) },
+    ghost is_valid: { IsTrue (valid (kind_of dtype.now) (raw_of_items values)) },
+}
+
+impl<'a> StructScalar<'a> {
+    ghost use Rattle.vortex_views.specs.Views.{typed_scalar};
+    ghost use Rattle.vortex_nested_views.specs.Nested.{typed_struct};
+
+    /// The value as one of the type, which is of records and has it.
+    #[tactic(auto, using(crate::proofs::Records::held))]
+    pub(crate) fn new(dtype: &'a DType, value: Option<&'a ScalarValue>) -> StructScalar<'a>
+        requires kind { IsTrue (is_struct_kind (kind_of dtype.now)) }
+        requires valid { IsTrue (valid (kind_of dtype.now) (raw_at value)) }
+        ensures { typed_struct result ≡ (kind_of dtype.now, raw_at value.entry) }
+    {
+        let values = match value {
+            Some(value) => value.as_list(),
+            None => None,
+        };
+        StructScalar { dtype, values }
+    }
+
+    /// The type.
+    pub fn dtype(&self) -> &'a DType
+        ensures { kind_of result.now ≡ (typed_struct self.now).0 }
+    {
+        self.dtype
+    }
+
+    /// The fields.
+    pub fn struct_fields(&self) -> &'a StructFields
+        ensures { fields_in_kind (typed_struct self.now).0 ≡ Some (fields_in result.now) }
+    {
+        self.dtype.as_struct_fields()
+    }
+
+    /// The names of the fields in order.
+    #[tactic(auto, using(crate::proofs::Records::named))]
+    pub fn names(&self, alloc: Global) -> Result<FieldNames, AllocError>
+        ensures { IfOk result (λ names. option_map names_of (fields_in_kind (typed_struct self.now).0) ≡ Some names) }
+    {
+        let names = self.struct_fields().names(alloc)?;
+        Ok(names)
+    }
+
+    /// Whether the value is null.
+    pub fn is_null(&self) -> bool
+        ensures { result ≡ is_null (content_of (typed_struct self.now).1) }
+    {
+        self.values.is_none()
+    }
+
+    /// A copy of the value of the field at this place, and `None` past the end. Null has no fields.
+    #[tactic(auto, using(crate::proofs::Records::placed))]
+    pub fn field_by_idx(&self, index: usize) -> Result<Option<Scalar>, AllocError>
+        ensures { IfOk result (λ field. option_map typed_scalar field ≡ field_of_record (typed_struct self.now) index) }
+    {
+        let Some(values) = self.values else {
+            return Ok(None);
+        };
+        let dtype = self.struct_fields().field_by_index(index);
+        match (dtype, value_at(values, index)) {
+            (Some(dtype), Some(value)) => {
+                let field = scalar_of(dtype, value)?;
+                Ok(Some(field))
+            }
+            (Some(_), None) | (None, Some(_)) | (None, None) => Ok(None),
+        }
+    }
+
+    /// A copy of the value of the first field of this name, and `None` where there is none. Null has no fields.
+    #[tactic(auto, using(crate::proofs::Records::named))]
+    pub fn field(&self, name: &FieldName) -> Result<Option<Scalar>, AllocError>
+        ensures { IfOk result (λ field. option_map typed_scalar field ≡ field_named (typed_struct self.now) name.now) }
+    {
+        let Some(index) = self.struct_fields().find(name) else {
+            return Ok(None);
+        };
+        let field = self.field_by_idx(index)?;
+        Ok(field)
+    }
+}

@@ -1,0 +1,141 @@
+//! Values of unions with their type.
+ghost use Rattle.std.specs.Prelude.{◌≡◌, IsTrue, Some, IfOk, option_map};
+ghost use Rattle.vortex_model.specs.Content.{content_of, is_null};
+ghost use Rattle.vortex_model.specs.Kind.{nullability_of};
+ghost use Rattle.vortex_model.specs.Valid.{valid};
+ghost use Rattle.vortex_kinds.specs.View.{nullability_of_flag};
+ghost use Rattle.vortex_types.specs.Parts.{is_union_kind, variants_in_kind};
+ghost use Rattle.vortex_types.specs.View.{kind_of, variants_in};
+ghost use Rattle.vortex_values.specs.View.{raw_at};
+ghost use Rattle.vortex_views.specs.Forms.{GivesView};
+ghost use Rattle.vortex_nested_views.specs.Held.{raw_of_choice};
+ghost use Rattle.vortex_nested_views.specs.Places.{tag_of, place_of_choice, child_of};
+
+use crate::copies::scalar_of;
+use std::alloc::AllocError;
+use vortex_kinds::nullability::Nullability;
+use vortex_records::union_variants_ext::UnionVariantsExt;
+use vortex_scalars::scalar::Scalar;
+use vortex_scalars::validate::validate;
+use vortex_types::dtype::DType;
+use vortex_types::union_variants::UnionVariants;
+use vortex_values::error::ScalarError;
+use vortex_values::scalar_value::ScalarValue;
+use vortex_values::union_value::UnionValue;
+
+/// A union's value or null with its type, as Vortex's `UnionScalar`.
+#[derive(Drop)]
+pub struct UnionScalar<'a> {
+    dtype: &'a DType,
+    value: Option<&'a UnionValue>,
+    ghost is_union: { IsTrue (is_union_kind (kind_of dtype.now)) },
+    ghost is_valid: { IsTrue (valid (kind_of dtype.now) (raw_of_choice value)) },
+}
+
+impl<'a> UnionScalar<'a> {
+    ghost use Rattle.vortex_views.specs.Views.{typed_scalar};
+    ghost use Rattle.vortex_nested_views.specs.Nested.{typed_union};
+
+    /// The value as one of the type. `Invalid` where the type isn't a union, or does not have the value.
+    pub fn try_new(
+        dtype: &'a DType,
+        value: Option<&'a ScalarValue>,
+    ) -> Result<UnionScalar<'a>, ScalarError>
+        ensures { GivesView typed_union is_union_kind (kind_of dtype.now) (raw_at value.entry) result }
+    {
+        if !dtype.is_union() || !validate(dtype, value) {
+            return Err(ScalarError::Invalid);
+        }
+        Ok(UnionScalar::new(dtype, value))
+    }
+
+    /// The same of a value that the type has.
+    #[tactic(auto, using(crate::proofs::Choices::held))]
+    pub(crate) fn new(dtype: &'a DType, value: Option<&'a ScalarValue>) -> UnionScalar<'a>
+        requires kind { IsTrue (is_union_kind (kind_of dtype.now)) }
+        requires valid { IsTrue (valid (kind_of dtype.now) (raw_at value)) }
+        ensures { typed_union result ≡ (kind_of dtype.now, raw_at value.entry) }
+    {
+        let value = match value {
+            Some(value) => value.as_union(),
+            None => None,
+        };
+        UnionScalar { dtype, value }
+    }
+
+    /// The type.
+    pub fn dtype(&self) -> &'a DType
+        ensures { kind_of result.now ≡ (typed_union self.now).0 }
+    {
+        self.dtype
+    }
+
+    /// Whether the union may be null itself.
+    pub fn nullability(&self) -> Nullability
+        ensures { nullability_of_flag result ≡ nullability_of (typed_union self.now).0 }
+    {
+        self.dtype.nullability()
+    }
+
+    /// The choices.
+    pub fn variants(&self) -> &'a UnionVariants
+        ensures { variants_in_kind (typed_union self.now).0 ≡ Some (variants_in result.now) }
+    {
+        match self.dtype.as_union_variants_opt() {
+            Some(variants) => variants,
+            None => unreachable!(),
+        }
+    }
+
+    /// Whether the union is null itself.
+    #[tactic(auto, using(crate::proofs::Choices::tagged))]
+    pub fn is_null(&self) -> bool
+        ensures { result ≡ is_null (content_of (typed_union self.now).1) }
+    {
+        self.value.is_none()
+    }
+
+    /// The tag, and `None` of null.
+    #[tactic(auto, using(crate::proofs::Choices::tagged))]
+    pub fn type_id(&self) -> Option<i8>
+        ensures { result ≡ tag_of (typed_union self.now).1 }
+    {
+        match self.value {
+            Some(value) => Some(value.type_id()),
+            None => None,
+        }
+    }
+
+    /// The place of the choice of the tag, and `None` of null.
+    #[tactic(auto, using(crate::proofs::Choices::tagged))]
+    pub fn child_index(&self) -> Option<usize>
+        ensures { result ≡ place_of_choice (typed_union self.now) }
+    {
+        let tag = self.type_id()?;
+        self.variants().tag_to_child_index(tag)
+    }
+
+    /// The type of the choice of the tag, and `None` of null.
+    #[tactic(auto, using(crate::proofs::Choices::found))]
+    pub fn variant_dtype(&self) -> Option<&'a DType>
+        ensures { option_map (λ dtype. kind_of dtype.now) result ≡ option_map (λ child. child.0) (child_of (typed_union self.now)) }
+    {
+        let variants = self.variants();
+        let index = self.child_index()?;
+        variants.variant_by_index(index)
+    }
+
+    /// A copy of the value under the tag, and `None` of null.
+    #[tactic(auto, using(crate::proofs::Choices::within))]
+    pub fn child(&self) -> Result<Option<Scalar>, AllocError>
+        ensures { IfOk result (λ child. option_map typed_scalar child ≡ child_of (typed_union self.now)) }
+    {
+        match (self.variant_dtype(), self.value) {
+            (Some(dtype), Some(value)) => {
+                let child = scalar_of(dtype, value.child_value())?;
+                Ok(Some(child))
+            }
+            (Some(_), None) | (None, Some(_)) | (None, None) => Ok(None),
+        }
+    }
+}

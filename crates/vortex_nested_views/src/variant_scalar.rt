@@ -1,0 +1,82 @@
+//! Values of variants with their type.
+ghost use Rattle.std.specs.Prelude.{◌≡◌, IsTrue, IfOk, option_map};
+ghost use Rattle.vortex_model.specs.Content.{content_of, is_null};
+ghost use Rattle.vortex_model.specs.Valid.{valid};
+ghost use Rattle.vortex_types.specs.Parts.{is_variant_kind};
+ghost use Rattle.vortex_types.specs.View.{kind_of};
+ghost use Rattle.vortex_values.specs.View.{raw_at};
+ghost use Rattle.vortex_nested_views.specs.Held.{raw_of_whichever};
+ghost use Rattle.vortex_nested_views.specs.Places.{inner_of};
+
+use crate::copies::scalar_of;
+use std::alloc::AllocError;
+use vortex_scalars::scalar::Scalar;
+use vortex_types::dtype::DType;
+use vortex_values::scalar_value::ScalarValue;
+use vortex_values::variant_value::VariantValue;
+
+/// A variant's value or null with its type, as Vortex's `VariantScalar`.
+#[derive(Drop)]
+pub struct VariantScalar<'a> {
+    dtype: &'a DType,
+    value: Option<&'a VariantValue>,
+    ghost is_variant: { IsTrue (is_variant_kind (kind_of dtype.now)) },
+    ghost is_valid: { IsTrue (valid (kind_of dtype.now) (raw_of_whichever value)) },
+}
+
+impl<'a> VariantScalar<'a> {
+    ghost use Rattle.vortex_views.specs.Views.{typed_scalar};
+    ghost use Rattle.vortex_nested_views.specs.Nested.{typed_variant};
+
+    /// The value as one of the type, which is of variants and has it.
+    #[tactic(auto, using(crate::proofs::Whichever::held))]
+    pub(crate) fn new(dtype: &'a DType, value: Option<&'a ScalarValue>) -> VariantScalar<'a>
+        requires kind { IsTrue (is_variant_kind (kind_of dtype.now)) }
+        requires valid { IsTrue (valid (kind_of dtype.now) (raw_at value)) }
+        ensures { typed_variant result ≡ (kind_of dtype.now, raw_at value.entry) }
+    {
+        let value = match value {
+            Some(value) => value.as_variant(),
+            None => None,
+        };
+        VariantScalar { dtype, value }
+    }
+
+    /// The type.
+    pub fn dtype(&self) -> &'a DType
+        ensures { kind_of result.now ≡ (typed_variant self.now).0 }
+    {
+        self.dtype
+    }
+
+    /// Whether the variant is null itself.
+    #[tactic(auto, using(crate::proofs::Whichever::inner))]
+    pub fn is_null(&self) -> bool
+        ensures { result ≡ is_null (content_of (typed_variant self.now).1) }
+    {
+        self.value.is_none()
+    }
+
+    /// A copy of what the variant holds, and `None` where it is null itself.
+    #[tactic(auto, using(crate::proofs::Whichever::inner))]
+    pub fn value(&self) -> Result<Option<Scalar>, AllocError>
+        ensures { IfOk result (λ inner. option_map typed_scalar inner ≡ inner_of (typed_variant self.now).1) }
+    {
+        let Some(value) = self.value else {
+            return Ok(None);
+        };
+        let inner = scalar_of(value.dtype(), value.value())?;
+        Ok(Some(inner))
+    }
+
+    /// Whether the variant holds a null of a type, and `None` where it is null itself.
+    #[tactic(auto, using(crate::proofs::Whichever::inner))]
+    pub fn is_variant_null(&self) -> Option<bool>
+        ensures { result ≡ option_map (λ inner. is_null (content_of inner.1)) (inner_of (typed_variant self.now).1) }
+    {
+        match self.value {
+            Some(value) => Some(value.value().is_none()),
+            None => None,
+        }
+    }
+}

@@ -1,4 +1,0 @@
-pub mod Converting
-pub mod Numbers
-pub mod Scalar
-pub mod View

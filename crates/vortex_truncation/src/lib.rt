@@ -1,0 +1,4 @@
+//! Bounds of values with their type, of at most so many bytes.
+#![tactic(auto)]
+
+pub mod truncation;

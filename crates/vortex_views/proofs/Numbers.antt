@@ -1,0 +1,87 @@
+-- What a valid number is, and what is made of two.
+use Rattle.std.proofs.Common.{◌≡◌, ◌&&◌, ℤ, Bool, true, false, Option, Some, None, option_map, refl, sym, ap, ◌∙◌}
+use Rattle.vortex_model.specs.Kind.{Kind, IntKind, Nullability, nullable, non_nullable, integer, float, is_nullable, nullability_of, same_int_kind}
+use Rattle.vortex_model.specs.Content.{Raw, raw_null, raw_number}
+use Rattle.vortex_model.specs.Valid.{valid, in_range}
+use Rattle.vortex_model.proofs.Tests.{kind_so}
+use Rattle.vortex_kinds.specs.Numbers.{whole}
+use Rattle.vortex_types.specs.Parts.{is_primitive_kind, numbers_in_kind}
+use Rattle.vortex_values.specs.Numbers.{raw_of_number, integer_of, kind_of_number}
+use Rattle.vortex_values.specs.Parts.{as_number, whole_in}
+use Rattle.vortex_values.specs.declared.pvalue.PValue.{PValue}
+use Rattle.vortex_values.proofs.Views as values
+use Rattle.vortex_views.specs.Forms.{raw_of_integer}
+use Rattle.vortex_views.specs.Numeric.{kind_by}
+
+pub number_held : (k : Kind) (r : Raw) (o : Option PValue) → is_primitive_kind k ≡ true → valid k r ≡ true → option_map raw_of_number o ≡ as_number r → raw_of_integer o ≡ r
+number_held k raw_null None h v e = refl
+number_held k raw_null (Some p) h v e = absurd (cc (e))
+number_held k (raw_number i z) None h v e = absurd (cc (e))
+number_held k (raw_number i z) (Some p) h v e = cc (e)
+number_held (integer i n) r o h v e = absurd (cc (v))
+number_held (float f n) r o h v e = absurd (cc (v))
+number_held k r o h v e = absurd (cc (h))
+
+pub as_number-raw_of_integer : (o : Option PValue) → as_number (raw_of_integer o) ≡ option_map raw_of_number o
+as_number-raw_of_integer None = refl
+as_number-raw_of_integer (Some p) = refl
+
+second_true : (a b : Bool) → (a && b) ≡ true → b ≡ true
+second_true true b h = h
+second_true false b h = absurd (cc (h))
+
+-- a valid number is in the range of the type's numbers
+pub number_fits : (k : Kind) (v : PValue) (i : IntKind) → numbers_in_kind k ≡ Some (whole i) → valid k (raw_of_integer (Some v)) ≡ true → in_range i (integer_of v) ≡ true
+number_fits (integer j n) v i e h =
+    let same : j ≡ i = cc (e) in
+    ap (λ m. in_range m (integer_of v)) (sym same) ∙ second_true (same_int_kind (kind_of_number v) j) (in_range j (integer_of v)) h
+number_fits (float f n) v i e h = absurd (cc (e))
+number_fits k v i e h = absurd (cc (e))
+
+pub ruleset held = (values.one_level, number_held, as_number-raw_of_integer, number_fits)
+
+-- ---- types
+
+pub kind_by-nullable : (k l : Kind) → is_primitive_kind k ≡ true → numbers_in_kind k ≡ numbers_in_kind l → is_nullable (nullability_of k) ≡ true → kind_by k l ≡ k
+kind_by-nullable (integer i nullable) l h e n = refl
+kind_by-nullable (integer i non_nullable) l h e n = absurd (cc (n))
+kind_by-nullable (float f nullable) l h e n = refl
+kind_by-nullable (float f non_nullable) l h e n = absurd (cc (n))
+kind_by-nullable k l h e n = absurd (cc (h))
+
+pub kind_by-other : (k l : Kind) → is_primitive_kind k ≡ true → numbers_in_kind k ≡ numbers_in_kind l → is_nullable (nullability_of k) ≡ false → kind_by k l ≡ l
+kind_by-other (integer i nullable) l h e n = absurd (cc (n))
+kind_by-other (integer i non_nullable) (integer j m) h e n = cc (e)
+kind_by-other (integer i non_nullable) (float f m) h e n = absurd (cc (e))
+kind_by-other (integer i non_nullable) l h e n = absurd (cc (e))
+kind_by-other (float f nullable) l h e n = absurd (cc (n))
+kind_by-other (float f non_nullable) (float g m) h e n = cc (e)
+kind_by-other (float f non_nullable) (integer j m) h e n = absurd (cc (e))
+kind_by-other (float f non_nullable) l h e n = absurd (cc (e))
+kind_by-other k l h e n = absurd (cc (h))
+
+pub ruleset typed = (kind_by-nullable, kind_by-other)
+
+-- ---- what is made of two numbers
+
+pub kind_by-primitive : (k l : Kind) → is_primitive_kind k ≡ true → is_primitive_kind (kind_by k l) ≡ true
+kind_by-primitive (integer i n) l h = refl
+kind_by-primitive (float f n) l h = refl
+kind_by-primitive k l h = absurd (cc (h))
+
+same_kinds : (i j : IntKind) → same_int_kind i j ≡ true → i ≡ j
+same_kinds i j h = cc (kind_so (integer i nullable) (integer j nullable) (ap (λ b. b && true) h))
+
+first_true : (a b : Bool) → (a && b) ≡ true → a ≡ true
+first_true true b h = refl
+first_true false b h = absurd (cc (h))
+
+pub made_valid : (k l d : Kind) (p m : PValue) → d ≡ kind_by k l → is_primitive_kind k ≡ true → valid k (raw_of_integer (Some p)) ≡ true → kind_of_number m ≡ kind_of_number p → in_range (kind_of_number m) (integer_of m) ≡ true → valid d (raw_of_number m) ≡ true
+made_valid (integer j n) l d p m e h v s f =
+    let shared : same_int_kind (kind_of_number m) j ≡ true = ap (λ i. same_int_kind i j) s ∙ first_true (same_int_kind (kind_of_number p) j) (in_range j (integer_of p)) v in
+    let within : in_range j (integer_of m) ≡ true = ap (λ i. in_range i (integer_of m)) (sym (same_kinds (kind_of_number m) j shared)) ∙ f in
+    ap (λ c. valid c (raw_of_number m)) e ∙ ap (λ b. b && in_range j (integer_of m)) shared ∙ within
+made_valid (float f n) l d p m e h v s g = absurd (cc (v))
+made_valid k l d p m e h v s f = absurd (cc (h))
+
+pub ruleset combined = (values.one_level, typed, kind_by-primitive, made_valid)

@@ -1,0 +1,4 @@
+pub mod Equal
+pub mod Forms
+pub mod Numeric
+pub mod Views

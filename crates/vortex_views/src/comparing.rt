@@ -1,0 +1,50 @@
+//! Views of truth values, texts and bytes are equal where their values are, since their types differ in nullability alone.
+ghost use Rattle.std.specs.Cmp.{bool_eq_equiv, on_equiv, partial_equiv_from_equiv};
+ghost use Rattle.std.specs.Cmp.Lexicographic.{options_equiv, nat_list_eq_equiv};
+ghost use Rattle.vortex_views.specs.Equal.{truth_seen, text_seen, bytes_seen, same_truths, same_texts, same_bytes};
+
+use crate::binary_scalar::BinaryScalar;
+use crate::bool_scalar::BoolScalar;
+use crate::utf8_scalar::Utf8Scalar;
+
+impl PartialEq for BoolScalar<'_> {
+    ghost eq = { same_truths };
+
+    ghost laws = { partial_equiv_from_equiv (on_equiv truth_seen (options_equiv bool_eq_equiv)) };
+
+    fn eq(&self, other: &BoolScalar<'_>) -> bool {
+        self.value() == other.value()
+    }
+}
+
+impl Eq for BoolScalar<'_> {
+    ghost laws = { on_equiv truth_seen (options_equiv bool_eq_equiv) };
+}
+
+impl PartialEq for Utf8Scalar<'_> {
+    ghost eq = { same_texts };
+
+    ghost laws = { partial_equiv_from_equiv (on_equiv text_seen (options_equiv nat_list_eq_equiv)) };
+
+    fn eq(&self, other: &Utf8Scalar<'_>) -> bool {
+        self.value() == other.value()
+    }
+}
+
+impl Eq for Utf8Scalar<'_> {
+    ghost laws = { on_equiv text_seen (options_equiv nat_list_eq_equiv) };
+}
+
+impl PartialEq for BinaryScalar<'_> {
+    ghost eq = { same_bytes };
+
+    ghost laws = { partial_equiv_from_equiv (on_equiv bytes_seen (options_equiv nat_list_eq_equiv)) };
+
+    fn eq(&self, other: &BinaryScalar<'_>) -> bool {
+        self.value() == other.value()
+    }
+}
+
+impl Eq for BinaryScalar<'_> {
+    ghost laws = { on_equiv bytes_seen (options_equiv nat_list_eq_equiv) };
+}

@@ -1,0 +1,3 @@
+pub mod InFront
+pub mod SaidRightly
+pub mod ValueBounds
