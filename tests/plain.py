@@ -13,6 +13,9 @@ RANGES = {
     "u8": (0, 2**8 - 1), "u16": (0, 2**16 - 1), "u32": (0, 2**32 - 1), "u64": (0, 2**64 - 1),
     "i8": (-2**7, 2**7 - 1), "i16": (-2**15, 2**15 - 1), "i32": (-2**31, 2**31 - 1), "i64": (-2**63, 2**63 - 1),
 }
+# The kinds of leaves: integers, and these.
+PLAIN = ("bool", "utf8", "binary")
+DIGITS = "0123456789abcdefABCDEF"
 NAMES = {
     2: "NotARecord", 3: "UnkeptType", 4: "RepeatedName", 5: "InvalidValue", 6: "NotConvertible", 9: "UnknownPath", 10: "ElementStep",
     12: "UnknownColumn", 13: "NotALeaf", 14: "UnequalTypes", 15: "NotBoolean", 18: "BadLine", 19: "NoTable",
@@ -64,6 +67,8 @@ def no_float(value):
 def read_line(line):
     try:
         value = json.loads(line.decode("utf-8"), parse_int=whole, parse_constant=lambda _: bad())
+        # An escape of half a character is no text.
+        json.dumps(value, ensure_ascii=False).encode("utf-8")
     except (ValueError, RecursionError):
         bad()
     need(depth(value) <= 127 and no_float(value))
@@ -120,8 +125,7 @@ def read_type(value):
         need(isinstance(value["sorted"], bool) and not children[0][2])
     if kind == "extension":
         metadata = value.get("metadata", "")
-        need(isinstance(value["id"], str) and isinstance(metadata, str) and len(metadata) % 2 == 0)
-        need(all(digit in "0123456789abcdefABCDEF" for digit in metadata) and nullable == children[0][2])
+        need(isinstance(value["id"], str) and are_digits(metadata) and nullable == children[0][2])
     return (kind, None, nullable)
 
 
@@ -129,14 +133,49 @@ def is_number(value):
     return isinstance(value, int) and not isinstance(value, bool)
 
 
-def is_value(value, dtype):
-    """Whether a JSON value reads as a valid value of the type."""
-    kind, fields, nullable = dtype
+def are_digits(value):
+    """Whether a JSON value is a text of hexadecimal digits, two a byte."""
+    return isinstance(value, str) and len(value) % 2 == 0 and all(digit in DIGITS for digit in value)
+
+
+class Unreadable(Exception):
+    pass
+
+
+def reading(value, dtype):
+    """What a JSON value says at the type: null, a truth value, a number, a text as str, bytes as bytes, or a list."""
+    kind, fields, _ = dtype
     if value is None:
+        return None
+    if kind == "struct" and isinstance(value, list) and len(value) == len(fields):
+        return [reading(v, f[1]) for v, f in zip(value, fields)]
+    if kind == "bool" and isinstance(value, bool) or kind == "utf8" and isinstance(value, str):
+        return value
+    if kind == "binary" and are_digits(value):
+        return bytes.fromhex(value)
+    if kind in RANGES and is_between(value, *RANGES[kind]):
+        return value
+    raise Unreadable
+
+
+def row_reading(value, dtype):
+    """A row that says nothing is null, which no record at the root is."""
+    try:
+        return reading(value, dtype)
+    except Unreadable:
+        return None
+
+
+def is_content(content, dtype):
+    """Whether what was read is a value of the type."""
+    kind, fields, nullable = dtype
+    if content is None:
         return nullable
     if kind == "struct":
-        return isinstance(value, list) and len(value) == len(fields) and all(is_value(v, f[1]) for v, f in zip(value, fields))
-    return kind in RANGES and is_between(value, *RANGES[kind])
+        return isinstance(content, list) and len(content) == len(fields) and all(is_content(c, f[1]) for c, f in zip(content, fields))
+    if kind in PLAIN:
+        return isinstance(content, {"bool": bool, "utf8": str, "binary": bytes}[kind])
+    return kind in RANGES and is_between(content, *RANGES[kind])
 
 
 def read_path(value):
@@ -151,8 +190,13 @@ def read_operand(value):
         return ("col", value[1:])
     need(value[0] == "lit" and len(value) == 3)
     dtype = read_type(value[1])
-    need(dtype[0] in RANGES and is_value(value[2], dtype))
-    return ("lit", dtype, value[2])
+    need(dtype[0] in RANGES or dtype[0] in PLAIN)
+    try:
+        content = reading(value[2], dtype)
+    except Unreadable:
+        bad()
+    need(is_content(content, dtype))
+    return ("lit", dtype, content)
 
 
 def read_predicate(value):
@@ -160,7 +204,10 @@ def read_predicate(value):
     if value[0] in TESTS:
         need(len(value) == 3)
         return (value[0], read_operand(value[1]), read_operand(value[2]))
-    return read_operand(value)
+    operand = read_operand(value)
+    # A root that is a literal truth value comes with the other predicates.
+    need(operand[0] == "col" or operand[1][0] != "bool")
+    return operand
 
 
 def read_command(line):
@@ -169,25 +216,26 @@ def read_command(line):
     if value.get("cmd") == "create":
         keys(value, ["cmd", "dtype", "length"])
         need(is_number(value["length"]) and value["length"] >= 0)
-        return ("create", read_type(value["dtype"]))
+        return ("create", read_type(value["dtype"]), value["length"])
     if value.get("cmd") == "append":
         keys(value, ["cmd", "dtype", "rows"], ["layouts"])
         layouts = value.get("layouts", [])
         need(isinstance(layouts, list) and all(name in ("plain", "dictionary", "constant") for name in layouts))
         need(isinstance(value["rows"], list))
-        return ("append", read_type(value["dtype"]), value["rows"])
+        dtype = read_type(value["dtype"])
+        return ("append", dtype, [row_reading(row, dtype) for row in value["rows"]])
     need(value.get("cmd") == "scan")
     keys(value, ["cmd", "paths", "where"])
     need(isinstance(value["paths"], list))
     return ("scan", list(map(read_path, value["paths"])), read_predicate(value["where"]))
 
 
-# ---- the table: a type and a list of chunks, each a list of rows
+# ---- the table: a type, a bound length and a list of chunks, each a list of rows
 
 def check_part(dtype):
     """A record's names go before its parts, and these from left to right."""
     kind, fields, _ = dtype
-    if kind != "struct" and kind not in RANGES:
+    if kind != "struct" and kind not in RANGES and kind not in PLAIN:
         raise Refused(3)
     if kind == "struct":
         if len({name for name, _ in fields}) != len(fields):
@@ -206,10 +254,10 @@ def check_type(dtype):
 def append(table, dtype, rows):
     check_type(dtype)
     for i, row in enumerate(rows):
-        if not is_value(row, dtype):
+        if not is_content(row, dtype):
             raise Refused(5, i)
     for i, row in enumerate(rows):
-        if not is_value(row, table["dtype"]):
+        if not is_content(row, table["dtype"]):
             raise Refused(6, i)
     if rows:
         table["chunks"].append(rows)
@@ -240,9 +288,9 @@ def operand_type(dtype, operand):
 
 def check_predicate(dtype, predicate):
     if predicate[0] not in TESTS:
-        operand_type(dtype, predicate)
-        raise Refused(15)
-    if operand_type(dtype, predicate[1]) != operand_type(dtype, predicate[2]):
+        if operand_type(dtype, predicate) != "bool":
+            raise Refused(15)
+    elif operand_type(dtype, predicate[1]) != operand_type(dtype, predicate[2]):
         raise Refused(14)
 
 
@@ -258,17 +306,73 @@ def operand_value(dtype, operand, row):
     return row
 
 
-def is_hopeless(dtype, predicate, chunk):
-    """Whether the bounds of the two sides alone tell that no row satisfies the comparison."""
-    bounds = []
-    for operand in predicate[1:]:
-        values = [operand_value(dtype, operand, row) for row in chunk]
-        values = [value for value in values if value is not None]
-        if not values:
-            return False
-        bounds.append((min(values), max(values)))
-    (a, b), (c, d) = bounds
-    return {"=": a > d or c > b, "!=": a == d and b == c, ">": b <= c, ">=": b < c, "<": a >= d, "<=": a > d}[predicate[0]]
+def in_order(value):
+    """What stands for a value in comparisons: texts stand as their UTF-8."""
+    return value.encode("utf-8") if isinstance(value, str) else value
+
+
+def higher(character):
+    """The least higher character of as many bytes of UTF-8, if there is one."""
+    code = 0xE000 if character == "\ud7ff" else ord(character) + 1
+    if code < 0x110000 and len(chr(code).encode("utf-8")) == len(character.encode("utf-8")):
+        return chr(code)
+    return None
+
+
+def low(value, length):
+    """The longest beginning of at most so many bytes, of a text of whole characters."""
+    if isinstance(value, bytes):
+        return value[:length]
+    if isinstance(value, str):
+        return value.encode("utf-8")[:length].decode("utf-8", "ignore")
+    return value
+
+
+def high(value, length):
+    """The value where it is short; else the least such string of bytes above it, or its low as a text raised at the latest character that can be. None: there is
+    no bound."""
+    if not isinstance(value, (bytes, str)) or len(in_order(value)) <= length:
+        return value
+    begin = low(value, length)
+    if isinstance(value, bytes):
+        number = int.from_bytes(begin, "big") + 1
+        return number.to_bytes(length, "big") if number < 256**length else None
+    for place in reversed(range(len(begin))):
+        if higher(begin[place]):
+            return begin[:place] + higher(begin[place])
+    return None
+
+
+def bounds_of(operand, values, length):
+    """What is known of an operand's values: the low of the least and the high of the greatest that isn't null. A literal is its own."""
+    values = [value for value in values if value is not None]
+    if not values:
+        return (None, None)
+    if operand[0] == "lit":
+        return (operand[2], operand[2])
+    return (low(min(values, key=in_order), length), high(max(values, key=in_order), length))
+
+
+def is_hopeless(dtype, predicate, chunk, length):
+    """Whether the bounds of the two sides alone tell that no row satisfies the comparison. One with a bound that isn't there tells nothing, and of a truth value there
+    is no proof."""
+    if predicate[0] not in TESTS:
+        return False
+    sides = [bounds_of(operand, [operand_value(dtype, operand, row) for row in chunk], length) for operand in predicate[1:]]
+    (a, b), (c, d) = sides
+    tells = lambda op, x, y: x is not None and y is not None and TESTS[op](in_order(x), in_order(y))
+    return {
+        "=": tells(">", a, d) or tells(">", c, b), "!=": tells("=", a, d) and tells("=", b, c), ">": tells("<=", b, c), ">=": tells("<", b, c),
+        "<": tells(">=", a, d), "<=": tells(">", a, d),
+    }[predicate[0]]
+
+
+def is_selected(dtype, predicate, row):
+    """A comparison with null is neither true nor false."""
+    if predicate[0] not in TESTS:
+        return operand_value(dtype, predicate, row) is True
+    x, y = (operand_value(dtype, operand, row) for operand in predicate[1:])
+    return x is not None and y is not None and TESTS[predicate[0]](in_order(x), in_order(y))
 
 
 def is_kept(paths, here):
@@ -296,16 +400,15 @@ def scan(table, paths, predicate):
     check_predicate(dtype, predicate)
     rows, skipped, tested = [], [], 0
     for number, chunk in enumerate(table["chunks"]):
-        if is_hopeless(dtype, predicate, chunk):
+        if is_hopeless(dtype, predicate, chunk, table["length"]):
             skipped.append(number)
         else:
             tested += len(chunk)
         for row in chunk:
-            x, y = (operand_value(dtype, operand, row) for operand in predicate[1:])
-            if x is not None and y is not None and TESTS[predicate[0]](x, y):
-                rows.append(cut_row(dtype, row, paths, []))
+            if is_selected(dtype, predicate, row):
+                rows.append(row_json(cut_row(dtype, row, paths, [])))
     return {
-        "dtype": type_json(cut_type(dtype, paths, [])), "ok": True, "proofs": len(table["chunks"]), "rows": rows,
+        "dtype": type_json(cut_type(dtype, paths, [])), "ok": True, "proofs": len(table["chunks"]) if predicate[0] in TESTS else 0, "rows": rows,
         "rows_tested": tested, "skipped": skipped, "whole": [],
     }
 
@@ -315,6 +418,13 @@ def type_json(dtype):
     if kind != "struct":
         return {"kind": kind, "nullable": nullable}
     return {"children": [type_json(part) for _, part in fields], "kind": kind, "names": [name for name, _ in fields], "nullable": nullable}
+
+
+def row_json(content):
+    """Bytes are a text of hexadecimal digits, in lower case."""
+    if isinstance(content, list):
+        return [row_json(value) for value in content]
+    return content.hex() if isinstance(content, bytes) else content
 
 
 def compact(value):
@@ -330,7 +440,7 @@ class Session:
             command = read_command(line)
             if command[0] == "create":
                 check_type(command[1])
-                self.table = {"dtype": command[1], "chunks": []}
+                self.table = {"dtype": command[1], "length": command[2], "chunks": []}
                 return compact({"ok": True})
             if self.table is None:
                 raise Refused(19)
@@ -354,7 +464,8 @@ def answers(data):
 # ---- random sessions
 
 def random_kind(chance):
-    return {"kind": chance.choice(list(RANGES)), **({"nullable": chance.random() < 0.5} if chance.random() < 0.7 else {})}
+    kinds = list(RANGES) if chance.random() < 0.4 else PLAIN
+    return {"kind": chance.choice(kinds), **({"nullable": chance.random() < 0.5} if chance.random() < 0.7 else {})}
 
 
 def random_record(chance, width, depth):
@@ -374,7 +485,7 @@ def other_kind(chance):
     """A type that tables don't hold, or none at all."""
     child = random_kind(chance)
     dtype = chance.choice([
-        {"kind": "null", "nullable": True}, {"kind": "null"}, {"kind": "bool"}, {"kind": "utf8"}, {"kind": "binary"}, {"kind": "variant"},
+        {"kind": "null", "nullable": True}, {"kind": "null"}, {"kind": "variant"}, {"kind": "f32", "nullable": True},
         {"kind": "f64"}, {"kind": "decimal", "precision": chance.randint(0, 77), "scale": chance.choice([-76, 0, 76, 77])},
         {"kind": "list", "children": [child]}, {"kind": "list"}, {"kind": "fixed_size_list", "size": 2, "children": [child]},
         {"kind": "map", "sorted": False, "children": [child, child]}, {"kind": "union", "names": ["a", "b"], "tags": [0, chance.randint(0, 1)], "children": [child, child]},
@@ -395,6 +506,8 @@ def random_type(chance, width):
 
 def alike(chance, dtype):
     """The same records, of other names, kinds and nullability; mostly so that rows can be converted."""
+    if dtype["kind"] in PLAIN:
+        return {**dtype, "nullable": not dtype.get("nullable")} if chance.random() < 0.1 else random_kind(chance) if chance.random() < 0.05 else dtype
     if dtype["kind"] not in RANGES and dtype["kind"] != "struct":
         return dtype
     if dtype["kind"] != "struct":
@@ -414,11 +527,33 @@ def random_number(chance, kind):
     return number if low <= number <= high or chance.random() < 0.005 else 0
 
 
+# Of each length the least and the greatest character, the neighbours of those that are no characters, and some plain ones; those that JSON escapes too.
+LETTERS = ["a", "b", "a", "b", "\x7f", "\x80", "\u07ff", "\u0800", "\ud7ff", "\ue000", "\uffff", "\U00010000", "\U0010ffff", "\U0001faa9", "\x00", "\n", "\"", "\\", "/"]
+
+
+def random_text(chance):
+    return "".join(chance.choice(LETTERS) for _ in range(chance.choice([0, 1, 1, 2, 2, 3, 4, 7, 20])))
+
+
+def random_bytes(chance):
+    data = bytes(chance.choice([0, 1, 0x61, 0x7f, 0x80, 0xfe, 0xff, 0xff]) for _ in range(chance.choice([0, 1, 1, 2, 2, 3, 4, 7, 20])))
+    digits = data.hex() if chance.random() < 0.8 else data.hex().upper()
+    return digits + chance.choice(["0", "g0", "\u00e9", " "]) if chance.random() < 0.005 else digits
+
+
+def random_leaf(chance, kind):
+    if kind == "bool":
+        return chance.random() < 0.5
+    if kind == "utf8":
+        return random_text(chance)
+    return random_bytes(chance) if kind == "binary" else random_number(chance, kind)
+
+
 def random_value(chance, dtype):
     if dtype.get("nullable") and chance.random() < 0.2:
         return None
     if dtype["kind"] != "struct":
-        return random_number(chance, dtype["kind"])
+        return random_leaf(chance, dtype["kind"]) if chance.random() < 0.998 else chance.choice([True, 0, "", "x", "00", [], {}])
     value = [random_value(chance, child) for child in dtype["children"]]
     if chance.random() < 0.003:
         value = chance.choice([None, [], {}, "x", 0, value + [0], [[0]] * len(value)])
@@ -444,7 +579,7 @@ def random_operand(chance, columns, kinds):
         return ["col"] + (column if chance.random() < 0.97 else chance.choice([[], ["zz"], column[:-1], column + column]))
     kind = chance.choice(kinds) if kinds and chance.random() < 0.95 else "u16"
     dtype = {"kind": kind, "nullable": chance.random() < 0.2}
-    return ["lit", dtype, None if dtype["nullable"] and chance.random() < 0.3 else random_number(chance, kind)]
+    return ["lit", dtype, None if dtype["nullable"] and chance.random() < 0.3 else random_leaf(chance, kind)]
 
 
 def random_scan(chance, dtype):
@@ -473,7 +608,7 @@ def random_session(chance):
         roll = chance.random()
         if roll < 0.08 or not lines:
             dtype = random_type(chance, chance.randint(0, 4))
-            lines.append({"cmd": "create", "dtype": dtype, "length": chance.choice([0, 16, 2**64 - 1])})
+            lines.append({"cmd": "create", "dtype": dtype, "length": chance.choice([0, 1, 2, 3, 4, 5, 16, 2**64 - 1])})
         elif roll < 0.5:
             batch = dtype if chance.random() < 0.6 else alike(chance, dtype)
             if chance.random() < 0.05:

@@ -9,7 +9,7 @@ use Rattle.vortex_model.specs.Refusal.{Refusal, invalid_value, not_convertible, 
 use Rattle.vortex_model.specs.Command.{unless, first_invalid, first_unconvertible}
 use Rattle.vortex_values.specs.View.{raw_in, content_in}
 use Rattle.vortex_values.specs.declared.scalar_value.ScalarValue.{ScalarValue}
-use Rattle.vortex_chunks.specs.Bounds.{row_content}
+use Rattle.vortex_chunk_bounds.specs.Bounds.{row_content}
 use Rattle.vortex_chunks.specs.Error.{Explains}
 use Rattle.vortex_chunks.specs.declared.error.TableError.{TableError}
 use Rattle.vortex_chunks.proofs.Explained.{explained_first}

@@ -3,9 +3,9 @@ use Rattle.std.proofs.Common.{◌≡◌, refl, ◌∙◌, ap, ℕ, ◌+◌, List
 use Rattle.std.proofs.lemmas.List.{length-map}
 use Rattle.std.proofs.lemmas.List.Concat.{length-flat_map}
 use Rattle.vortex_model.specs.Content.{Content}
-use Rattle.vortex_chunks.specs.Bounds.{row_content}
-use Rattle.vortex_chunks.specs.Chunk.{chunk_rows, row_count}
-use Rattle.vortex_chunks.specs.declared.chunk.Chunk.{Chunk}
+use Rattle.vortex_chunk_bounds.specs.Bounds.{row_content}
+use Rattle.vortex_chunk_bounds.specs.Chunk.{chunk_rows, row_count}
+use Rattle.vortex_chunk_bounds.specs.declared.chunk.Chunk.{Chunk}
 
 counted : (n : ℕ) (chunks : List Chunk) → fold (λ m (rows : List Content). m + length rows) n (map chunk_rows chunks) ≡ fold (λ m c. m + length c.rows.items) n chunks
 counted n [] = refl

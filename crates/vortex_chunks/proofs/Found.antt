@@ -1,5 +1,5 @@
 -- What a scan takes of a chunk.
-use Rattle.std.proofs.Common.{◌≡◌, sym, ◌∙◌, ap, nat_lt, List, [], length, map, filter, get_or, true, ◌&&◌, IsTrue}
+use Rattle.std.proofs.Common.{◌≡◌, sym, ◌∙◌, ap, List, [], map, filter, get_or, true, IsTrue}
 use Rattle.std.specs.List.{list_all}
 use Rattle.vortex_model.specs.Kind.{Kind}
 use Rattle.vortex_model.specs.Content.{Content}
@@ -10,37 +10,34 @@ use Rattle.vortex_model.specs.Scan as model
 use Rattle.vortex_model.specs.Scan.{skipped, whole, tested, chunk_outcome}
 use Rattle.vortex_model.specs.Pruning.{IsAsked, found_in}
 use Rattle.vortex_model.proofs.Skipping.{found_rightly}
-use Rattle.vortex_model.proofs.ContentOrder.{true_left, true_right}
 use Rattle.vortex_values.specs.View.{raw_of}
 use Rattle.vortex_values.specs.declared.scalar_value.ScalarValue.{ScalarValue}
-use Rattle.vortex_chunks.specs.Chunk.{chunk_rows}
+use Rattle.vortex_chunk_bounds.specs.Chunk.{chunk_rows}
 use Rattle.vortex_cuts.specs.Cut.{content_cut, kept_by, raw_cut}
 use Rattle.vortex_chunks.specs.Plan.{IsPlan, table_in, paths_in, predicate_in}
 use Rattle.vortex_chunks.specs.Progress.{found_rows}
 use Rattle.vortex_chunks.specs.Selected.{is_selected, cut_rows, selected_rows, CanBeCut}
-use Rattle.vortex_schema.specs.Leaves.{leaf_positions}
-use Rattle.vortex_chunks.specs.Table.{is_formed, same_leaves}
-use Rattle.vortex_chunks.specs.declared.chunk.Chunk.{Chunk}
+use Rattle.vortex_chunks.specs.Table.{is_formed}
+use Rattle.vortex_chunk_bounds.specs.declared.chunk.Chunk.{Chunk}
 use Rattle.vortex_chunks.specs.declared.plan.Plan.{Plan}
 use Rattle.vortex_cuts.proofs.Cuts.{cut_is_valid}
+use Rattle.vortex_chunks.proofs.Formed.{valid_rows as formed_rows}
 use Rattle.vortex_chunks.proofs.Rows.{list_all_at, rows_said, kept_each, kept_all}
 
 pub asked_of : (plan : Plan) → IsPlan plan → IsAsked (table_in plan) (predicate_in plan)
 asked_of plan is = record { faultless = is.faultless; no_like = is.no_like }
 
-module _ (plan : Plan) (is : IsPlan plan) (chunk : Chunk) (formed : IsTrue (is_formed (table_in plan).kind chunk)) where
+module _ (plan : Plan) (is : IsPlan plan) (chunk : Chunk) (formed : IsTrue (is_formed (table_in plan).default (table_in plan).kind chunk)) where
   abbrev k : Kind
   k = (table_in plan).kind
 
   abbrev rows : List ScalarValue
   rows = chunk.rows.items
 
-  valid_rows : list_all (λ row. valid k (raw_of row)) rows ≡ true
-  valid_rows =
-      true_left (list_all (λ row. valid k (raw_of row)) rows) (same_leaves chunk.leaves.value.items (leaf_positions k))
-      (true_right (nat_lt 0 (length rows)) (list_all (λ row. valid k (raw_of row)) rows && (same_leaves chunk.leaves.value.items (leaf_positions k))) formed)
+  abbrev valid_rows : list_all (λ row. valid k (raw_of row)) rows ≡ true
+  valid_rows = formed_rows (table_in plan).default k chunk formed
 
-  pub can_be_cut : CanBeCut plan.cut rows
+  pub can_be_cut : CanBeCut plan.prepared.now.cut rows
   can_be_cut i d inside =
       (λ j. valid (is.cut_kind j) (raw_cut (is.cut_values j) (raw_of (get_or rows i d))))
       ∙ cut_is_valid (paths_in plan) k (raw_of (get_or rows i d)) (list_all_at (λ row. valid k (raw_of row)) rows i d valid_rows inside)
@@ -55,14 +52,14 @@ module _ (plan : Plan) (is : IsPlan plan) (chunk : Chunk) (formed : IsTrue (is_f
   none_found e = found_by skipped e
 
   pub all_found : whole ≡ chunk_outcome (table_in plan) (predicate_in plan) (chunk_rows chunk) →
-      cut_rows plan.cut (chunk_rows chunk) ≡ found_rows k (paths_in plan) (predicate_in plan) (chunk_rows chunk)
+      cut_rows plan.prepared.now.cut (chunk_rows chunk) ≡ found_rows k (paths_in plan) (predicate_in plan) (chunk_rows chunk)
   all_found e = ap (λ t. map (content_cut t) (chunk_rows chunk)) is.cut_values ∙ kept_all k (paths_in plan) rows valid_rows ∙ sym (found_by whole e)
 
-  same_test : (row : Content) → is_selected plan.bound row ≡ selects k (predicate_in plan) row
+  same_test : (row : Content) → is_selected plan.prepared.now.bound row ≡ selects k (predicate_in plan) row
   same_test row = ap is_true (is.bound row)
 
-  pub some_found : cut_rows plan.cut (selected_rows plan.bound (chunk_rows chunk)) ≡ found_rows k (paths_in plan) (predicate_in plan) (chunk_rows chunk)
+  pub some_found : cut_rows plan.prepared.now.cut (selected_rows plan.prepared.now.bound (chunk_rows chunk)) ≡ found_rows k (paths_in plan) (predicate_in plan) (chunk_rows chunk)
   some_found =
-      ap (λ t. map (content_cut t) (selected_rows plan.bound (chunk_rows chunk))) is.cut_values
+      ap (λ t. map (content_cut t) (selected_rows plan.prepared.now.bound (chunk_rows chunk))) is.cut_values
       ∙ (λ j. map (content_cut (kept_by (paths_in plan) k)) (filter (λ row. same_test row j) (chunk_rows chunk)))
       ∙ kept_each k (paths_in plan) (selects k (predicate_in plan)) rows valid_rows

@@ -1,5 +1,5 @@
 -- The parts of records by their names.
-use Rattle.std.proofs.Common.{◌≡◌, refl, List, ℕ, Option, option_and_then}
+use Rattle.std.proofs.Common.{◌≡◌, refl, List, ℕ, option_and_then}
 use Rattle.vortex_model.specs.Kind.{Kind, struct}
 use Rattle.vortex_model.specs.Path.{position_named, field_at}
 use Rattle.vortex_model.specs.Command.{part_named}

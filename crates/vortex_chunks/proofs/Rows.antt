@@ -11,7 +11,7 @@ use Rattle.vortex_model.proofs.Contents.{said}
 use Rattle.vortex_model.proofs.Tests.{has_so}
 use Rattle.vortex_values.specs.View.{raw_of}
 use Rattle.vortex_values.specs.declared.scalar_value.ScalarValue.{ScalarValue}
-use Rattle.vortex_chunks.specs.Bounds.{row_content}
+use Rattle.vortex_chunk_bounds.specs.Bounds.{row_content}
 use Rattle.vortex_cuts.specs.Cut.{content_cut, kept_by}
 use Rattle.vortex_cuts.proofs.Cuts.{cut_is_kept}
 

@@ -4,11 +4,11 @@ use Rattle.std.proofs.Math.Seq.{drop-cons}
 use Rattle.vortex_model.specs.Kind.{Kind}
 use Rattle.vortex_model.specs.Content.{Content}
 use Rattle.vortex_model.specs.Scan.{Outcome, ScanAnswer, chunk_outcome, scanned}
-use Rattle.vortex_chunks.specs.Chunk.{chunk_rows}
+use Rattle.vortex_chunk_bounds.specs.Chunk.{chunk_rows}
 use Rattle.vortex_chunks.specs.Plan.{table_in, paths_in, predicate_in}
 use Rattle.vortex_chunks.specs.Progress.{with_chunk, with_chunks, no_answer}
 use Rattle.vortex_chunks.specs.Table.{is_formed}
-use Rattle.vortex_chunks.specs.declared.chunk.Chunk.{Chunk}
+use Rattle.vortex_chunk_bounds.specs.declared.chunk.Chunk.{Chunk}
 use Rattle.vortex_chunks.specs.declared.plan.Plan.{Plan}
 use Rattle.vortex_chunks.proofs.Rows.{list_all_at}
 use Rattle.vortex_chunks.proofs.Progress.{whole_answer}
@@ -31,8 +31,8 @@ module _ (plan : Plan) where
       (λ j. ahead (add-one i j) (drop (add-one i j) chunks) (e j))
       ∙ sym (ap (λ cs. ahead i cs a) (drop-cons chunks i chunk inside ∙ ap (λ c. c ∷ drop (suc i) chunks) (sym is)))
 
-  pub formed_at : (i : ℕ) (chunk : Chunk) → i < length plan.table.now.chunks.items → chunk ≡ get_or plan.table.now.chunks.items i chunk → IsTrue (is_formed k chunk)
-  formed_at i chunk inside is = ap (is_formed k) is ∙ list_all_at (is_formed k) plan.table.now.chunks.items i chunk plan.table.now.formed inside
+  pub formed_at : (i : ℕ) (chunk : Chunk) → i < length plan.table.now.chunks.items → chunk ≡ get_or plan.table.now.chunks.items i chunk → IsTrue (is_formed (table_in plan).default k chunk)
+  formed_at i chunk inside is = ap (is_formed (table_in plan).default k) is ∙ list_all_at (is_formed (table_in plan).default k) plan.table.now.chunks.items i chunk plan.table.now.formed inside
 
   pub all_ahead : ahead 0 plan.table.now.chunks.items (no_answer k (paths_in plan)) ≡ scanned (table_in plan) (paths_in plan) (predicate_in plan)
   all_ahead = whole_answer chunk_rows plan.table.now.chunks.items (table_in plan) refl refl (paths_in plan) (predicate_in plan)

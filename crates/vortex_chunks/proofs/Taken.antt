@@ -9,7 +9,7 @@ use Rattle.vortex_scalars.specs.Scalar.{scalar_kind, scalar_content}
 use Rattle.vortex_scalars.specs.declared.scalar.Scalar.{Scalar}
 use Rattle.vortex_values.specs.declared.scalar_value.ScalarValue.{ScalarValue}
 use Rattle.vortex_expr.specs.Bound.{Bound}
-use Rattle.vortex_chunks.specs.Bounds.{row_content}
+use Rattle.vortex_chunk_bounds.specs.Bounds.{row_content}
 use Rattle.vortex_cuts.specs.Cut.{tree_of, content_cut, raw_cut}
 use Rattle.vortex_chunks.specs.Selected.{is_selected, cut_rows, selected_rows}
 use Rattle.vortex_cuts.specs.declared.cut.Cut.{Cut}

@@ -1,12 +1,7 @@
-pub mod AnswerView
-pub mod Bounds
-pub mod Chunk
 pub mod Error
-pub mod Given
 pub mod Outcome
 pub mod Plan
 pub mod Progress
-pub mod Proved
 pub mod Selected
 pub mod Table
 pub mod TableView

@@ -2,7 +2,7 @@
 use Rattle.std.specs.Prelude.{[], map}
 use Rattle.vortex_model.specs.Table as model
 use Rattle.vortex_types.specs.View.{kind_of}
-use Rattle.vortex_chunks.specs.Chunk.{chunk_rows}
+use Rattle.vortex_chunk_bounds.specs.Chunk.{chunk_rows}
 use Rattle.vortex_chunks.specs.declared.table.Table.{Table}
 
 -- each chunk is a group of its own

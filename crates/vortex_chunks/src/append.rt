@@ -9,18 +9,14 @@ ghost use Rattle.vortex_model.specs.Refusal.{invalid_value, not_convertible, or_
 ghost use Rattle.vortex_model.specs.Command.{unless, first_invalid, first_unconvertible};
 ghost use Rattle.vortex_types.specs.View.{kind_of};
 ghost use Rattle.vortex_values.specs.View.{raw_of, raw_in, raw_at, content_at};
-ghost use Rattle.vortex_chunks.specs.Bounds.{row_content};
+ghost use Rattle.vortex_chunk_bounds.specs.Bounds.{row_content};
 ghost use Rattle.vortex_chunks.specs.Error.{Explains};
 
-use crate::bounds::all_bounds;
 use crate::check::check_type;
-use crate::chunk::Chunk;
 use crate::error::TableError;
-use std::alloc::{AllocError, Global};
-use std::rc::Rc;
-use vortex_scalars::cast::cast_value;
-use vortex_scalars::validate::validate;
-use vortex_schema::leaves::Positions;
+use std::alloc::Global;
+use vortex_casts::cast::cast_value;
+use vortex_casts::validate::validate;
 use vortex_types::dtype::DType;
 use vortex_values::error::ScalarError;
 use vortex_values::scalar_value::ScalarValue;
@@ -132,22 +128,4 @@ pub fn convert_owned_rows(
         push_converted(alloc, source, target, value.as_ref(), &mut rows)?;
     }
     Ok(rows)
-}
-
-/// The rows as a chunk, with the bounds of these leaves.
-pub fn new_chunk(
-    alloc: Global,
-    leaves: &Rc<Vec<Positions>>,
-    rows: Vec<ScalarValue>,
-) -> Result<Chunk, AllocError>
-    ensures rows { IfOk result (λ chunk. chunk.rows.items ≡ rows.items) }
-    ensures leaves { IfOk result (λ chunk. chunk.leaves.value.items ≡ leaves.now.value.items) }
-{
-    let bounds = all_bounds(alloc, &rows, leaves)?;
-    let leaves = leaves.clone()?;
-    Ok(Chunk {
-        rows,
-        leaves,
-        bounds,
-    })
 }

@@ -1,12 +1,8 @@
-//! Tables of rows in chunks, each with bounds for its leaves, and scans that skip chunks.
+//! Tables of rows in chunks, and scans that skip chunks.
 #![tactic(auto)]
 
-pub mod answer;
 mod append;
-mod binder;
-pub mod bounds;
 mod check;
-pub mod chunk;
 pub mod error;
 mod make;
 mod plan;

@@ -3,21 +3,21 @@ ghost use Rattle.std.specs.Prelude.{◌≡◌, None, OnOk, IfOk, IfErr, Option, 
 ghost use Rattle.vortex_model.specs.Content.{Content};
 ghost use Rattle.vortex_model.specs.Truth.{value_at};
 ghost use Rattle.vortex_model.specs.Pruning.{has_no_like};
+ghost use Rattle.vortex_model.specs.Rewrite.{falsifier, satisfier};
 ghost use Rattle.vortex_expr.specs.Bound.{bound_value};
-ghost use Rattle.vortex_model.specs.Refusal.{Refusal};
-ghost use Rattle.vortex_model.specs.Command.{predicate_fault, scan_fault};
+ghost use Rattle.vortex_model.specs.Refusal.{Refusal, or_else};
+ghost use Rattle.vortex_model.specs.Command.{paths_fault, predicate_fault};
 ghost use Rattle.vortex_types.specs.View.{kind_of};
 ghost use Rattle.vortex_paths.specs.View.{steps_of};
+ghost use Rattle.vortex_cuts.specs.Cut.{paths_of};
 ghost use Rattle.vortex_expr.specs.Faults.{IsReason};
 ghost use Rattle.vortex_chunks.specs.Error.{Explains};
-ghost use Rattle.vortex_chunks.specs.Plan.{IsPlanOf};
-ghost use Rattle.vortex_chunks.specs.TableView.{table_of};
+ghost use Rattle.vortex_chunks.specs.Plan.{IsPreparedFor};
 
 use crate::check::check_paths;
 use crate::error::TableError;
-use crate::plan::Plan;
-use crate::table::Table;
-use std::alloc::Global;
+use crate::plan::{Prepared, Proofs};
+use std::alloc::{AllocError, Global};
 use vortex_cuts::cut::make_cut;
 use vortex_expr::bind::{PredicateError, bind};
 use vortex_expr::bound::BoundExpression;
@@ -57,29 +57,34 @@ fn bind_predicate(
     }
 }
 
-/// Tests what is asked for, and makes what the chunks are looked at by.
-pub fn make_plan<'a>(
-    alloc: Global,
-    table: &'a Table,
-    paths: &'a [FieldPath],
-    predicate: &'a Expression,
-) -> Result<Plan<'a>, TableError>
-    ensures plan { IfOk result (λ plan. IsPlanOf table.now paths.now predicate.now plan) }
-    ensures accepted { OnOk result (scan_fault (table_of table.now) (map steps_of paths.now) predicate.now ≡ None) }
-    ensures refused { IfErr result (λ e. Explains ⊥ (scan_fault (table_of table.now) (map steps_of paths.now) predicate.now) e) }
+// The proofs by which chunks are skipped or taken whole.
+fn make_proofs(alloc: Global, dtype: &DType, predicate: &Expression) -> Result<Proofs, AllocError>
+    ensures falsifier { IfOk result (λ proofs. proofs.falsifier ≡ falsifier (kind_of dtype.now) predicate.now) }
+    ensures satisfier { IfOk result (λ proofs. proofs.satisfier ≡ satisfier (kind_of dtype.now) predicate.now) }
 {
-    check_paths(&table.dtype, paths)?;
-    let bound = bind_predicate(alloc, predicate, &table.dtype)?;
-    let falsifier = falsify(alloc, &table.dtype, predicate)?;
-    let satisfier = satisfy(alloc, &table.dtype, predicate)?;
-    let cut = make_cut(alloc, &table.dtype, paths)?;
-    Ok(Plan {
-        table,
-        paths,
-        predicate,
-        bound,
+    let falsifier = falsify(alloc, dtype, predicate)?;
+    let satisfier = satisfy(alloc, dtype, predicate)?;
+    Ok(Proofs {
         falsifier,
         satisfier,
-        cut,
     })
+}
+
+/// Tests what is asked for of rows of this type, and makes what the chunks are looked at by.
+pub fn prepare(
+    alloc: Global,
+    dtype: &DType,
+    paths: &[FieldPath],
+    predicate: &Expression,
+) -> Result<Prepared, TableError>
+    ensures prepared { IfOk result (λ made. IsPreparedFor (kind_of dtype.now) (paths_of paths.now) predicate.now made) }
+    ensures accepted { OnOk result (or_else (paths_fault 0 (kind_of dtype.now) (map steps_of paths.now)) (predicate_fault (kind_of dtype.now) predicate.now) ≡ None) }
+    ensures refused { IfErr result (λ e. Explains ⊥
+        (or_else (paths_fault 0 (kind_of dtype.now) (map steps_of paths.now)) (predicate_fault (kind_of dtype.now) predicate.now)) e) }
+{
+    check_paths(dtype, paths)?;
+    let bound = bind_predicate(alloc, predicate, dtype)?;
+    let proofs = make_proofs(alloc, dtype, predicate)?;
+    let cut = make_cut(alloc, dtype, paths)?;
+    Ok(Prepared { bound, proofs, cut })
 }

@@ -1,24 +1,23 @@
 //! A scan, and what becomes of its chunks.
 ghost use Rattle.std.specs.Prelude.{◌≡◌, OnOk};
 ghost use Rattle.vortex_chunks.specs.Progress.{push_if, tested_rows};
-ghost use Rattle.vortex_chunks.specs.Chunk.{chunk_rows};
+ghost use Rattle.vortex_chunk_bounds.specs.Chunk.{chunk_rows};
 ghost use Rattle.vortex_chunks.specs.Outcome.{outcome_of};
 
-use crate::answer::ScanAnswer;
-use crate::binder::ChunkBinder;
-use crate::chunk::Chunk;
 use crate::select::{select_rows, take_rows};
 use crate::table::Table;
 use std::alloc::{AllocError, Global};
+use vortex_chunk_bounds::binder::is_proved;
+use vortex_chunk_bounds::chunk::Chunk;
+use vortex_cuts::answer::ScanAnswer;
 use vortex_cuts::cut::Cut;
 use vortex_expr::bound::BoundExpression;
 use vortex_expr::expression::Expression;
 use vortex_paths::path::FieldPath;
-use vortex_rewrite::stats::prove_with;
 use vortex_scalars::scalar::Scalar;
 
 /// What becomes of a chunk.
-#[derive(Clone, Copy, Debug, PartialEq, Eq)]
+#[derive(Clone, Copy)]
 pub enum Outcome {
     /// None of its rows is selected, by its bounds.
     Skipped,
@@ -28,16 +27,28 @@ pub enum Outcome {
     Tested,
 }
 
-/// A scan of a table, and what is made of it once.
+/// What proves of a chunk's bounds that none of its rows is selected, and that each is.
 #[derive(Drop)]
+pub struct Proofs {
+    pub falsifier: Option<Expression>,
+    pub satisfier: Option<Expression>,
+}
+
+/// What is made of a scan once, before its chunks.
+#[derive(Drop)]
+pub struct Prepared {
+    pub bound: BoundExpression,
+    pub proofs: Proofs,
+    pub cut: Cut,
+}
+
+/// A scan of a table, and what is prepared for it.
+#[derive(Clone, Copy, Drop)]
 pub struct Plan<'a> {
     pub table: &'a Table,
     pub paths: &'a [FieldPath],
     pub predicate: &'a Expression,
-    pub bound: BoundExpression,
-    pub falsifier: Option<Expression>,
-    pub satisfier: Option<Expression>,
-    pub cut: Cut,
+    pub prepared: &'a Prepared,
 }
 
 impl Plan<'_> {
@@ -45,47 +56,34 @@ impl Plan<'_> {
     ghost use Rattle.vortex_model.specs.Scan.{chunk_outcome, scanned};
     ghost use Rattle.vortex_types.specs.View.{kind_of};
     ghost use Rattle.vortex_scalars.specs.Scalar.{scalar_kind, scalar_content};
-    ghost use Rattle.vortex_chunks.specs.AnswerView.{answer_of, IsTyped};
-    ghost use Rattle.vortex_chunks.specs.Chunk.{chunk_rows};
+    ghost use Rattle.vortex_cuts.specs.Answer.{answer_of, IsTyped};
+    ghost use Rattle.vortex_chunk_bounds.specs.Chunk.{chunk_rows};
     ghost use Rattle.vortex_chunks.specs.Outcome.{outcome_of};
     ghost use Rattle.vortex_chunks.specs.Plan.{IsPlan, table_in, paths_in, predicate_in};
     ghost use Rattle.vortex_chunks.specs.Progress.{with_chunk, found_rows, proofs_at};
     ghost use Rattle.vortex_chunks.specs.Table.{is_formed};
-    ghost use Rattle.vortex_chunks.specs.Proved.{proved_by};
-
-    // Whether the proof, if there is one, is true of what a chunk's bounds say.
-    fn is_proved(
-        &self,
-        alloc: Global,
-        proof: &Option<Expression>,
-        chunk: &Chunk,
-    ) -> Result<bool, AllocError>
-        ensures { IfOk result (λ proved. proved ≡ proved_by (table_in self.now).kind chunk.now proof.now) }
-    {
-        let binder = ChunkBinder {
-            dtype: &self.table.dtype,
-            chunk,
-        };
-        match proof {
-            Some(proof) => {
-                let proved = prove_with(alloc, proof, &binder)?;
-                Ok(proved)
-            }
-            None => Ok(false),
-        }
-    }
 
     // What the bounds of a chunk say of its rows.
     fn outcome(&self, alloc: Global, chunk: &Chunk) -> Result<Outcome, AllocError>
         requires plan { IsPlan self.now }
-        requires formed { IsTrue (is_formed (table_in self.now).kind chunk.now) }
+        requires formed { IsTrue (is_formed (table_in self.now).default (table_in self.now).kind chunk.now) }
         ensures { IfOk result (λ outcome. outcome_of outcome ≡ chunk_outcome (table_in self.now) (predicate_in self.now) (chunk_rows chunk.now)) }
     {
-        let falsified = self.is_proved(alloc, &self.falsifier, chunk)?;
+        let falsified = is_proved(
+            alloc,
+            &self.table.dtype,
+            chunk,
+            &self.prepared.proofs.falsifier,
+        )?;
         if falsified {
             return Ok(Outcome::Skipped);
         }
-        let satisfied = self.is_proved(alloc, &self.satisfier, chunk)?;
+        let satisfied = is_proved(
+            alloc,
+            &self.table.dtype,
+            chunk,
+            &self.prepared.proofs.satisfier,
+        )?;
         if satisfied {
             return Ok(Outcome::Whole);
         }
@@ -94,13 +92,13 @@ impl Plan<'_> {
 
     // How many proofs are evaluated at a chunk with this outcome.
     fn proofs_at(&self, outcome: Outcome) -> u64
-        ensures { result ≡ proofs_at (is_some self.now.falsifier) (is_some self.now.satisfier) (outcome_of outcome) }
+        ensures { result ≡ proofs_at (is_some self.now.prepared.now.proofs.falsifier) (is_some self.now.prepared.now.proofs.satisfier) (outcome_of outcome) }
     {
-        let falsified = u64::from(self.falsifier.is_some());
+        let falsified = u64::from(self.prepared.proofs.falsifier.is_some());
         match outcome {
             Outcome::Skipped => falsified,
-            Outcome::Whole => falsified + u64::from(self.satisfier.is_some()),
-            Outcome::Tested => falsified + u64::from(self.satisfier.is_some()),
+            Outcome::Whole => falsified + u64::from(self.prepared.proofs.satisfier.is_some()),
+            Outcome::Tested => falsified + u64::from(self.prepared.proofs.satisfier.is_some()),
         }
     }
 
@@ -113,21 +111,27 @@ impl Plan<'_> {
         found: &mut Vec<Scalar>,
     ) -> Result<(), AllocError>
         requires plan { IsPlan self.now }
-        requires formed { IsTrue (is_formed (table_in self.now).kind chunk.now) }
+        requires formed { IsTrue (is_formed (table_in self.now).default (table_in self.now).kind chunk.now) }
         requires outcome { outcome_of outcome ≡ chunk_outcome (table_in self.now) (predicate_in self.now) (chunk_rows chunk.now) }
-        requires typed { All (λ row. scalar_kind row ≡ kind_of self.now.cut.dtype) found.old.items }
+        requires typed { All (λ row. scalar_kind row ≡ kind_of self.now.prepared.now.cut.dtype) found.old.items }
         ensures rows { OnOk result (map scalar_content found.new.items
             ≡ map scalar_content found.old.items ++ found_rows (table_in self.now).kind (paths_in self.now) (predicate_in self.now) (chunk_rows chunk.now)) }
-        ensures typed { OnOk result (All (λ row. scalar_kind row ≡ kind_of self.now.cut.dtype) found.new.items) }
+        ensures typed { OnOk result (All (λ row. scalar_kind row ≡ kind_of self.now.prepared.now.cut.dtype) found.new.items) }
     {
         match outcome {
             Outcome::Skipped => Ok(()),
             Outcome::Whole => {
-                take_rows(alloc, &self.cut, &chunk.rows, found)?;
+                take_rows(alloc, &self.prepared.cut, &chunk.rows, found)?;
                 Ok(())
             }
             Outcome::Tested => {
-                select_rows(alloc, &self.cut, &self.bound, &chunk.rows, found)?;
+                select_rows(
+                    alloc,
+                    &self.prepared.cut,
+                    &self.prepared.bound,
+                    &chunk.rows,
+                    found,
+                )?;
                 Ok(())
             }
         }
@@ -142,11 +146,11 @@ impl Plan<'_> {
         answer: &mut ScanAnswer,
     ) -> Result<(), AllocError>
         requires plan { IsPlan self.now }
-        requires formed { IsTrue (is_formed (table_in self.now).kind chunk.now) }
-        requires typed { All (λ row. scalar_kind row ≡ kind_of self.now.cut.dtype) answer.old.rows.items }
+        requires formed { IsTrue (is_formed (table_in self.now).default (table_in self.now).kind chunk.now) }
+        requires typed { All (λ row. scalar_kind row ≡ kind_of self.now.prepared.now.cut.dtype) answer.old.rows.items }
         ensures found { OnOk result (answer_of answer.new ≡ with_chunk (table_in self.now).kind (paths_in self.now) (predicate_in self.now)
             number (chunk_rows chunk.now) (chunk_outcome (table_in self.now) (predicate_in self.now) (chunk_rows chunk.now)) (answer_of answer.old)) }
-        ensures typed { OnOk result (All (λ row. scalar_kind row ≡ kind_of self.now.cut.dtype) answer.new.rows.items) }
+        ensures typed { OnOk result (All (λ row. scalar_kind row ≡ kind_of self.now.prepared.now.cut.dtype) answer.new.rows.items) }
     {
         let outcome = self.outcome(alloc, chunk)?;
         self.find_rows(alloc, chunk, outcome, &mut answer.rows)?;
@@ -167,7 +171,7 @@ impl Plan<'_> {
     {
         let mut answer = ScanAnswer {
             rows: Vec::new(alloc),
-            dtype: self.cut.dtype.clone()?,
+            dtype: self.prepared.cut.dtype.clone()?,
             skipped: Vec::new(alloc),
             whole: Vec::new(alloc),
             rows_tested: 0,

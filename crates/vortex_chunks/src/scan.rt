@@ -1,10 +1,11 @@
 //! Scans over the chunks of a table.
 
-use crate::answer::ScanAnswer;
 use crate::error::TableError;
-use crate::make::make_plan;
+use crate::make::prepare;
+use crate::plan::Plan;
 use crate::table::Table;
 use std::alloc::Global;
+use vortex_cuts::answer::ScanAnswer;
 use vortex_expr::expression::Expression;
 use vortex_paths::path::FieldPath;
 
@@ -15,7 +16,7 @@ impl Table {
     ghost use Rattle.vortex_paths.specs.View.{steps_of};
     ghost use Rattle.vortex_chunks.specs.Error.{Explains};
     ghost use Rattle.vortex_chunks.specs.TableView.{table_of};
-    ghost use Rattle.vortex_chunks.specs.AnswerView.{answer_of, IsTyped};
+    ghost use Rattle.vortex_cuts.specs.Answer.{answer_of, IsTyped};
 
     /// The rows that the predicate selects, in order and cut by the paths. The path without a step asks for whole rows,
     /// and no path for empty records.
@@ -36,8 +37,17 @@ impl Table {
         ensures accepted { OnOk result (refusal (table_of self.now) (scan (map steps_of paths.now) predicate.now) ≡ None) }
         ensures refused { IfErr result (λ e. Explains ⊥ (refusal (table_of self.now) (scan (map steps_of paths.now) predicate.now)) e) }
     {
-        let plan = make_plan(alloc, self, paths, predicate)?;
-        let answer = plan.run(alloc)?;
+        let prepared = prepare(alloc, &self.dtype, paths, predicate)?;
+        let plan = Plan {
+            table: self,
+            paths,
+            predicate,
+            prepared: &prepared,
+        };
+        let found = plan.run(alloc);
+        // A call lets go of the trees in it: in place, each of their variants would be walked in the proof.
+        drop(prepared);
+        let answer = found?;
         Ok(answer)
     }
 }

@@ -2,7 +2,7 @@
 ghost use Rattle.std.specs.Prelude.{◌≡◌, ◌++◌, All, OnOk, map};
 ghost use Rattle.vortex_types.specs.View.{kind_of};
 ghost use Rattle.vortex_scalars.specs.Scalar.{scalar_kind, scalar_content};
-ghost use Rattle.vortex_chunks.specs.Bounds.{row_content};
+ghost use Rattle.vortex_chunk_bounds.specs.Bounds.{row_content};
 ghost use Rattle.vortex_chunks.specs.Selected.{cut_rows, selected_rows, CanBeCut};
 
 use std::alloc::{AllocError, Global};

@@ -3,16 +3,17 @@ ghost use Rattle.std.specs.Prelude.{◌≡◌, IsTrue, is_none};
 ghost use Rattle.std.specs.List.{list_all};
 ghost use Rattle.vortex_model.specs.Kept.{kept_fault};
 ghost use Rattle.vortex_types.specs.View.{kind_of};
-ghost use Rattle.vortex_chunks.specs.Chunk.{row_count};
+ghost use Rattle.vortex_chunk_bounds.specs.Chunk.{row_count};
 ghost use Rattle.vortex_schema.specs.Leaves.{leaf_positions};
 ghost use Rattle.vortex_chunks.specs.Table.{is_formed, same_leaves};
 
-use crate::append::{check_batch, convert_owned_rows, convert_rows, new_chunk};
+use crate::append::{check_batch, convert_owned_rows, convert_rows};
 use crate::check::check_type;
-use crate::chunk::Chunk;
 use crate::error::TableError;
 use std::alloc::Global;
 use std::rc::Rc;
+use vortex_chunk_bounds::chunk::{Chunk, new_chunk};
+use vortex_schema::layout::Layout;
 use vortex_schema::leaves::{Positions, leaf_positions};
 use vortex_types::dtype::DType;
 use vortex_values::scalar_value::ScalarValue;
@@ -27,19 +28,8 @@ pub struct Table {
     pub(crate) chunks: Vec<Chunk>,
     pub ghost kept: { IsTrue (is_none (kept_fault (kind_of dtype))) },
     pub ghost led: { IsTrue (same_leaves leaves.value.items (leaf_positions (kind_of dtype))) },
-    pub ghost formed: { IsTrue (list_all (is_formed (kind_of dtype)) chunks.items) },
+    pub ghost formed: { IsTrue (list_all (is_formed bound_length (kind_of dtype)) chunks.items) },
     pub ghost counted: { row_count chunks.items ≡ len },
-}
-
-/// How a column of an appended batch was laid out. It is read and ignored so far.
-#[derive(Clone, Copy, Debug, PartialEq, Eq)]
-pub enum Layout {
-    /// Each value by itself.
-    Plain,
-    /// Distinct values, and a code for each row.
-    Dictionary,
-    /// One value for all rows.
-    Constant,
 }
 
 impl Table {
@@ -49,7 +39,7 @@ impl Table {
     ghost use Rattle.vortex_model.specs.Command.{create, append, appended, create_fault, created, refusal, after};
     ghost use Rattle.vortex_types.specs.View.{kind_of};
     ghost use Rattle.vortex_values.specs.View.{raw_in, raw_of};
-    ghost use Rattle.vortex_chunks.specs.Bounds.{row_content};
+    ghost use Rattle.vortex_chunk_bounds.specs.Bounds.{row_content};
     ghost use Rattle.vortex_chunks.specs.Error.{Explains};
     ghost use Rattle.vortex_chunks.specs.TableView.{table_of};
 
@@ -138,7 +128,7 @@ impl Table {
         if rows.is_empty() {
             return Ok(());
         }
-        let chunk = new_chunk(alloc, &self.leaves, rows)?;
+        let chunk = new_chunk(alloc, &self.leaves, self.bound_length, rows)?;
         self.chunks.push(chunk)?;
         self.len = len;
         Ok(())

@@ -1,5 +1,6 @@
-//! What paths ask for of a type and of its values.
+//! What paths ask for of a type and of its values, and the rows that are found by them.
 #![tactic(auto)]
 
+pub mod answer;
 pub mod cut;
 pub mod projection;

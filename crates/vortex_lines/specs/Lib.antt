@@ -1,4 +1,3 @@
-pub mod Rows
 pub mod Where
 pub mod Line
 pub mod View

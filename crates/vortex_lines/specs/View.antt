@@ -4,8 +4,8 @@ use Rattle.vortex_model.specs.Command as model
 use Rattle.vortex_types.specs.View.{kind_of}
 use Rattle.vortex_paths.specs.View.{steps_of}
 use Rattle.vortex_values.specs.View.{raw_in}
-use Rattle.vortex_chunks.specs.declared.table.Layout as rows
-use Rattle.vortex_chunks.specs.declared.table.Layout.TheVariants as layout
+use Rattle.vortex_schema.specs.declared.layout.Layout as rows
+use Rattle.vortex_schema.specs.declared.layout.Layout.TheVariants as layout
 use Rattle.vortex_lines.specs.Line.{LayoutName, plain, dictionary, constant, VerbName, creates, appends, scans}
 use Rattle.vortex_lines.specs.declared.command.Verb as verbs
 use Rattle.vortex_lines.specs.declared.command.Verb.TheVariants as verb

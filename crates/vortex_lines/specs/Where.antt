@@ -4,14 +4,15 @@ use Rattle.std.specs.Str.{bytes_eq}
 use Rattle.serde_json.specs.Data.{Data, Items, no_items, item}
 use Rattle.serde_json.specs.Find.{at, as_array, as_null, as_str}
 use Rattle.vortex_model.specs.Kind.{Kind}
-use Rattle.vortex_types.specs.Parts.{is_integer_kind}
+use Rattle.vortex_types.specs.Parts.{is_boolean_kind}
+use Rattle.vortex_model.specs.Kept.{is_leaf}
 use Rattle.vortex_model.specs.Content.{content_of}
 use Rattle.vortex_model.specs.Valid.{valid}
 use Rattle.vortex_model.specs.Path.{Step, name, element}
 use Rattle.vortex_model.specs.Expression.{Comparison, equal, not_equal, greater, at_least, less, at_most, Expression, literal, column, compare}
 use Rattle.vortex_type_lines.specs.Parsed.{items_size}
 use Rattle.vortex_type_lines.specs.Kinds.{kind_in, strings_of}
-use Rattle.vortex_lines.specs.Rows.{reading}
+use Rattle.vortex_row_lines.specs.Rows.{reading}
 
 -- ---- paths
 
@@ -32,18 +33,25 @@ paths_in (item d ds) = option_and_then (λ p. option_map (λ ps. p ∷ ps) (path
 
 -- ---- predicates
 
--- a literal at a kind of integers, where its reading is valid
+-- a literal at a leaf, where its reading is valid
 abbrev pub literal_at : Kind → Data → Option Expression
-literal_at k d = option_and_then (λ r. if is_integer_kind k then (if valid k r then Some (literal k (content_of r)) else None) else None) (reading k d)
+literal_at k d = option_and_then (λ r. if is_leaf k then (if valid k r then Some (literal k (content_of r)) else None) else None) (reading k d)
 
 abbrev pub behind_first : Items → Items
 behind_first no_items = no_items
 behind_first (item d ds) = ds
 
+-- the type of `["lit",type,content]`
+abbrev pub literal_kind_in : ℕ → Data → Option Kind
+literal_kind_in n d = if n == 3 then option_and_then kind_in (at 1 d) else None
+
 -- `["lit",type,content]`
 abbrev pub literal_in : ℕ → Data → Option Expression
-literal_in n d =
-    if n == 3 then option_and_then (λ k. option_and_then (literal_at k) (at 2 d)) (option_and_then kind_in (at 1 d)) else None
+literal_in n d = option_and_then (λ k. option_and_then (literal_at k) (at 2 d)) (literal_kind_in n d)
+
+-- the same as a predicate, which no literal truth value is so far
+abbrev pub root_literal_in : ℕ → Data → Option Expression
+root_literal_in n d = option_and_then (λ k. if is_boolean_kind k then None else option_and_then (literal_at k) (at 2 d)) (literal_kind_in n d)
 
 -- `["col",name,..]`
 abbrev pub column_in : Data → Option Expression
@@ -67,15 +75,24 @@ comparison_named op =
     else (if bytes_eq op (codes "<=") then Some at_most else None)))))
 
 -- `[op,x,y]`
-abbrev pub comparison_in : List ℕ → ℕ → Data → Option Expression
-comparison_in op n d =
+abbrev pub comparison_in : Comparison → ℕ → Data → Option Expression
+comparison_in c n d =
     if n == 3
-    then option_and_then (λ x. option_and_then (λ y. option_map (λ c. compare c x y) (comparison_named op)) (option_and_then operand_in (at 2 d))) (option_and_then operand_in (at 1 d))
+    then option_and_then (λ x. option_map (λ y. compare c x y) (option_and_then operand_in (at 2 d))) (option_and_then operand_in (at 1 d))
     else None
 
-abbrev pub predicate_named : List ℕ → ℕ → Data → Option Expression
-predicate_named op n d = if is_some (comparison_named op) then comparison_in op n d else operand_named op n d
+-- a literal or a column as a predicate
+abbrev pub root_named : List ℕ → ℕ → Data → Option Expression
+root_named op n d =
+    if bytes_eq op (codes "lit") then root_literal_in n d
+    else (if bytes_eq op (codes "col") then column_in d else None)
 
--- the predicate that a value is: a comparison of literals and columns, or one of these
+-- the comparison of a name, and else a literal or a column
+abbrev pub predicate_by : Option Comparison → List ℕ → ℕ → Data → Option Expression
+predicate_by None op n d = root_named op n d
+predicate_by (Some c) op n d = comparison_in c n d
+
+-- the predicate that a value is: a comparison of literals and columns, or one of these, but no literal truth value
 abbrev pub predicate_in : Data → Option Expression
-predicate_in d = option_and_then (λ n. option_and_then (λ op. predicate_named op n d) (option_and_then as_str (at 0 d))) (items_size d)
+predicate_in d =
+    option_and_then (λ n. option_and_then (λ op. predicate_by (comparison_named op) op n d) (option_and_then as_str (at 0 d))) (items_size d)

@@ -9,12 +9,12 @@ ghost use Rattle.vortex_values.specs.View.{raw_in};
 
 use crate::paths::read_paths;
 use crate::predicates::read_predicate;
-use crate::rows::read_rows;
 use serde_json::Value;
 use std::alloc::Global;
-use vortex_chunks::table::Layout;
 use vortex_expr::expression::Expression;
 use vortex_paths::path::FieldPath;
+use vortex_row_lines::read_rows;
+use vortex_schema::layout::Layout;
 use vortex_type_lines::{Fault, is_whole, one_if_there, parse, read_dtype, size};
 use vortex_types::dtype::DType;
 use vortex_values::scalar_value::ScalarValue;

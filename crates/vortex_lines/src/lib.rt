@@ -4,7 +4,6 @@
 mod command;
 mod paths;
 mod predicates;
-mod rows;
 
 pub use command::{Command, read_command};
-pub use rows::read_value;
+pub use vortex_row_lines::read_value;

@@ -1,26 +1,37 @@
 //! Predicates of a scan from JSON.
-ghost use Rattle.std.specs.Prelude.{◌≡◌, None, is_some, option_map};
+ghost use Rattle.std.specs.Prelude.{◌≡◌, option_map, option_and_then};
+ghost use Rattle.serde_json.specs.Find.{at};
 ghost use Rattle.serde_json.specs.View.{view, items_view};
-ghost use Rattle.vortex_model.specs.Expression.{compare};
+ghost use Rattle.vortex_model.specs.Kept.{is_leaf};
 ghost use Rattle.vortex_types.specs.View.{kind_of};
+ghost use Rattle.vortex_expr.specs.Tree.{comparison_of};
 ghost use Rattle.vortex_type_lines.specs.Parsed.{Gives};
-ghost use Rattle.vortex_lines.specs.Where.{literal_at, literal_in, column_in, operand_named, operand_in, comparison_named, comparison_in, predicate_named, predicate_in};
+ghost use Rattle.vortex_lines.specs.Where.{literal_at, literal_kind_in, literal_in, root_literal_in, column_in, operand_named, operand_in, comparison_named, comparison_in, root_named, predicate_in};
 
-use crate::rows::read_value;
 use serde_json::Value;
 use std::alloc::Global;
-use vortex_expr::expression::{Expression, col, eq, gt, gt_eq, lit, lt, lt_eq, not_eq};
+use vortex_expr::expression::{Expression, col, compare, lit};
+use vortex_expr::operator::Comparison;
 use vortex_kinds::field_names::FieldNames;
+use vortex_row_lines::read_value;
 use vortex_scalars::scalar::Scalar;
 use vortex_type_lines::{Fault, length, read_dtype, read_names};
 use vortex_types::dtype::DType;
 
-/// A literal of a kind of integers, whose reading is valid.
+/// Whether a type is a leaf of tables: of truth values, integers, texts or bytes.
+#[tactic(auto, using(crate::proofs::Leaves::leaf_kinds))]
+fn is_leaf(dtype: &DType) -> bool
+    ensures { result ≡ is_leaf (kind_of dtype.now) }
+{
+    dtype.is_boolean() || dtype.is_int() || dtype.is_utf8() || dtype.is_binary()
+}
+
+/// A literal of a leaf type, whose reading is valid.
 fn read_literal_at(alloc: Global, dtype: DType, value: &Value) -> Result<Expression, Fault>
     ensures { Gives (λ e. e) result (literal_at (kind_of dtype) (view value.now)) }
 {
     let content = read_value(value, alloc, &dtype)?;
-    if !dtype.is_int() {
+    if !is_leaf(&dtype) {
         return Err(Fault::Bad);
     }
     match Scalar::try_new(dtype, content) {
@@ -29,14 +40,32 @@ fn read_literal_at(alloc: Global, dtype: DType, value: &Value) -> Result<Express
     }
 }
 
-/// `["lit",type,content]`.
-fn read_literal(alloc: Global, count: usize, value: &Value) -> Result<Expression, Fault>
-    ensures { Gives (λ e. e) result (literal_in count (view value.now)) }
+/// The type of `["lit",type,content]`.
+fn read_literal_type(alloc: Global, count: usize, value: &Value) -> Result<DType, Fault>
+    ensures { Gives kind_of result (literal_kind_in count (view value.now)) }
 {
     if count != 3 {
         return Err(Fault::Bad);
     }
-    let dtype = read_dtype(alloc, value.get(1).ok_or(Fault::Bad)?)?;
+    read_dtype(alloc, value.get(1).ok_or(Fault::Bad)?)
+}
+
+/// `["lit",type,content]`.
+fn read_literal(alloc: Global, count: usize, value: &Value) -> Result<Expression, Fault>
+    ensures { Gives (λ e. e) result (literal_in count (view value.now)) }
+{
+    let dtype = read_literal_type(alloc, count, value)?;
+    read_literal_at(alloc, dtype, value.get(2).ok_or(Fault::Bad)?)
+}
+
+/// The same as a predicate, which no literal truth value is so far.
+fn read_root_literal(alloc: Global, count: usize, value: &Value) -> Result<Expression, Fault>
+    ensures { Gives (λ e. e) result (root_literal_in count (view value.now)) }
+{
+    let dtype = read_literal_type(alloc, count, value)?;
+    if dtype.is_boolean() {
+        return Err(Fault::Bad);
+    }
     read_literal_at(alloc, dtype, value.get(2).ok_or(Fault::Bad)?)
 }
 
@@ -76,74 +105,68 @@ fn read_operand(alloc: Global, value: &Value) -> Result<Expression, Fault>
     read_operand_named(alloc, name, count, value)
 }
 
-/// Whether a name is one of the six comparisons.
-fn is_comparison(name: &str) -> bool
-    ensures { result ≡ is_some (comparison_named name.now) }
+/// The operand at a place of an array.
+fn read_operand_at(alloc: Global, value: &Value, place: usize) -> Result<Expression, Fault>
+    ensures { Gives (λ e. e) result (option_and_then operand_in (at place (view value.now))) }
 {
-    match name {
-        "=" => true,
-        "!=" => true,
-        ">" => true,
-        ">=" => true,
-        "<" => true,
-        "<=" => true,
-        _ => false,
+    match value.get(place) {
+        Some(operand) => read_operand(alloc, operand),
+        None => Err(Fault::Bad),
     }
 }
 
-// What is no comparison of the two. A function of its own drops them.
-fn refuse(_left: Expression, _right: Expression) -> Result<Expression, Fault>
-    ensures { Gives (λ e. e) result None }
-{
-    Err(Fault::Bad)
-}
-
-/// The comparison of this name.
-fn compare(
-    alloc: Global,
-    name: &str,
-    left: Expression,
-    right: Expression,
-) -> Result<Expression, Fault>
-    ensures { Gives (λ e. e) result (option_map (λ c. compare c left right) (comparison_named name.now)) }
+/// The comparison of this name, if it is one of the six.
+fn comparison_named(name: &str) -> Option<Comparison>
+    ensures { option_map comparison_of result ≡ comparison_named name.now }
 {
     match name {
-        "=" => Ok(eq(alloc, left, right)?),
-        "!=" => Ok(not_eq(alloc, left, right)?),
-        ">" => Ok(gt(alloc, left, right)?),
-        ">=" => Ok(gt_eq(alloc, left, right)?),
-        "<" => Ok(lt(alloc, left, right)?),
-        "<=" => Ok(lt_eq(alloc, left, right)?),
-        _ => refuse(left, right),
+        "=" => Some(Comparison::Eq),
+        "!=" => Some(Comparison::NotEq),
+        ">" => Some(Comparison::Gt),
+        ">=" => Some(Comparison::Gte),
+        "<" => Some(Comparison::Lt),
+        "<=" => Some(Comparison::Lte),
+        _ => None,
     }
 }
 
 /// `[op,x,y]`.
 fn read_comparison(
     alloc: Global,
-    name: &str,
+    comparison: Comparison,
     count: usize,
     value: &Value,
 ) -> Result<Expression, Fault>
-    ensures { Gives (λ e. e) result (comparison_in name.now count (view value.now)) }
+    ensures { Gives (λ e. e) result (comparison_in (comparison_of comparison) count (view value.now)) }
 {
     if count != 3 {
         return Err(Fault::Bad);
     }
-    let left = read_operand(alloc, value.get(1).ok_or(Fault::Bad)?)?;
-    let right = read_operand(alloc, value.get(2).ok_or(Fault::Bad)?)?;
-    compare(alloc, name, left, right)
+    let left = read_operand_at(alloc, value, 1)?;
+    let right = read_operand_at(alloc, value, 2)?;
+    let compared = compare(alloc, comparison, left, right)?;
+    Ok(compared)
 }
 
-/// The predicate that a value is: a comparison of literals and columns, or one of these.
+/// A literal or a column as a predicate.
+fn read_root(alloc: Global, name: &str, count: usize, value: &Value) -> Result<Expression, Fault>
+    ensures { Gives (λ e. e) result (root_named name.now count (view value.now)) }
+{
+    match name {
+        "lit" => read_root_literal(alloc, count, value),
+        "col" => read_column(alloc, value),
+        _ => Err(Fault::Bad),
+    }
+}
+
+/// The predicate that a value is: a comparison of literals and columns, or one of these, but no literal truth value.
 pub(crate) fn read_predicate(alloc: Global, value: &Value) -> Result<Expression, Fault>
     ensures { Gives (λ e. e) result (predicate_in (view value.now)) }
 {
     let count = length(value).ok_or(Fault::Bad)?;
     let name = value.get(0).and_then(Value::as_str).ok_or(Fault::Bad)?;
-    if is_comparison(name) {
-        read_comparison(alloc, name, count, value)
-    } else {
-        read_operand_named(alloc, name, count, value)
+    match comparison_named(name) {
+        Some(comparison) => read_comparison(alloc, comparison, count, value),
+        None => read_root(alloc, name, count, value),
     }
 }

@@ -2,7 +2,7 @@
 use Rattle.std.proofs.Common.{◌≡◌, refl, ℕ, pos, List, [], ◌∷◌, map, Option, Some, None, true, false, option_map}
 use Rattle.std.specs.Prelude.{codes}
 use Rattle.std.specs.Str.{chars, is_utf8}
-use Rattle.vortex_model.specs.Kind.{Kind, boolean, integer, utf8, binary, list, struct, no_fields, field, Nullability, non_nullable, nullable, u8, i32, i64}
+use Rattle.vortex_model.specs.Kind.{Kind, boolean, integer, float, utf8, binary, list, struct, no_fields, field, Nullability, non_nullable, nullable, u8, i32, i64, f32, f64}
 use Rattle.vortex_model.specs.Content.{Content, null, truth, whole, text, blob, tuple, nothing, first, Raw, raw_null, raw_truth, raw_number, raw_text, raw_blob, raw_tuple, Raws, no_raws, raw_first, contents_from}
 use Rattle.vortex_model.specs.Bounds.{low, high}
 use Rattle.vortex_model.specs.Path.{Step, name}
@@ -63,7 +63,7 @@ lit32 n = literal (number non_nullable) (whole (pos n))
 abbrev pub made : List Command → Option Table
 made cs = steps None cs
 
--- The same, were none of them refused: tables of types that are not kept so far.
+-- The same, were none of them refused: tables of lists are not kept so far.
 abbrev pub filled_from : Option Table → List Command → Option Table
 filled_from t [] = t
 filled_from t (c ∷ cs) = filled_from (after_in t c) cs
@@ -194,7 +194,7 @@ told_null_record : told (create_fault (struct no_fields nullable) []) ≡ Some (
 told_null_record = refl
 
 -- names go before parts, also where a part can't be kept
-told_names : told (create_fault (struct (field a (utf8 nullable) (field a (number nullable) no_fields)) non_nullable) []) ≡ Some (4, None)
+told_names : told (create_fault (struct (field a (float f32 nullable) (field a (number nullable) no_fields)) non_nullable) []) ≡ Some (4, None)
 told_names = refl
 
 -- the names of a record inside
@@ -205,17 +205,23 @@ told_record : told (create_fault (one a twice) []) ≡ Some (4, None)
 told_record = refl
 
 -- from left to right
-told_behind : told (create_fault (struct (field a (boolean nullable) (field s twice no_fields)) non_nullable) []) ≡ Some (3, None)
+told_behind : told (create_fault (struct (field a (float f32 nullable) (field s twice no_fields)) non_nullable) []) ≡ Some (3, None)
 told_behind = refl
 
-told_before : told (create_fault (struct (field a twice (field s (boolean nullable) no_fields)) non_nullable) []) ≡ Some (4, None)
+told_before : told (create_fault (struct (field a twice (field s (float f32 nullable) no_fields)) non_nullable) []) ≡ Some (4, None)
 told_before = refl
 
 kept_record : create_fault (one a (struct (field a (number nullable) (field s (one a (number non_nullable)) no_fields)) nullable)) [] ≡ None
 kept_record = refl
 
-told_truth : told (create_fault (one a (boolean nullable)) []) ≡ Some (3, None)
-told_truth = refl
+told_float : told (create_fault (one a (float f64 nullable)) []) ≡ Some (3, None)
+told_float = refl
+
+told_list : told (create_fault (one a (list (number nullable) nullable)) []) ≡ Some (3, None)
+told_list = refl
+
+kept_leaves : create_fault (struct (field a (boolean nullable) (field s (utf8 nullable) (field (codes "b") (binary non_nullable) no_fields))) non_nullable) [] ≡ None
+kept_leaves = refl
 
 -- ---- shortened bounds
 
@@ -240,16 +246,16 @@ bounds_in (Some t) is i = Some ((zone_at t is i).low, (zone_at t is i).high)
 abbrev pub char_table : List Command
 char_table = create S 5 [] ∷ append S (texts ((0x63 ∷ 0x68 ∷ 0x61 ∷ 0x72 ∷ 0xf0 ∷ 0x9f ∷ 0xaa ∷ 0xa9 ∷ []) ∷ [])) ∷ []
 
-char_bounds : bounds_in (filled char_table) (0 ∷ []) 0 ≡ Some (inexact (text (codes "char")), inexact (text (codes "chas")))
+char_bounds : bounds_in (made char_table) (0 ∷ []) 0 ≡ Some (inexact (text (codes "char")), inexact (text (codes "chas")))
 unfolding chars is_utf8 lib.Utf8.encode
 char_bounds = refl
 
-char_above : answer_of (filled char_table) (path s ∷ []) (compare at_least (col s) (lit_text (codes "chat")))
+char_above : answer_of (made char_table) (path s ∷ []) (compare at_least (col s) (lit_text (codes "chat")))
     ≡ Some (record { rows = []; kind = S; skipped = 0 ∷ []; whole = []; rows_tested = 0; proofs = 1 })
 unfolding chars is_utf8 lib.Utf8.encode
 char_above = refl
 
-char_at : answer_of (filled char_table) (path s ∷ []) (compare at_least (col s) (lit_text (codes "chas")))
+char_at : answer_of (made char_table) (path s ∷ []) (compare at_least (col s) (lit_text (codes "chas")))
     ≡ Some (record { rows = []; kind = S; skipped = []; whole = []; rows_tested = 1; proofs = 1 })
 unfolding chars is_utf8 lib.Utf8.encode
 char_at = refl
@@ -269,10 +275,10 @@ lit_blob x = literal (binary non_nullable) (blob x)
 abbrev pub tops : List Command
 tops = create B 2 [] ∷ append B (blobs ((0xff ∷ 0xff ∷ 0xff ∷ []) ∷ [])) ∷ []
 
-tops_bounds : bounds_in (filled tops) (0 ∷ []) 0 ≡ Some (inexact (blob (0xff ∷ 0xff ∷ [])), absent)
+tops_bounds : bounds_in (made tops) (0 ∷ []) 0 ≡ Some (inexact (blob (0xff ∷ 0xff ∷ [])), absent)
 tops_bounds = refl
 
-tops_scan : answer_of (filled tops) ([] ∷ []) (compare greater (col b) (lit_blob (0xff ∷ 0xff ∷ [])))
+tops_scan : answer_of (made tops) ([] ∷ []) (compare greater (col b) (lit_blob (0xff ∷ 0xff ∷ [])))
     ≡ Some (record { rows = row (blob (0xff ∷ 0xff ∷ 0xff ∷ [])) ∷ []; kind = B; skipped = []; whole = []; rows_tested = 1; proofs = 1 })
 tops_scan = refl
 
@@ -280,22 +286,22 @@ abbrev pub and_more : List Command → List Command → List Command
 and_more [] ds = ds
 and_more (c ∷ cs) ds = c ∷ and_more cs ds
 
-tops_joined : zone_in (filled (and_more tops (append B (blobs ((0 ∷ []) ∷ [])) ∷ join 0 ∷ []))) (0 ∷ []) 0
+tops_joined : zone_in (made (and_more tops (append B (blobs ((0 ∷ []) ∷ [])) ∷ join 0 ∷ []))) (0 ∷ []) 0
     ≡ Some (record { low = exact (blob (0 ∷ [])); high = absent; nulls = 0; rows = 2; total = absent; constant = absent })
 tops_joined = refl
 
 abbrev pub carries : List Command
 carries = create B 3 [] ∷ append B (blobs ((0x61 ∷ 0xff ∷ 0xff ∷ 0xff ∷ []) ∷ [])) ∷ append B (blobs ((0x62 ∷ []) ∷ [])) ∷ []
 
-carries_bounds : bounds_in (filled (and_more carries (join 0 ∷ []))) (0 ∷ []) 0
+carries_bounds : bounds_in (made (and_more carries (join 0 ∷ []))) (0 ∷ []) 0
     ≡ Some (inexact (blob (0x61 ∷ 0xff ∷ 0xff ∷ [])), inexact (blob (0x62 ∷ 0 ∷ 0 ∷ [])))
 carries_bounds = refl
 
-carries_scan : answer_of (filled (and_more carries (join 0 ∷ []))) ([] ∷ []) (compare greater (col b) (lit_blob (0x62 ∷ [])))
+carries_scan : answer_of (made (and_more carries (join 0 ∷ []))) ([] ∷ []) (compare greater (col b) (lit_blob (0x62 ∷ [])))
     ≡ Some (record { rows = []; kind = B; skipped = 1 ∷ []; whole = []; rows_tested = 1; proofs = 3 })
 carries_scan = refl
 
-carries_apart : answer_of (filled carries) ([] ∷ []) (compare greater (col b) (lit_blob (0x62 ∷ [])))
+carries_apart : answer_of (made carries) ([] ∷ []) (compare greater (col b) (lit_blob (0x62 ∷ [])))
     ≡ Some (record { rows = []; kind = B; skipped = 1 ∷ []; whole = []; rows_tested = 1; proofs = 2 })
 carries_apart = refl
 
@@ -347,7 +353,7 @@ P = one p (struct (field q (number non_nullable) no_fields) nullable)
 abbrev pub nested : List Command
 nested = create P 16 [] ∷ append P (raw_row raw_null ∷ raw_row (raw_row (n32 7)) ∷ []) ∷ []
 
-null_record : answer_of (filled nested) (path p ∷ []) (is_null (column (p ∷ q ∷ [])))
+null_record : answer_of (made nested) (path p ∷ []) (is_null (column (p ∷ q ∷ [])))
     ≡ Some (record { rows = row null ∷ []; kind = P; skipped = []; whole = []; rows_tested = 2; proofs = 2 })
 null_record = refl
 
@@ -372,15 +378,15 @@ lit_true = literal (boolean non_nullable) (truth true)
 abbrev pub two_steps : List ℕ → List ℕ → List Step
 two_steps x y = name x ∷ name y ∷ []
 
-cut_by_both : answer_of (filled cutting) (two_steps a b ∷ path a ∷ []) lit_true
+cut_by_both : answer_of (made cutting) (two_steps a b ∷ path a ∷ []) lit_true
     ≡ Some (record { rows = row (record_of (whole (pos 1) ∷ whole (pos 2) ∷ [])) ∷ []; kind = one a BC; skipped = []; whole = 0 ∷ []; rows_tested = 0; proofs = 2 })
 cut_by_both = refl
 
-cut_by_one : answer_of (filled cutting) (two_steps a b ∷ []) lit_true
+cut_by_one : answer_of (made cutting) (two_steps a b ∷ []) lit_true
     ≡ Some (record { rows = row (row (whole (pos 1))) ∷ []; kind = one a (one b (number non_nullable)); skipped = []; whole = 0 ∷ []; rows_tested = 0; proofs = 2 })
 cut_by_one = refl
 
-cut_by_none : answer_of (filled cutting) [] lit_true
+cut_by_none : answer_of (made cutting) [] lit_true
     ≡ Some (record { rows = tuple nothing ∷ []; kind = struct no_fields non_nullable; skipped = []; whole = 0 ∷ []; rows_tested = 0; proofs = 2 })
 cut_by_none = refl
 
@@ -413,7 +419,7 @@ N = one a (number nullable)
 abbrev pub deep : Kind
 deep = one a (struct (field b (utf8 non_nullable) no_fields) nullable)
 
-nulls_retyped : answer_of (filled (create N 16 [] ∷ append N (raw_row raw_null ∷ raw_row raw_null ∷ []) ∷ retype deep ∷ [])) (path a ∷ []) (is_null (column (a ∷ b ∷ [])))
+nulls_retyped : answer_of (made (create N 16 [] ∷ append N (raw_row raw_null ∷ raw_row raw_null ∷ []) ∷ retype deep ∷ [])) (path a ∷ []) (is_null (column (a ∷ b ∷ [])))
     ≡ Some (record { rows = row null ∷ row null ∷ []; kind = deep; skipped = []; whole = 0 ∷ []; rows_tested = 0; proofs = 2 })
 nulls_retyped = refl
 
@@ -439,7 +445,7 @@ strict_between = refl
 abbrev pub prefixes : List Command
 prefixes = create S 16 [] ∷ append S (texts (codes "prefix-one" ∷ [])) ∷ append S (texts (codes "zeta" ∷ [])) ∷ []
 
-prefix_skipped : answer_of (filled prefixes) (path s ∷ []) (like (col s) (lit_text (codes "prefix%")) false false)
+prefix_skipped : answer_of (made prefixes) (path s ∷ []) (like (col s) (lit_text (codes "prefix%")) false false)
     ≡ Some (record { rows = row (text (codes "prefix-one")) ∷ []; kind = S; skipped = 1 ∷ []; whole = []; rows_tested = 1; proofs = 2 })
 unfolding chars is_utf8 lib.Utf8.encode
 prefix_skipped = refl
@@ -456,18 +462,18 @@ retype_refused = refl
 abbrev pub T : Kind
 T = one a (boolean non_nullable)
 
-truth_values : zone_in (filled (create T 16 [] ∷ append T (raw_row (raw_truth true) ∷ raw_row (raw_truth false) ∷ raw_row (raw_truth true) ∷ []) ∷ [])) (0 ∷ []) 0
+truth_values : zone_in (made (create T 16 [] ∷ append T (raw_row (raw_truth true) ∷ raw_row (raw_truth false) ∷ raw_row (raw_truth true) ∷ []) ∷ [])) (0 ∷ []) 0
     ≡ Some (record { low = exact (truth false); high = exact (truth true); nulls = 0; rows = 3; total = exact (pos 2); constant = exact false })
 truth_values = refl
 
 abbrev pub empty_length : List Command
 empty_length = create S 0 [] ∷ append S (texts (codes "x" ∷ [])) ∷ []
 
-no_length_bounds : bounds_in (filled empty_length) (0 ∷ []) 0 ≡ Some (inexact (text []), absent)
+no_length_bounds : bounds_in (made empty_length) (0 ∷ []) 0 ≡ Some (inexact (text []), absent)
 unfolding chars is_utf8 lib.Utf8.encode
 no_length_bounds = refl
 
-no_length_scan : answer_of (filled empty_length) (path s ∷ []) (compare equal (col s) (lit_text []))
+no_length_scan : answer_of (made empty_length) (path s ∷ []) (compare equal (col s) (lit_text []))
     ≡ Some (record { rows = []; kind = S; skipped = []; whole = []; rows_tested = 1; proofs = 1 })
 unfolding chars is_utf8 lib.Utf8.encode
 no_length_scan = refl

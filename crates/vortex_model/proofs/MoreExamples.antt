@@ -186,15 +186,15 @@ XY = struct (field (codes "x") (utf8 non_nullable) (field (codes "y") (utf8 non_
 abbrev two_lengths : List Command
 two_lengths = create ST 16 ((path s, 2) ∷ []) ∷ append ST (raw_record (raw_text (codes "abcd") ∷ raw_text (codes "abcd") ∷ []) ∷ []) ∷ []
 
-first_short : bounds_in (filled two_lengths) (0 ∷ []) 0 ≡ Some (inexact (text (codes "ab")), inexact (text (codes "ac")))
+first_short : bounds_in (made two_lengths) (0 ∷ []) 0 ≡ Some (inexact (text (codes "ab")), inexact (text (codes "ac")))
 unfolding chars is_utf8 lib.Utf8.encode
 first_short = refl
 
-second_whole : bounds_in (filled two_lengths) (1 ∷ []) 0 ≡ Some (exact (text (codes "abcd")), exact (text (codes "abcd")))
+second_whole : bounds_in (made two_lengths) (1 ∷ []) 0 ≡ Some (exact (text (codes "abcd")), exact (text (codes "abcd")))
 unfolding chars is_utf8 lib.Utf8.encode
 second_whole = refl
 
-kept_lengths : bounds_in (filled (and_more two_lengths (retype XY ∷ append XY (raw_record (raw_text (codes "zzzz") ∷ raw_text (codes "q") ∷ []) ∷ []) ∷ []))) (0 ∷ []) 1
+kept_lengths : bounds_in (made (and_more two_lengths (retype XY ∷ append XY (raw_record (raw_text (codes "zzzz") ∷ raw_text (codes "q") ∷ []) ∷ []) ∷ []))) (0 ∷ []) 1
     ≡ Some (inexact (text (codes "zz")), inexact (text (codes "z{")))
 unfolding chars is_utf8 lib.Utf8.encode
 kept_lengths = refl
@@ -213,27 +213,27 @@ record_length = refl
 abbrev near : List Command
 near = create S 3 [] ∷ append S (texts (codes "aaaa" ∷ [])) ∷ append S (texts (codes "aaab" ∷ [])) ∷ []
 
-near_tested : answer_of (filled near) (path s ∷ []) (compare equal (col s) (lit_text (codes "aaac")))
+near_tested : answer_of (made near) (path s ∷ []) (compare equal (col s) (lit_text (codes "aaac")))
     ≡ Some (record { rows = []; kind = S; skipped = []; whole = []; rows_tested = 2; proofs = 2 })
 unfolding chars is_utf8 lib.Utf8.encode
 near_tested = refl
 
-near_skipped : answer_of (filled near) (path s ∷ []) (compare greater (col s) (lit_text (codes "aab")))
+near_skipped : answer_of (made near) (path s ∷ []) (compare greater (col s) (lit_text (codes "aab")))
     ≡ Some (record { rows = []; kind = S; skipped = 0 ∷ 1 ∷ []; whole = []; rows_tested = 0; proofs = 2 })
 unfolding chars is_utf8 lib.Utf8.encode
 near_skipped = refl
 
-near_at_least : answer_of (filled near) (path s ∷ []) (compare at_least (col s) (lit_text (codes "aac")))
+near_at_least : answer_of (made near) (path s ∷ []) (compare at_least (col s) (lit_text (codes "aac")))
     ≡ Some (record { rows = []; kind = S; skipped = 0 ∷ 1 ∷ []; whole = []; rows_tested = 0; proofs = 2 })
 unfolding chars is_utf8 lib.Utf8.encode
 near_at_least = refl
 
-like_raised : answer_of (filled (create S 16 [] ∷ append S (texts (codes "b" ∷ [])) ∷ [])) (path s ∷ []) (like (col s) (lit_text (0x61 ∷ 0x7f ∷ 0x25 ∷ [])) false false)
+like_raised : answer_of (made (create S 16 [] ∷ append S (texts (codes "b" ∷ [])) ∷ [])) (path s ∷ []) (like (col s) (lit_text (0x61 ∷ 0x7f ∷ 0x25 ∷ [])) false false)
     ≡ Some (record { rows = []; kind = S; skipped = 0 ∷ []; whole = []; rows_tested = 0; proofs = 1 })
 unfolding chars is_utf8 lib.Utf8.encode
 like_raised = refl
 
-high_raised : answer_of (filled (create S 2 [] ∷ append S (texts ((0x61 ∷ 0x7f ∷ 0x62 ∷ []) ∷ [])) ∷ [])) (path s ∷ []) (compare greater (col s) (lit_text (codes "b")))
+high_raised : answer_of (made (create S 2 [] ∷ append S (texts ((0x61 ∷ 0x7f ∷ 0x62 ∷ []) ∷ [])) ∷ [])) (path s ∷ []) (compare greater (col s) (lit_text (codes "b")))
     ≡ Some (record { rows = []; kind = S; skipped = 0 ∷ []; whole = []; rows_tested = 0; proofs = 1 })
 unfolding chars is_utf8 lib.Utf8.encode
 high_raised = refl
@@ -275,17 +275,17 @@ unfolding chars lib.Utf8.encode
 percent_alone = refl
 
 -- no value from its low to its high matches, and yet it is tested
-narrow_tested : answer_of (filled (create S 16 [] ∷ append S (texts ((0x61 ∷ 0xc2 ∷ 0x80 ∷ []) ∷ [])) ∷ [])) (path s ∷ []) (like (col s) (lit_text (0x61 ∷ 0x7f ∷ 0x25 ∷ [])) false false)
+narrow_tested : answer_of (made (create S 16 [] ∷ append S (texts ((0x61 ∷ 0xc2 ∷ 0x80 ∷ []) ∷ [])) ∷ [])) (path s ∷ []) (like (col s) (lit_text (0x61 ∷ 0x7f ∷ 0x25 ∷ [])) false false)
     ≡ Some (record { rows = []; kind = S; skipped = []; whole = []; rows_tested = 1; proofs = 1 })
 unfolding chars is_utf8 lib.Utf8.encode
 narrow_tested = refl
 
-highest_first : bounds_in (filled (create S 4 [] ∷ append S (texts ((0xf4 ∷ 0x8f ∷ 0xbf ∷ 0xbf ∷ 0x78 ∷ []) ∷ [])) ∷ [])) (0 ∷ []) 0
+highest_first : bounds_in (made (create S 4 [] ∷ append S (texts ((0xf4 ∷ 0x8f ∷ 0xbf ∷ 0xbf ∷ 0x78 ∷ []) ∷ [])) ∷ [])) (0 ∷ []) 0
     ≡ Some (inexact (text (0xf4 ∷ 0x8f ∷ 0xbf ∷ 0xbf ∷ [])), absent)
 unfolding chars is_utf8 lib.Utf8.encode
 highest_first = refl
 
-middle_counted : bounds_in (filled (create B 2 [] ∷ append B (blobs ((0xff ∷ 0 ∷ 0xff ∷ []) ∷ [])) ∷ [])) (0 ∷ []) 0
+middle_counted : bounds_in (made (create B 2 [] ∷ append B (blobs ((0xff ∷ 0 ∷ 0xff ∷ []) ∷ [])) ∷ [])) (0 ∷ []) 0
     ≡ Some (inexact (blob (0xff ∷ 0 ∷ [])), inexact (blob (0xff ∷ 1 ∷ [])))
 middle_counted = refl
 
@@ -295,11 +295,11 @@ T = one t (utf8 nullable)
 abbrev retyped : List Command
 retyped = create S 5 [] ∷ append S (texts ((0x63 ∷ 0x68 ∷ 0x61 ∷ 0x72 ∷ 0xf0 ∷ 0x9f ∷ 0xaa ∷ 0xa9 ∷ []) ∷ [])) ∷ retype T ∷ []
 
-carried_bounds : bounds_in (filled retyped) (0 ∷ []) 0 ≡ Some (inexact (text (codes "char")), inexact (text (codes "chas")))
+carried_bounds : bounds_in (made retyped) (0 ∷ []) 0 ≡ Some (inexact (text (codes "char")), inexact (text (codes "chas")))
 unfolding chars is_utf8 lib.Utf8.encode
 carried_bounds = refl
 
-carried_skipped : answer_of (filled retyped) (path t ∷ []) (compare at_least (col t) (lit_text (codes "chat")))
+carried_skipped : answer_of (made retyped) (path t ∷ []) (compare at_least (col t) (lit_text (codes "chat")))
     ≡ Some (record { rows = []; kind = T; skipped = 0 ∷ []; whole = []; rows_tested = 0; proofs = 1 })
 unfolding chars is_utf8 lib.Utf8.encode
 carried_skipped = refl

@@ -48,16 +48,11 @@ is_leaf (utf8 n) = true
 is_leaf (binary n) = true
 is_leaf k = false
 
--- what tables hold so far beside records
-abbrev pub is_kept_leaf : Kind → Bool
-is_kept_leaf (integer i n) = true
-is_kept_leaf k = false
-
--- The same faults, where tables hold such leaves and records so far.
+-- The same faults, where tables hold leaves and records so far, and no lists.
 abbrev mutual
   pub kept_part_fault : Kind → Option Refusal
   kept_part_fault (struct fs n) = if names_distinct fs then kept_fields_fault fs else Some repeated_name
-  kept_part_fault k = if is_kept_leaf k then None else Some unkept_type
+  kept_part_fault k = if is_leaf k then None else Some unkept_type
 
   pub kept_fields_fault : Fields → Option Refusal
   kept_fields_fault no_fields = None

@@ -1,5 +1,5 @@
 -- The values of unions.
-use Rattle.std.proofs.Common.{◌≡◌, ◌&&◌, ◌||◌, ℕ, zero, suc, ℤ, List, Bool, true, false, Option, Some, None, option_map, option_and_then, Bor, refl, sym, ap, ◌∙◌, if◌then◌else◌}
+use Rattle.std.proofs.Common.{◌≡◌, ◌&&◌, ◌||◌, ℕ, suc, ℤ, List, Bool, true, false, Option, Some, None, option_map, option_and_then, Bor, refl, sym, ap, ◌∙◌, if◌then◌else◌}
 use Rattle.std.specs.Ordering.{int_eq}
 use Rattle.vortex_model.specs.Kind.{Kind, union, stored, Variants, no_variants, choice, has_tag, kind_tagged}
 use Rattle.vortex_model.specs.Content.{Raw, raw_null, raw_tagged}

@@ -1,5 +1,5 @@
 -- The entries of maps, one by one.
-use Rattle.std.proofs.Common.{◌≡◌, ◌≢◌, ◌&&◌, ◌<◌, map, ℕ, zero, suc, List, [], ◌∷◌, length, get_or, arith, Bool, true, false, Option, Some, None, option_map, option_copied, Bor, refl, sym, ap, ◌∙◌}
+use Rattle.std.proofs.Common.{◌≡◌, ◌≢◌, ◌&&◌, ◌<◌, map, ℕ, zero, suc, List, [], ◌∷◌, length, get_or, arith, Bool, true, false, Option, Some, None, option_copied, Bor, refl, sym, ap, ◌∙◌}
 use Rattle.vortex_model.specs.Kind.{Kind, mapping, stored}
 use Rattle.vortex_model.specs.Content.{Raw, raw_null, raw_tuple, Raws, no_raws, raw_first}
 use Rattle.vortex_model.specs.Valid.{valid, has, entries_have}

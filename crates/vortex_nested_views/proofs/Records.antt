@@ -1,5 +1,5 @@
 -- The fields of records.
-use Rattle.std.proofs.Common.{◌≡◌, ◌&&◌, ℕ, zero, suc, List, Bool, true, false, Option, Some, None, refl, sym, ap, ◌∙◌}
+use Rattle.std.proofs.Common.{◌≡◌, ◌&&◌, ℕ, zero, suc, List, Bool, true, false, Some, refl, sym, ap, ◌∙◌}
 use Rattle.vortex_model.specs.Kind.{Kind, struct, stored, Fields, no_fields, field}
 use Rattle.vortex_model.specs.Content.{Raw, raw_null, raw_tuple, Raws, no_raws, raw_first}
 use Rattle.vortex_model.specs.Path.{part_at, position_in, field_at, position_named}

@@ -1,5 +1,5 @@
 -- The values of extensions are those of their storage.
-use Rattle.std.proofs.Common.{◌≡◌, Option, Some, refl}
+use Rattle.std.proofs.Common.{◌≡◌, Some, refl}
 use Rattle.vortex_model.specs.Kind.{Kind, extension}
 use Rattle.vortex_model.specs.Content.{Raw}
 use Rattle.vortex_model.specs.Valid.{valid}

@@ -1,6 +1,6 @@
 -- The values of variants.
-use Rattle.std.proofs.Common.{◌≡◌, Bool, true, Option, Some, None, option_map, Bor, refl, ap, ◌∙◌}
-use Rattle.vortex_model.specs.Kind.{Kind, Nullability, variant}
+use Rattle.std.proofs.Common.{◌≡◌, true, Option, Some, None, option_map, Bor, refl}
+use Rattle.vortex_model.specs.Kind.{Kind, variant}
 use Rattle.vortex_model.specs.Content.{Raw, raw_null, raw_scalar}
 use Rattle.vortex_model.specs.Valid.{valid}
 use Rattle.vortex_types.specs.Parts.{is_variant_kind}

@@ -1,3 +1,4 @@
+pub mod Compared
 pub mod Entries
 pub mod Held
 pub mod Nested

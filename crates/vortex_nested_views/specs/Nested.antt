@@ -2,7 +2,6 @@
 use Rattle.vortex_types.specs.View.{kind_of}
 use Rattle.vortex_values.specs.View.{raw_at}
 use Rattle.vortex_views.specs.Forms.{Typed}
-use Rattle.vortex_nested_views.specs.Held.{raw_of_items, raw_of_choice, raw_of_whichever}
 use Rattle.vortex_nested_views.specs.declared.list_scalar.ListScalar.{ListScalar}
 use Rattle.vortex_nested_views.specs.declared.map_scalar.MapScalar.{MapScalar}
 use Rattle.vortex_nested_views.specs.declared.struct_scalar.StructScalar.{StructScalar}
@@ -11,19 +10,19 @@ use Rattle.vortex_nested_views.specs.declared.variant_scalar.VariantScalar.{Vari
 use Rattle.vortex_nested_views.specs.declared.ext_scalar.ExtScalar.{ExtScalar}
 
 abbrev pub typed_list : ListScalar → Typed
-typed_list v = (kind_of v.dtype.now, raw_of_items v.elements)
+typed_list v = (kind_of v.dtype.now, raw_at v.value)
 
 abbrev pub typed_struct : StructScalar → Typed
-typed_struct v = (kind_of v.dtype.now, raw_of_items v.values)
+typed_struct v = (kind_of v.dtype.now, raw_at v.value)
 
 abbrev pub typed_map : MapScalar → Typed
-typed_map v = (kind_of v.dtype.now, raw_of_items v.entries)
+typed_map v = (kind_of v.dtype.now, raw_at v.value)
 
 abbrev pub typed_union : UnionScalar → Typed
-typed_union v = (kind_of v.dtype.now, raw_of_choice v.value)
+typed_union v = (kind_of v.dtype.now, raw_at v.value)
 
 abbrev pub typed_variant : VariantScalar → Typed
-typed_variant v = (kind_of v.dtype.now, raw_of_whichever v.value)
+typed_variant v = (kind_of v.dtype.now, raw_at v.stored)
 
 abbrev pub typed_extension : ExtScalar → Typed
 typed_extension v = (kind_of v.dtype.now, raw_at v.value)

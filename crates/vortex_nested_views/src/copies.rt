@@ -1,9 +1,10 @@
-//! Scalars made of copies.
+//! Scalars made of copies, and entries of maps taken apart.
 ghost use Rattle.std.specs.Prelude.{◌≡◌, IsTrue, IfOk, map, option_map};
 ghost use Rattle.vortex_model.specs.Valid.{valid, all_have};
 ghost use Rattle.vortex_types.specs.View.{kind_of};
 ghost use Rattle.vortex_values.specs.View.{raw_at, raws_in};
 ghost use Rattle.vortex_views.specs.Views.{typed_scalar};
+ghost use Rattle.vortex_nested_views.specs.Entries.{pair_in};
 ghost use Rattle.vortex_nested_views.specs.Places.{item_at, each_of};
 
 use std::alloc::{AllocError, Global};
@@ -13,7 +14,7 @@ use vortex_values::clone::copy_value;
 use vortex_values::scalar_value::ScalarValue;
 
 /// A copy of the value, as one of a copy of the type.
-pub(crate) fn scalar_of(dtype: &DType, value: Option<&ScalarValue>) -> Result<Scalar, AllocError>
+pub fn scalar_of(dtype: &DType, value: Option<&ScalarValue>) -> Result<Scalar, AllocError>
     requires { IsTrue (valid (kind_of dtype.now) (raw_at value)) }
     ensures { IfOk result (λ scalar. typed_scalar scalar ≡ (kind_of dtype.now, raw_at value.entry)) }
 {
@@ -50,4 +51,16 @@ pub(crate) fn scalars_of(
         scalars.push(scalar)?;
     }
     Ok(scalars)
+}
+
+/// The key and the value of an entry, each `None` where it is null.
+#[tactic(auto, using(crate::proofs::Pairs::split))]
+pub fn pair_of(entry: Option<&ScalarValue>) -> Option<(Option<&ScalarValue>, Option<&ScalarValue>)>
+    ensures { option_map (λ pair. (raw_at pair.0, raw_at pair.1)) result ≡ pair_in (raw_at entry.entry) }
+{
+    let items = entry?.as_list()?;
+    match items {
+        [key, value] => Some((key.as_ref(), value.as_ref())),
+        _ => None,
+    }
 }

@@ -1,11 +1,14 @@
 //! Values with parts and their type, seen as what their kind holds.
 #![tactic(auto)]
 
-mod copies;
+pub mod comparing;
+pub mod conversions;
+pub mod copies;
 pub mod ext_scalar;
 pub mod list_scalar;
 pub mod map_scalar;
 pub mod nested_views;
+pub mod ordering;
 pub mod struct_scalar;
 pub mod union_scalar;
 pub mod variant_scalar;

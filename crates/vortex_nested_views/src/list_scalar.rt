@@ -10,8 +10,8 @@ ghost use Rattle.vortex_nested_views.specs.Places.{list_element, is_listing, par
 
 use crate::copies::{scalar_of, scalars_of, value_at};
 use std::alloc::{AllocError, Global};
+use vortex_casts::validate::validate;
 use vortex_scalars::scalar::Scalar;
-use vortex_scalars::validate::validate;
 use vortex_types::dtype::DType;
 use vortex_values::error::ScalarError;
 use vortex_values::scalar_value::ScalarValue;
@@ -20,9 +20,9 @@ use vortex_values::scalar_value::ScalarValue;
 #[derive(Drop)]
 pub struct ListScalar<'a> {
     dtype: &'a DType,
-    elements: Option<&'a [Option<ScalarValue>]>,
+    value: Option<&'a ScalarValue>,
     ghost is_list: { IsTrue (is_listing (kind_of dtype.now)) },
-    ghost is_valid: { IsTrue (valid (kind_of dtype.now) (raw_of_items elements)) },
+    ghost is_valid: { IsTrue (valid (kind_of dtype.now) (raw_at value)) },
 }
 
 impl<'a> ListScalar<'a> {
@@ -43,17 +43,12 @@ impl<'a> ListScalar<'a> {
     }
 
     /// The same of a value that the type has.
-    #[tactic(auto, using(crate::proofs::Elements::held))]
     pub(crate) fn new(dtype: &'a DType, value: Option<&'a ScalarValue>) -> ListScalar<'a>
         requires kind { IsTrue (is_listing (kind_of dtype.now)) }
         requires valid { IsTrue (valid (kind_of dtype.now) (raw_at value)) }
         ensures { typed_list result ≡ (kind_of dtype.now, raw_at value.entry) }
     {
-        let elements = match value {
-            Some(value) => value.as_list(),
-            None => None,
-        };
-        ListScalar { dtype, elements }
+        ListScalar { dtype, value }
     }
 
     /// The type.
@@ -61,6 +56,26 @@ impl<'a> ListScalar<'a> {
         ensures { kind_of result.now ≡ (typed_list self.now).0 }
     {
         self.dtype
+    }
+
+    /// The value itself. `None` is null.
+    pub fn value(&self) -> Option<&'a ScalarValue>
+        ensures value { raw_at result ≡ (typed_list self.now).1 }
+        ensures is_valid { IsTrue (valid (typed_list self.now).0 (raw_at result)) }
+    {
+        self.value
+    }
+
+    // The parts, and `None` of null.
+    #[tactic(auto, using(crate::proofs::Elements::held))]
+    fn items(&self) -> Option<&'a [Option<ScalarValue>]>
+        ensures value { raw_of_items result ≡ (typed_list self.now).1 }
+        ensures is_valid { IsTrue (valid (typed_list self.now).0 (raw_of_items result)) }
+    {
+        match self.value {
+            Some(value) => value.as_list(),
+            None => None,
+        }
     }
 
     /// The type of the elements.
@@ -74,10 +89,11 @@ impl<'a> ListScalar<'a> {
     }
 
     /// Whether the value is null.
+    #[tactic(auto, using(vortex_values::proofs::Nulls::never_null))]
     pub fn is_null(&self) -> bool
         ensures { result ≡ is_null (content_of (typed_list self.now).1) }
     {
-        self.elements.is_none()
+        self.value.is_none()
     }
 
     /// How many elements there are. Null has none.
@@ -85,7 +101,7 @@ impl<'a> ListScalar<'a> {
     pub fn len(&self) -> usize
         ensures { result ≡ part_count (typed_list self.now).1 }
     {
-        match self.elements {
+        match self.items() {
             Some(elements) => elements.len(),
             None => 0,
         }
@@ -103,7 +119,7 @@ impl<'a> ListScalar<'a> {
     pub fn element(&self, index: usize) -> Result<Option<Scalar>, AllocError>
         ensures { IfOk result (λ element. option_map typed_scalar element ≡ element_at (typed_list self.now) index) }
     {
-        let Some(elements) = self.elements else {
+        let Some(elements) = self.items() else {
             return Ok(None);
         };
         let Some(element) = value_at(elements, index) else {
@@ -118,7 +134,7 @@ impl<'a> ListScalar<'a> {
     pub fn elements(&self, alloc: Global) -> Result<Option<Vec<Scalar>>, AllocError>
         ensures { IfOk result (λ all. option_map (λ elements. map typed_scalar elements.items) all ≡ elements_of (typed_list self.now)) }
     {
-        let Some(elements) = self.elements else {
+        let Some(elements) = self.items() else {
             return Ok(None);
         };
         let all = scalars_of(alloc, self.element_dtype(), elements)?;

@@ -9,12 +9,12 @@ ghost use Rattle.vortex_views.specs.Forms.{GivesView};
 ghost use Rattle.vortex_views.specs.Views.{typed_scalar};
 ghost use Rattle.vortex_nested_views.specs.Held.{raw_of_items};
 ghost use Rattle.vortex_nested_views.specs.Places.{part_count};
-ghost use Rattle.vortex_nested_views.specs.Entries.{pair_in, entry_at, each_key, each_value, keys_of, values_of};
+ghost use Rattle.vortex_nested_views.specs.Entries.{entry_at, each_key, each_value, keys_of, values_of};
 
-use crate::copies::{scalar_of, value_at};
+use crate::copies::{pair_of, scalar_of, value_at};
 use std::alloc::{AllocError, Global};
+use vortex_casts::validate::validate;
 use vortex_scalars::scalar::Scalar;
-use vortex_scalars::validate::validate;
 use vortex_types::dtype::DType;
 use vortex_types::map_dtype::MapDType;
 use vortex_values::error::ScalarError;
@@ -24,9 +24,9 @@ use vortex_values::scalar_value::ScalarValue;
 #[derive(Drop)]
 pub struct MapScalar<'a> {
     dtype: &'a DType,
-    entries: Option<&'a [Option<ScalarValue>]>,
+    value: Option<&'a ScalarValue>,
     ghost is_map: { IsTrue (is_map_kind (kind_of dtype.now)) },
-    ghost is_valid: { IsTrue (valid (kind_of dtype.now) (raw_of_items entries)) },
+    ghost is_valid: { IsTrue (valid (kind_of dtype.now) (raw_at value)) },
 }
 
 impl<'a> MapScalar<'a> {
@@ -46,17 +46,12 @@ impl<'a> MapScalar<'a> {
     }
 
     /// The same of a value that the type has.
-    #[tactic(auto, using(crate::proofs::Pairs::held))]
     pub(crate) fn new(dtype: &'a DType, value: Option<&'a ScalarValue>) -> MapScalar<'a>
         requires kind { IsTrue (is_map_kind (kind_of dtype.now)) }
         requires valid { IsTrue (valid (kind_of dtype.now) (raw_at value)) }
         ensures { typed_map result ≡ (kind_of dtype.now, raw_at value.entry) }
     {
-        let entries = match value {
-            Some(value) => value.as_list(),
-            None => None,
-        };
-        MapScalar { dtype, entries }
+        MapScalar { dtype, value }
     }
 
     /// The type.
@@ -64,6 +59,26 @@ impl<'a> MapScalar<'a> {
         ensures { kind_of result.now ≡ (typed_map self.now).0 }
     {
         self.dtype
+    }
+
+    /// The value itself. `None` is null.
+    pub fn value(&self) -> Option<&'a ScalarValue>
+        ensures value { raw_at result ≡ (typed_map self.now).1 }
+        ensures is_valid { IsTrue (valid (typed_map self.now).0 (raw_at result)) }
+    {
+        self.value
+    }
+
+    // The parts, and `None` of null.
+    #[tactic(auto, using(crate::proofs::Pairs::held))]
+    fn items(&self) -> Option<&'a [Option<ScalarValue>]>
+        ensures value { raw_of_items result ≡ (typed_map self.now).1 }
+        ensures is_valid { IsTrue (valid (typed_map self.now).0 (raw_of_items result)) }
+    {
+        match self.value {
+            Some(value) => value.as_list(),
+            None => None,
+        }
     }
 
     /// The types of keys and values.
@@ -77,10 +92,11 @@ impl<'a> MapScalar<'a> {
     }
 
     /// Whether the value is null.
+    #[tactic(auto, using(vortex_values::proofs::Nulls::never_null))]
     pub fn is_null(&self) -> bool
         ensures { result ≡ is_null (content_of (typed_map self.now).1) }
     {
-        self.entries.is_none()
+        self.value.is_none()
     }
 
     /// How many entries there are. Null has none.
@@ -88,7 +104,7 @@ impl<'a> MapScalar<'a> {
     pub fn len(&self) -> usize
         ensures { result ≡ part_count (typed_map self.now).1 }
     {
-        match self.entries {
+        match self.items() {
             Some(entries) => entries.len(),
             None => 0,
         }
@@ -106,7 +122,7 @@ impl<'a> MapScalar<'a> {
     pub fn entry(&self, index: usize) -> Result<Option<(Scalar, Scalar)>, AllocError>
         ensures { IfOk result (λ entry. option_map (λ pair. (typed_scalar pair.0, typed_scalar pair.1)) entry ≡ entry_at (typed_map self.now) index) }
     {
-        let Some(entries) = self.entries else {
+        let Some(entries) = self.items() else {
             return Ok(None);
         };
         let Some(entry) = value_at(entries, index) else {
@@ -126,7 +142,7 @@ impl<'a> MapScalar<'a> {
     pub fn keys(&self, alloc: Global) -> Result<Option<Vec<Scalar>>, AllocError>
         ensures { IfOk result (λ all. option_map (λ keys. map typed_scalar keys.items) all ≡ keys_of (typed_map self.now)) }
     {
-        let Some(entries) = self.entries else {
+        let Some(entries) = self.items() else {
             return Ok(None);
         };
         let all = key_copies(alloc, self.map_dtype(), entries)?;
@@ -138,7 +154,7 @@ impl<'a> MapScalar<'a> {
     pub fn values(&self, alloc: Global) -> Result<Option<Vec<Scalar>>, AllocError>
         ensures { IfOk result (λ all. option_map (λ values. map typed_scalar values.items) all ≡ values_of (typed_map self.now)) }
     {
-        let Some(entries) = self.entries else {
+        let Some(entries) = self.items() else {
             return Ok(None);
         };
         let all = value_copies(alloc, self.map_dtype(), entries)?;
@@ -188,16 +204,4 @@ fn value_copies(
         }
     }
     Ok(values)
-}
-
-/// The key and the value of an entry, each `None` where it is null.
-#[tactic(auto, using(crate::proofs::Pairs::split))]
-fn pair_of(entry: Option<&ScalarValue>) -> Option<(Option<&ScalarValue>, Option<&ScalarValue>)>
-    ensures { option_map (λ pair. (raw_at pair.0, raw_at pair.1)) result ≡ pair_in (raw_at entry.entry) }
-{
-    let items = entry?.as_list()?;
-    match items {
-        [key, value] => Some((key.as_ref(), value.as_ref())),
-        _ => None,
-    }
 }

@@ -22,9 +22,9 @@ use vortex_values::scalar_value::ScalarValue;
 #[derive(Drop)]
 pub struct StructScalar<'a> {
     dtype: &'a DType,
-    values: Option<&'a [Option<ScalarValue>]>,
+    value: Option<&'a ScalarValue>,
     ghost is_record: { IsTrue (is_struct_kind (kind_of dtype.now)) },
-    ghost is_valid: { IsTrue (valid (kind_of dtype.now) (raw_of_items values)) },
+    ghost is_valid: { IsTrue (valid (kind_of dtype.now) (raw_at value)) },
 }
 
 impl<'a> StructScalar<'a> {
@@ -32,17 +32,12 @@ impl<'a> StructScalar<'a> {
     ghost use Rattle.vortex_nested_views.specs.Nested.{typed_struct};
 
     /// The value as one of the type, which is of records and has it.
-    #[tactic(auto, using(crate::proofs::Records::held))]
     pub(crate) fn new(dtype: &'a DType, value: Option<&'a ScalarValue>) -> StructScalar<'a>
         requires kind { IsTrue (is_struct_kind (kind_of dtype.now)) }
         requires valid { IsTrue (valid (kind_of dtype.now) (raw_at value)) }
         ensures { typed_struct result ≡ (kind_of dtype.now, raw_at value.entry) }
     {
-        let values = match value {
-            Some(value) => value.as_list(),
-            None => None,
-        };
-        StructScalar { dtype, values }
+        StructScalar { dtype, value }
     }
 
     /// The type.
@@ -50,6 +45,26 @@ impl<'a> StructScalar<'a> {
         ensures { kind_of result.now ≡ (typed_struct self.now).0 }
     {
         self.dtype
+    }
+
+    /// The value itself. `None` is null.
+    pub fn value(&self) -> Option<&'a ScalarValue>
+        ensures value { raw_at result ≡ (typed_struct self.now).1 }
+        ensures is_valid { IsTrue (valid (typed_struct self.now).0 (raw_at result)) }
+    {
+        self.value
+    }
+
+    // The parts, and `None` of null.
+    #[tactic(auto, using(crate::proofs::Records::held))]
+    fn items(&self) -> Option<&'a [Option<ScalarValue>]>
+        ensures value { raw_of_items result ≡ (typed_struct self.now).1 }
+        ensures is_valid { IsTrue (valid (typed_struct self.now).0 (raw_of_items result)) }
+    {
+        match self.value {
+            Some(value) => value.as_list(),
+            None => None,
+        }
     }
 
     /// The fields.
@@ -69,10 +84,11 @@ impl<'a> StructScalar<'a> {
     }
 
     /// Whether the value is null.
+    #[tactic(auto, using(vortex_values::proofs::Nulls::never_null))]
     pub fn is_null(&self) -> bool
         ensures { result ≡ is_null (content_of (typed_struct self.now).1) }
     {
-        self.values.is_none()
+        self.value.is_none()
     }
 
     /// A copy of the value of the field at this place, and `None` past the end. Null has no fields.
@@ -80,7 +96,7 @@ impl<'a> StructScalar<'a> {
     pub fn field_by_idx(&self, index: usize) -> Result<Option<Scalar>, AllocError>
         ensures { IfOk result (λ field. option_map typed_scalar field ≡ field_of_record (typed_struct self.now) index) }
     {
-        let Some(values) = self.values else {
+        let Some(values) = self.items() else {
             return Ok(None);
         };
         let dtype = self.struct_fields().field_by_index(index);

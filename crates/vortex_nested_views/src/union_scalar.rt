@@ -13,10 +13,10 @@ ghost use Rattle.vortex_nested_views.specs.Places.{tag_of, place_of_choice, chil
 
 use crate::copies::scalar_of;
 use std::alloc::AllocError;
+use vortex_casts::validate::validate;
 use vortex_kinds::nullability::Nullability;
 use vortex_records::union_variants_ext::UnionVariantsExt;
 use vortex_scalars::scalar::Scalar;
-use vortex_scalars::validate::validate;
 use vortex_types::dtype::DType;
 use vortex_types::union_variants::UnionVariants;
 use vortex_values::error::ScalarError;
@@ -27,9 +27,9 @@ use vortex_values::union_value::UnionValue;
 #[derive(Drop)]
 pub struct UnionScalar<'a> {
     dtype: &'a DType,
-    value: Option<&'a UnionValue>,
+    value: Option<&'a ScalarValue>,
     ghost is_union: { IsTrue (is_union_kind (kind_of dtype.now)) },
-    ghost is_valid: { IsTrue (valid (kind_of dtype.now) (raw_of_choice value)) },
+    ghost is_valid: { IsTrue (valid (kind_of dtype.now) (raw_at value)) },
 }
 
 impl<'a> UnionScalar<'a> {
@@ -50,16 +50,11 @@ impl<'a> UnionScalar<'a> {
     }
 
     /// The same of a value that the type has.
-    #[tactic(auto, using(crate::proofs::Choices::held))]
     pub(crate) fn new(dtype: &'a DType, value: Option<&'a ScalarValue>) -> UnionScalar<'a>
         requires kind { IsTrue (is_union_kind (kind_of dtype.now)) }
         requires valid { IsTrue (valid (kind_of dtype.now) (raw_at value)) }
         ensures { typed_union result ≡ (kind_of dtype.now, raw_at value.entry) }
     {
-        let value = match value {
-            Some(value) => value.as_union(),
-            None => None,
-        };
         UnionScalar { dtype, value }
     }
 
@@ -68,6 +63,26 @@ impl<'a> UnionScalar<'a> {
         ensures { kind_of result.now ≡ (typed_union self.now).0 }
     {
         self.dtype
+    }
+
+    /// The value itself. `None` is null.
+    pub fn value(&self) -> Option<&'a ScalarValue>
+        ensures value { raw_at result ≡ (typed_union self.now).1 }
+        ensures is_valid { IsTrue (valid (typed_union self.now).0 (raw_at result)) }
+    {
+        self.value
+    }
+
+    // The tag with the value under it, and `None` of null.
+    #[tactic(auto, using(crate::proofs::Choices::held))]
+    fn choice(&self) -> Option<&'a UnionValue>
+        ensures value { raw_of_choice result ≡ (typed_union self.now).1 }
+        ensures is_valid { IsTrue (valid (typed_union self.now).0 (raw_of_choice result)) }
+    {
+        match self.value {
+            Some(value) => value.as_union(),
+            None => None,
+        }
     }
 
     /// Whether the union may be null itself.
@@ -88,7 +103,7 @@ impl<'a> UnionScalar<'a> {
     }
 
     /// Whether the union is null itself.
-    #[tactic(auto, using(crate::proofs::Choices::tagged))]
+    #[tactic(auto, using(vortex_values::proofs::Nulls::never_null))]
     pub fn is_null(&self) -> bool
         ensures { result ≡ is_null (content_of (typed_union self.now).1) }
     {
@@ -100,8 +115,8 @@ impl<'a> UnionScalar<'a> {
     pub fn type_id(&self) -> Option<i8>
         ensures { result ≡ tag_of (typed_union self.now).1 }
     {
-        match self.value {
-            Some(value) => Some(value.type_id()),
+        match self.choice() {
+            Some(union) => Some(union.type_id()),
             None => None,
         }
     }
@@ -130,9 +145,9 @@ impl<'a> UnionScalar<'a> {
     pub fn child(&self) -> Result<Option<Scalar>, AllocError>
         ensures { IfOk result (λ child. option_map typed_scalar child ≡ child_of (typed_union self.now)) }
     {
-        match (self.variant_dtype(), self.value) {
-            (Some(dtype), Some(value)) => {
-                let child = scalar_of(dtype, value.child_value())?;
+        match (self.variant_dtype(), self.choice()) {
+            (Some(dtype), Some(union)) => {
+                let child = scalar_of(dtype, union.child_value())?;
                 Ok(Some(child))
             }
             (Some(_), None) | (None, Some(_)) | (None, None) => Ok(None),

@@ -5,11 +5,13 @@ ghost use Rattle.vortex_model.specs.Valid.{valid};
 ghost use Rattle.vortex_types.specs.Parts.{is_variant_kind};
 ghost use Rattle.vortex_types.specs.View.{kind_of};
 ghost use Rattle.vortex_values.specs.View.{raw_at};
+ghost use Rattle.vortex_defaults.specs.Zero.{zero_test};
 ghost use Rattle.vortex_nested_views.specs.Held.{raw_of_whichever};
 ghost use Rattle.vortex_nested_views.specs.Places.{inner_of};
 
 use crate::copies::scalar_of;
 use std::alloc::AllocError;
+use vortex_defaults::is_zero::is_zero_value;
 use vortex_scalars::scalar::Scalar;
 use vortex_types::dtype::DType;
 use vortex_values::scalar_value::ScalarValue;
@@ -19,9 +21,9 @@ use vortex_values::variant_value::VariantValue;
 #[derive(Drop)]
 pub struct VariantScalar<'a> {
     dtype: &'a DType,
-    value: Option<&'a VariantValue>,
+    stored: Option<&'a ScalarValue>,
     ghost is_variant: { IsTrue (is_variant_kind (kind_of dtype.now)) },
-    ghost is_valid: { IsTrue (valid (kind_of dtype.now) (raw_of_whichever value)) },
+    ghost is_valid: { IsTrue (valid (kind_of dtype.now) (raw_at stored)) },
 }
 
 impl<'a> VariantScalar<'a> {
@@ -29,17 +31,15 @@ impl<'a> VariantScalar<'a> {
     ghost use Rattle.vortex_nested_views.specs.Nested.{typed_variant};
 
     /// The value as one of the type, which is of variants and has it.
-    #[tactic(auto, using(crate::proofs::Whichever::held))]
     pub(crate) fn new(dtype: &'a DType, value: Option<&'a ScalarValue>) -> VariantScalar<'a>
         requires kind { IsTrue (is_variant_kind (kind_of dtype.now)) }
         requires valid { IsTrue (valid (kind_of dtype.now) (raw_at value)) }
         ensures { typed_variant result ≡ (kind_of dtype.now, raw_at value.entry) }
     {
-        let value = match value {
-            Some(value) => value.as_variant(),
-            None => None,
-        };
-        VariantScalar { dtype, value }
+        VariantScalar {
+            dtype,
+            stored: value,
+        }
     }
 
     /// The type.
@@ -49,12 +49,31 @@ impl<'a> VariantScalar<'a> {
         self.dtype
     }
 
+    /// The value as it is stored: what the variant holds, with its type. `None` is null.
+    pub(crate) fn stored(&self) -> Option<&'a ScalarValue>
+        ensures { raw_at result ≡ (typed_variant self.now).1 }
+    {
+        self.stored
+    }
+
+    // What the variant holds, with its type, and `None` where it is null itself.
+    #[tactic(auto, using(crate::proofs::Whichever::held))]
+    fn whichever(&self) -> Option<&'a VariantValue>
+        ensures value { raw_of_whichever result ≡ (typed_variant self.now).1 }
+        ensures is_valid { IsTrue (valid (typed_variant self.now).0 (raw_of_whichever result)) }
+    {
+        match self.stored {
+            Some(value) => value.as_variant(),
+            None => None,
+        }
+    }
+
     /// Whether the variant is null itself.
     #[tactic(auto, using(crate::proofs::Whichever::inner))]
     pub fn is_null(&self) -> bool
         ensures { result ≡ is_null (content_of (typed_variant self.now).1) }
     {
-        self.value.is_none()
+        self.stored.is_none()
     }
 
     /// A copy of what the variant holds, and `None` where it is null itself.
@@ -62,11 +81,20 @@ impl<'a> VariantScalar<'a> {
     pub fn value(&self) -> Result<Option<Scalar>, AllocError>
         ensures { IfOk result (λ inner. option_map typed_scalar inner ≡ inner_of (typed_variant self.now).1) }
     {
-        let Some(value) = self.value else {
+        let Some(value) = self.whichever() else {
             return Ok(None);
         };
         let inner = scalar_of(value.dtype(), value.value())?;
         Ok(Some(inner))
+    }
+
+    /// Whether the variant holds the zero of a type, and `None` where it is null itself. It takes no memory.
+    #[tactic(auto, using(vortex_values::proofs::Nulls::never_null))]
+    pub fn is_zero(&self) -> Option<bool>
+        ensures { result ≡ zero_test (typed_variant self.now).0 (typed_variant self.now).1 }
+    {
+        let value = self.stored()?;
+        Some(is_zero_value(self.dtype, Some(value)))
     }
 
     /// Whether the variant holds a null of a type, and `None` where it is null itself.
@@ -74,7 +102,7 @@ impl<'a> VariantScalar<'a> {
     pub fn is_variant_null(&self) -> Option<bool>
         ensures { result ≡ option_map (λ inner. is_null (content_of inner.1)) (inner_of (typed_variant self.now).1) }
     {
-        match self.value {
+        match self.whichever() {
             Some(value) => Some(value.value().is_none()),
             None => None,
         }

@@ -1,6 +1,6 @@
-mod Compared
+pub mod Compared
 pub mod Fed
 pub mod Forms
 pub mod Items
-mod Ordered
-mod Sameness
+pub mod Ordered
+pub mod Sameness

@@ -1,21 +1,27 @@
 -- The texts of answers: compact, with the keys of an object in byte order.
 use Rattle.std.specs.Prelude.{ℕ, List, [], ◌∷◌, ◌++◌, Bool, true, false, codes, decimal, Option, Some, None}
 use Rattle.std.specs.Fmt.{signed_decimal}
+use Rattle.hex.specs.Hex.{encode_lower}
 use Rattle.json.specs.Print.{quoted}
-use Rattle.vortex_model.specs.Content.{Content, null, truth, whole, text, tuple, Contents, nothing, first}
+use Rattle.vortex_model.specs.Content.{Content, null, truth, whole, text, blob, tuple, Contents, nothing, first}
 use Rattle.vortex_model.specs.Refusal.{Refusal, not_a_record, unkept_type, repeated_name, invalid_value, not_convertible, total, no_such_group, unknown_path, element_step, placeholder, unknown_column, not_a_leaf, unequal_types, not_boolean, unsupported_like, no_table, unsupported_predicate, repeated_path, number_of}
 use Rattle.vortex_model.specs.Scan.{ScanAnswer}
 use Rattle.vortex_type_texts.specs.Text.{flag_text, comma, kind_text}
 
 -- ---- contents
 
--- A content as a table can hold it: null, a truth value, a number, a text, or an array by position.
+-- bytes: their hexadecimal digits in lower case, two a byte, with quotes
+abbrev pub bytes_text : List ℕ → List ℕ
+bytes_text bs = codes "\"" ++ encode_lower bs ++ codes "\""
+
+-- A content as a table can hold it: null, a truth value, a number, a text, bytes, or an array by position.
 abbrev mutual
   pub content_text : Content → List ℕ
   content_text null = codes "null"
   content_text (truth b) = flag_text b
   content_text (whole z) = signed_decimal z
   content_text (text bs) = quoted bs
+  content_text (blob bs) = bytes_text bs
   content_text (tuple cs) = codes "[" ++ contents_text false cs ++ codes "]"
   content_text c = []
 

@@ -1,6 +1,7 @@
 //! The texts of answers, as compact JSON.
 #![tactic(auto)]
 
+mod hexadecimal;
 mod refusals;
 mod scans;
 mod values;

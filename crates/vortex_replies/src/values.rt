@@ -6,6 +6,7 @@ ghost use Rattle.vortex_values.specs.Numbers.{integer_of};
 ghost use Rattle.vortex_values.specs.View.{raw_of, raw_at, raws_in};
 ghost use Rattle.vortex_replies.specs.Text.{content_text, contents_text, numbers_text};
 
+use crate::hexadecimal::push_bytes;
 use std::alloc::AllocError;
 use vortex_type_texts::{push_comma, push_flag, push_number, push_quoted};
 use vortex_values::pvalue::PValue;
@@ -39,8 +40,8 @@ fn push_integer(out: &mut Vec<u8>, number: PValue) -> Result<(), AllocError>
     }
 }
 
-/// Writes a value: a number, a truth value, a text, or an array by position. Of bytes, and of the values of unions and variants,
-/// nothing is written.
+/// Writes a value: a number, a truth value, a text, bytes as a text of hexadecimal digits, or an array by position. Of the
+/// values of unions and variants nothing is written.
 #[tactic(auto, using(vortex_values::proofs::Views::one_level))]
 #[cycle(value)]
 pub fn push_value(out: &mut Vec<u8>, value: &ScalarValue) -> Result<(), AllocError>
@@ -56,7 +57,8 @@ pub fn push_value(out: &mut Vec<u8>, value: &ScalarValue) -> Result<(), AllocErr
             out.extend_from_slice(b"]")?;
             Ok(())
         }
-        ScalarValue::Binary(_) | ScalarValue::Union(_) | ScalarValue::Variant(_) => Ok(()),
+        ScalarValue::Binary(bytes) => push_bytes(out, bytes.as_slice()),
+        ScalarValue::Union(_) | ScalarValue::Variant(_) => Ok(()),
     }
 }
 

@@ -1,7 +1,3 @@
-pub mod Casts
-pub mod KeptValues
-pub mod LeafValues
-pub mod ListValues
-pub mod Tags
-pub mod Validity
-pub mod Views
+pub mod Natives
+pub mod Nullable
+pub mod Reinterpreted

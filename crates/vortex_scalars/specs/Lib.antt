@@ -1,3 +1,4 @@
-pub mod Converting
+pub mod Native
+pub mod Reinterpreted
+pub mod Same
 pub mod Scalar
-pub mod Tagged

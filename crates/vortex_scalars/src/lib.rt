@@ -1,10 +1,11 @@
-//! Values of columns with their type: their validity for it, and their conversion between types.
+//! Values of columns with their type: what can be asked of them, and the machine's values as such.
 #![tactic(auto)]
 
-pub mod cast;
-mod kept;
-mod leaves;
-mod lists;
+pub mod compare;
+pub mod from_native;
+pub mod into_native;
+pub mod methods;
+pub mod native_value;
+mod reading;
+pub mod reinterpret;
 pub mod scalar;
-mod tagged;
-pub mod validate;

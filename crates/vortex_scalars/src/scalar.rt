@@ -6,8 +6,8 @@ ghost use Rattle.vortex_model.specs.Valid.{valid};
 ghost use Rattle.vortex_types.specs.View.{kind_of};
 ghost use Rattle.vortex_values.specs.View.{raw_in, raw_at};
 
-use crate::validate::validate;
 use std::alloc::AllocError;
+use vortex_casts::validate::validate;
 use vortex_types::dtype::DType;
 use vortex_values::clone::copy_value;
 use vortex_values::error::ScalarError;
@@ -47,7 +47,7 @@ impl Scalar {
     }
 
     /// Null of the type.
-    #[tactic(auto, using(crate::proofs::Views::nulls))]
+    #[tactic(auto, using(vortex_casts::proofs::Views::nulls))]
     pub fn null(dtype: DType) -> Scalar
         requires { IsTrue (is_nullable (nullability_of (kind_of dtype))) }
         ensures dtype { scalar_kind result ≡ kind_of dtype }

@@ -48,10 +48,6 @@ pub whole_fault : (k : NumberKind) → is_real k ≡ false → None ≡ fault_of
 whole_fault (whole i) h = refl
 whole_fault (real f) h = absurd (cc (h))
 
--- truth values are no part that is kept
-pub truths_in_part : (n : outer.Nullability) → kept_part_fault (kind_of (type.Bool n)) ≡ Some unkept_type
-truths_in_part n = search (rules, type.the_lemmas)
-
 pub ruleset roots = (one_level, extension_kind-parts, numbers_at_root)
 
 pub ruleset parts = (one_level, extension_kind-parts, first_part, names_repeat, names_differ, numbers_in_part)

@@ -18,7 +18,7 @@ use vortex_types::struct_fields::StructField;
 pub enum TypeFault {
     /// The type is no record, or a nullable one.
     NotARecord,
-    /// A part is none that tables hold so far, which are integers and records.
+    /// A part is none that tables hold so far, which are truth values, integers, texts, bytes and records.
     UnkeptType,
     /// Two fields of a record have one name.
     RepeatedName,
@@ -69,9 +69,9 @@ fn part_fault(alloc: Global, dtype: &DType) -> Result<Option<TypeFault>, AllocEr
             Ok(fault)
         }
         DType::Primitive(ptype, _) => Ok(number_fault(*ptype)),
-        DType::Bool(_) => Ok(Some(TypeFault::UnkeptType)),
-        DType::Null | DType::Decimal(_, _) => Ok(Some(TypeFault::UnkeptType)),
-        DType::Utf8(_) | DType::Binary(_) | DType::Variant(_) => Ok(Some(TypeFault::UnkeptType)),
+        DType::Bool(_) | DType::Binary(_) => Ok(None),
+        DType::Utf8(_) => Ok(None),
+        DType::Null | DType::Decimal(_, _) | DType::Variant(_) => Ok(Some(TypeFault::UnkeptType)),
         DType::List(_, _) | DType::FixedSizeList(_, _, _) | DType::Map(_, _) => {
             Ok(Some(TypeFault::UnkeptType))
         }

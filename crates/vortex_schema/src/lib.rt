@@ -2,4 +2,5 @@
 #![tactic(auto)]
 
 pub mod kept;
+pub mod layout;
 pub mod leaves;

@@ -21,12 +21,18 @@ pub mod dtype {
     };
 }
 
-/// Values, their validity and their conversion.
+/// Values, their validity and conversion, their order, makers, views and bounds.
 pub mod scalar {
     pub use vortex_scalar::{
-        CoercePValue, PValue, Scalar, ScalarError, ScalarValue, StringLike, UnionValue,
-        VariantValue, cast_value, copy_value, lower_bytes, lower_text, match_each_pvalue,
-        next_character, upper_bytes, upper_text, validate,
+        BinaryScalar, BoolScalar, CoercePValue, ExtDTypeScalarExt, ExtScalar, FromScalar,
+        ListElementsIter, ListScalar, ListScalarExt, MapEntriesIter, MapKeysIter, MapScalar,
+        MapScalarExt, MapValuesIter, NativeValue, NestedScalarMakers, NestedScalarViews,
+        NumericOperator, PValue, PrimitiveScalar, Scalar, ScalarDefaults, ScalarError,
+        ScalarMakers, ScalarTruncation, ScalarValue, ScalarViews, StringLike, StructFieldsIter,
+        StructScalar, StructScalarExt, UnionScalar, UnionScalarExt, UnionValue, Utf8Scalar,
+        VariantScalar, VariantValue, cast_value, compare_values, copy_value, feed_value,
+        lower_bound, lower_bytes, lower_text, match_each_pvalue, next_character, same_values,
+        upper_bound, upper_bytes, upper_text, validate,
     };
 }
 
@@ -45,9 +51,10 @@ pub mod expr {
 
 /// The table of chunks.
 pub mod table {
-    pub use vortex_chunks::answer::ScanAnswer;
     pub use vortex_chunks::error::TableError;
-    pub use vortex_chunks::table::{Layout, Table};
+    pub use vortex_chunks::table::Table;
+    pub use vortex_cuts::answer::ScanAnswer;
+    pub use vortex_schema::layout::Layout;
 }
 
 /// Lines to commands, and commands to answers.

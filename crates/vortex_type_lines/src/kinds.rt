@@ -58,8 +58,8 @@ pub(crate) fn read_flag(flag: Option<&Value>) -> Result<bool, Fault>
     }
 }
 
-/// The bytes that a text of hexadecimal digits is.
-fn read_digits(alloc: Global, text: &str) -> Result<ByteBuffer, Fault>
+/// The bytes that a text of hexadecimal digits is: two digits a byte, of either case. Any other text is bad.
+pub fn read_digits(alloc: Global, text: &str) -> Result<ByteBuffer, Fault>
     ensures { Gives (λ b. b) result (bytes_of_digits text.now) }
 {
     match hex::decode(alloc, text) {

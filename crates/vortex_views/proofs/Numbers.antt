@@ -1,6 +1,9 @@
 -- What a valid number is, and what is made of two.
-use Rattle.std.proofs.Common.{◌≡◌, ◌&&◌, ℤ, Bool, true, false, Option, Some, None, option_map, refl, sym, ap, ◌∙◌}
-use Rattle.vortex_model.specs.Kind.{Kind, IntKind, Nullability, nullable, non_nullable, integer, float, is_nullable, nullability_of, same_int_kind}
+use Rattle.std.proofs.Common.{◌≡◌, ◌&&◌, Bool, true, false, Option, Some, None, option_map, refl, sym, ap, ◌∙◌}
+use Rattle.std.specs.Hash as fed
+use Rattle.std.specs.Option.{option_eq, option_cmp}
+use Rattle.std.specs.Ordering.{on, int_eq, int_cmp}
+use Rattle.vortex_model.specs.Kind.{Kind, IntKind, nullable, non_nullable, integer, float, is_nullable, nullability_of, same_int_kind}
 use Rattle.vortex_model.specs.Content.{Raw, raw_null, raw_number}
 use Rattle.vortex_model.specs.Valid.{valid, in_range}
 use Rattle.vortex_model.proofs.Tests.{kind_so}
@@ -85,3 +88,38 @@ made_valid (float f n) l d p m e h v s g = absurd (cc (v))
 made_valid k l d p m e h v s f = absurd (cc (h))
 
 pub ruleset combined = (values.one_level, typed, kind_by-primitive, made_valid)
+
+-- ---- equality, order and hashing
+
+number_at : (o : Option PValue) (r : Raw) → option_map raw_of_number o ≡ as_number r → option_map integer_of o ≡ whole_in r
+number_at None (raw_number i z) e = absurd (cc (e))
+number_at None r e = refl
+number_at (Some p) (raw_number i z) e = cc (e)
+number_at (Some p) r e = absurd (cc (e))
+
+numbers_equal : (p q : Option PValue) → option_eq (on integer_of int_eq) p q ≡ option_eq int_eq (option_map integer_of p) (option_map integer_of q)
+numbers_equal None None = refl
+numbers_equal None (Some q) = refl
+numbers_equal (Some p) None = refl
+numbers_equal (Some p) (Some q) = refl
+
+numbers_stand : (p q : Option PValue) → option_cmp (on integer_of int_cmp) p q ≡ option_cmp int_cmp (option_map integer_of p) (option_map integer_of q)
+numbers_stand None None = refl
+numbers_stand None (Some q) = refl
+numbers_stand (Some p) None = refl
+numbers_stand (Some p) (Some q) = refl
+
+numbers_feed : (p : Option PValue) → fed.option (λ v. fed.i128 (integer_of v)) p ≡ fed.option fed.i128 (option_map integer_of p)
+numbers_feed None = refl
+numbers_feed (Some p) = refl
+
+pub equal_seen : (p q : Option PValue) (r s : Raw) → option_map raw_of_number p ≡ as_number r → option_map raw_of_number q ≡ as_number s → option_eq (on integer_of int_eq) p q ≡ option_eq int_eq (whole_in r) (whole_in s)
+equal_seen p q r s e f = numbers_equal p q ∙ (λ i. option_eq int_eq (number_at p r e i) (number_at q s f i))
+
+pub order_seen : (p q : Option PValue) (r s : Raw) → option_map raw_of_number p ≡ as_number r → option_map raw_of_number q ≡ as_number s → option_cmp (on integer_of int_cmp) p q ≡ option_cmp int_cmp (whole_in r) (whole_in s)
+order_seen p q r s e f = numbers_stand p q ∙ (λ i. option_cmp int_cmp (number_at p r e i) (number_at q s f i))
+
+pub feed_seen : (p : Option PValue) (r : Raw) → option_map raw_of_number p ≡ as_number r → fed.option (λ v. fed.i128 (integer_of v)) p ≡ fed.option fed.i128 (whole_in r)
+feed_seen p r e = numbers_feed p ∙ ap (λ o. fed.option fed.i128 o) (number_at p r e)
+
+pub ruleset seen = (equal_seen, order_seen, feed_seen)

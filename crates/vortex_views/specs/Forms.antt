@@ -36,3 +36,7 @@ GivesView seen is_kind k r result = (is_ok result ≡ (is_kind k && valid k r)) 
 -- the value with its type, where the type is of the kind asked
 abbrev pub viewed : (Kind → Bool) → Typed → Option Typed
 viewed is_kind t = if is_kind t.0 then Some t else None
+
+-- A view of the value with its type, where the type is of the kind asked. `seen` says what a view stands for.
+abbrev pub ViewsTyped : {V : Type 0} → (V → Typed) → (Kind → Bool) → Typed → Result V ScalarError → Type 0
+ViewsTyped seen is_kind t result = (is_ok result ≡ is_kind t.0) × (IfOk result (λ v. seen v ≡ t)) × (IfErr result (λ e. e ≡ Invalid))

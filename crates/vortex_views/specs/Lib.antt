@@ -1,4 +1,6 @@
 pub mod Equal
 pub mod Forms
+pub mod Laws
 pub mod Numeric
+pub mod Ordered
 pub mod Views

@@ -1,10 +1,11 @@
 -- Sums, differences, products and quotients of integers of one kind.
-use Rattle.std.specs.Prelude.{◌≡◌, ℤ, pos, ◌+ℤ◌, ◌-ℤ◌, ◌*ℤ◌, int_div, Bool, if◌then◌else◌, Option, Some, None, option_and_then}
+use Rattle.std.specs.Prelude.{◌≡◌, ℤ, pos, ◌+ℤ◌, ◌-ℤ◌, ◌*ℤ◌, int_div, IsTrue, if◌then◌else◌, Option, Some, None, is_some, option_and_then}
 use Rattle.std.specs.Ordering.{int_eq}
 use Rattle.vortex_model.specs.Kind.{Kind, IntKind, either_nullable, nullability_of, with_nullability}
 use Rattle.vortex_model.specs.Content.{Raw, raw_null, raw_number}
 use Rattle.vortex_model.specs.Valid.{in_range}
 use Rattle.vortex_types.specs.Parts.{numbers_in_kind}
+use Rattle.vortex_views.specs.Forms.{Typed}
 use Rattle.vortex_views.specs.declared.numeric_operator.NumericOperator.{NumericOperator}
 use Rattle.vortex_views.specs.declared.numeric_operator.NumericOperator.TheVariants as operator
 
@@ -32,3 +33,10 @@ kind_by k l = with_nullability (either_nullable (nullability_of k) (nullability_
 -- the two are types of numbers of one kind
 abbrev pub HaveSameNumbers : Kind → Kind → Type 0
 HaveSameNumbers k l = numbers_in_kind k ≡ numbers_in_kind l
+
+-- what an operator asks of its two sides, each a type of numbers and a value of it, and what it gives
+abbrev pub CanMake : NumericOperator → Typed → Typed → Type 0
+CanMake op t u = HaveSameNumbers t.0 u.0 × IsTrue (is_some (raw_by op t.1 u.1))
+
+abbrev pub Makes : NumericOperator → Typed → Typed → Typed → Type 0
+Makes op t u made = (raw_by op t.1 u.1 ≡ Some made.1) × (made.0 ≡ kind_by t.0 u.0)

@@ -9,8 +9,8 @@ ghost use Rattle.vortex_values.specs.View.{raw_at};
 ghost use Rattle.vortex_views.specs.Forms.{raw_of_truth, GivesView};
 
 use std::alloc::AllocError;
+use vortex_casts::validate::validate;
 use vortex_scalars::scalar::Scalar;
-use vortex_scalars::validate::validate;
 use vortex_types::dtype::DType;
 use vortex_values::error::ScalarError;
 use vortex_values::scalar_value::ScalarValue;

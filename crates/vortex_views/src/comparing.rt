@@ -1,10 +1,13 @@
-//! Views of truth values, texts and bytes are equal where their values are, since their types differ in nullability alone.
+//! Views are equal where their types are, nullability aside, and their values are the same. Types of truth values, of texts and of
+//! bytes differ in nullability alone.
 ghost use Rattle.std.specs.Cmp.{bool_eq_equiv, on_equiv, partial_equiv_from_equiv};
 ghost use Rattle.std.specs.Cmp.Lexicographic.{options_equiv, nat_list_eq_equiv};
-ghost use Rattle.vortex_views.specs.Equal.{truth_seen, text_seen, bytes_seen, same_truths, same_texts, same_bytes};
+ghost use Rattle.vortex_views.specs.Equal.{truth_seen, text_seen, bytes_seen, same_truths, same_numbers, same_texts, same_bytes};
+ghost use Rattle.vortex_views.specs.Laws.{numbers_equiv};
 
 use crate::binary_scalar::BinaryScalar;
 use crate::bool_scalar::BoolScalar;
+use crate::primitive_scalar::PrimitiveScalar;
 use crate::utf8_scalar::Utf8Scalar;
 
 impl PartialEq for BoolScalar<'_> {
@@ -19,6 +22,22 @@ impl PartialEq for BoolScalar<'_> {
 
 impl Eq for BoolScalar<'_> {
     ghost laws = { on_equiv truth_seen (options_equiv bool_eq_equiv) };
+}
+
+/// Numbers are equal as whole numbers.
+impl PartialEq for PrimitiveScalar<'_> {
+    ghost eq = { same_numbers };
+
+    ghost laws = { partial_equiv_from_equiv numbers_equiv };
+
+    #[tactic(auto, using(crate::proofs::Numbers::seen))]
+    fn eq(&self, other: &PrimitiveScalar<'_>) -> bool {
+        self.dtype().eq_ignore_nullability(other.dtype()) && self.pvalue() == other.pvalue()
+    }
+}
+
+impl Eq for PrimitiveScalar<'_> {
+    ghost laws = { numbers_equiv };
 }
 
 impl PartialEq for Utf8Scalar<'_> {

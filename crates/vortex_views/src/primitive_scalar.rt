@@ -17,9 +17,11 @@ ghost use Rattle.vortex_views.specs.Numeric.{whole_by, number_within, raw_by, ki
 ghost use Rattle.vortex_views.specs.Forms.{raw_of_integer, GivesView};
 
 use crate::numeric_operator::NumericOperator;
+use std::alloc::AllocError;
+use vortex_casts::validate::validate;
 use vortex_kinds::ptype::PType;
 use vortex_natives::native::NativePType;
-use vortex_scalars::validate::validate;
+use vortex_scalars::scalar::Scalar;
 use vortex_types::dtype::DType;
 use vortex_values::error::ScalarError;
 use vortex_values::pvalue::PValue;
@@ -35,7 +37,7 @@ pub struct PrimitiveScalar<'a> {
 }
 
 impl<'a> PrimitiveScalar<'a> {
-    ghost use Rattle.vortex_views.specs.Views.{typed_primitive};
+    ghost use Rattle.vortex_views.specs.Views.{typed_primitive, typed_scalar};
 
     /// The value as one of the type. `Invalid` where the type isn't of numbers, or does not have the value.
     pub fn try_new(
@@ -153,6 +155,19 @@ impl<'a> PrimitiveScalar<'a> {
         ensures { option_map T.integer result ≡ whole_in (typed_primitive self.now).1 }
     {
         self.as_opt().unwrap()
+    }
+
+    /// The value with a copy of the type.
+    #[tactic(auto, using(crate::proofs::Numbers::held))]
+    pub fn into_scalar(self) -> Result<Scalar, AllocError>
+        ensures { IfOk result (λ scalar. typed_scalar scalar ≡ typed_primitive self.entry) }
+    {
+        let dtype = self.dtype.clone()?;
+        let value = match self.pvalue {
+            Some(value) => Some(ScalarValue::Primitive(value)),
+            None => None,
+        };
+        Ok(Scalar::new_unchecked(dtype, value))
     }
 
     /// What the operator makes of the two numbers, of types of one kind of numbers. `None` where the kind does not hold it, or

@@ -8,7 +8,7 @@ ghost use Rattle.vortex_values.specs.Parts.{text_in};
 ghost use Rattle.vortex_values.specs.View.{raw_at};
 ghost use Rattle.vortex_views.specs.Forms.{raw_of_text, GivesView};
 
-use vortex_scalars::validate::validate;
+use vortex_casts::validate::validate;
 use vortex_types::BufferString;
 use vortex_types::dtype::DType;
 use vortex_values::error::ScalarError;

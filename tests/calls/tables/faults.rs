@@ -27,7 +27,7 @@ pub fn the_first_fault_of_a_type_is_told(
     alloc: Global,
     checks: &mut Checks<'_>,
 ) -> Result<(), TableError> {
-    let truths = DType::Bool(Nullability::Nullable);
+    let floats = DType::Primitive(PType::F32, Nullability::Nullable);
     let numbers = DType::Primitive(PType::I8, Nullability::NonNullable);
     let twice = record(alloc, ["q", "q"], numbers.clone()?, numbers.clone()?)?;
 
@@ -35,15 +35,15 @@ pub fn the_first_fault_of_a_type_is_told(
     let made = Table::create(alloc, nested, 16)?;
     checks.holds("a record in a record", made.is_empty());
 
-    let behind = record(alloc, ["a", "p"], truths.clone()?, twice.clone()?)?;
+    let behind = record(alloc, ["a", "p"], floats.clone()?, twice.clone()?)?;
     let answer = Table::create(alloc, behind, 16);
     refused(checks, "an unkept type, then repeated names", answer, TableError::UnkeptType)?;
 
-    let before = record(alloc, ["p", "a"], twice, truths.clone()?)?;
+    let before = record(alloc, ["p", "a"], twice, floats.clone()?)?;
     let answer = Table::create(alloc, before, 16);
     refused(checks, "repeated names, then an unkept type", answer, TableError::RepeatedName)?;
 
-    let names = record(alloc, ["a", "a"], truths, numbers)?;
+    let names = record(alloc, ["a", "a"], floats, numbers)?;
     let answer = Table::create(alloc, names, 16);
     refused(checks, "repeated names around an unkept type", answer, TableError::RepeatedName)
 }

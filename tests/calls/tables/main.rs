@@ -4,6 +4,7 @@
 mod checks;
 mod deep;
 mod faults;
+mod leaves;
 mod make;
 mod scans;
 
@@ -24,6 +25,8 @@ fn run_all(alloc: Global, checks: &mut Checks<'_>) -> Result<(), TableError> {
     checks.end_part("records may nest deep");
     scans::paths_cut_rows_together(alloc, checks)?;
     checks.end_part("paths cut rows together");
+    leaves::chunks_are_skipped_by_any_leaf(alloc, checks)?;
+    checks.end_part("chunks are skipped by any leaf");
     Ok(())
 }
 

@@ -6,7 +6,7 @@ use Rattle.vortex_model.specs.Valid.{valid}
 use Rattle.vortex_model.specs.Command.{first_invalid, first_unconvertible}
 use Rattle.vortex_types.specs.View.{kind_of}
 use Rattle.vortex_values.specs.View.{raw_of, raw_in}
-use Rattle.vortex_chunks.specs.Bounds.{row_content}
+use Rattle.vortex_chunk_bounds.specs.Bounds.{row_content}
 use Rattle.vortex_chunks.proofs.append.convert_owned_rows.Given as goal
 
 abbrev pub invariant-loop-value : goal.invariant-loop-value

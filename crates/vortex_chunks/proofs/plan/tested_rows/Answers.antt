@@ -1,5 +1,5 @@
 use Rattle.std.proofs.Common.{sym, ap}
-use Rattle.vortex_chunks.specs.Chunk.{chunk_rows}
+use Rattle.vortex_chunk_bounds.specs.Chunk.{chunk_rows}
 use Rattle.vortex_chunks.specs.Outcome.{outcome_of}
 use Rattle.vortex_chunks.specs.Progress.{tested_rows}
 use Rattle.vortex_chunks.proofs.plan.tested_rows.Goals as goal

@@ -1,7 +1,7 @@
 use Rattle.std.proofs.Common.{◌≡◌, ◌++◌, All, map, take}
 use Rattle.vortex_types.specs.View.{kind_of}
 use Rattle.vortex_scalars.specs.Scalar.{scalar_kind, scalar_content}
-use Rattle.vortex_chunks.specs.Bounds.{row_content}
+use Rattle.vortex_chunk_bounds.specs.Bounds.{row_content}
 use Rattle.vortex_chunks.specs.Selected.{cut_rows, selected_rows}
 use Rattle.vortex_chunks.proofs.select.select_rows.Given as goal
 

@@ -2,7 +2,7 @@ use Rattle.std.proofs.Common.{◌<◌, sym, arith}
 use Rattle.std.proofs.lemmas.List.Elements.{All-from_get_or, recursion_from_All}
 use Rattle.vortex_model.specs.Kind.{binary, non_nullable}
 use Rattle.vortex_model.specs.Valid.{AreBytes}
-use Rattle.vortex_scalars.proofs.LeafValues.{has-blob}
+use Rattle.vortex_casts.proofs.LeafValues.{has-blob}
 use Rattle.vortex_makers.proofs.leaves.tell_bytes.Goals as goal
 
 pub returns : goal.returns

@@ -1,7 +1,7 @@
 use Rattle.std.proofs.Common.{◌≡◌, ◌∙◌, ◌+◌, ap, refl, is_some}
 use Rattle.vortex_model.specs.Scan.{Outcome, chunk_outcome, is_skipped, is_whole, saturated}
-use Rattle.vortex_chunks.specs.AnswerView.{answer_of}
-use Rattle.vortex_chunks.specs.Chunk.{chunk_rows}
+use Rattle.vortex_cuts.specs.Answer.{answer_of}
+use Rattle.vortex_chunk_bounds.specs.Chunk.{chunk_rows}
 use Rattle.vortex_chunks.specs.Outcome.{outcome_of}
 use Rattle.vortex_chunks.specs.Plan.{table_in, paths_in, predicate_in}
 use Rattle.vortex_chunks.specs.Progress.{push_if, tested_rows, proofs_at}

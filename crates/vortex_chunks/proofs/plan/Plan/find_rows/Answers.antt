@@ -1,6 +1,6 @@
 use Rattle.std.proofs.Common.{sym, ap, ◌∙◌, ◌++◌, map, subst, append-nil}
 use Rattle.vortex_scalars.specs.Scalar.{scalar_content}
-use Rattle.vortex_chunks.specs.Bounds.{row_content}
+use Rattle.vortex_chunk_bounds.specs.Bounds.{row_content}
 use Rattle.vortex_chunks.specs.Outcome.{outcome_of}
 use Rattle.vortex_chunks.specs.Selected.{CanBeCut, cut_rows, selected_rows}
 use Rattle.vortex_chunks.proofs.Found.{can_be_cut, none_found, all_found, some_found}
@@ -8,11 +8,11 @@ use Rattle.vortex_chunks.proofs.plan.Plan.find_rows.Goals as goal
 
 pub take_rows-requires-clause-valid : goal.take_rows-requires-clause-valid
 take_rows-requires-clause-valid c =
-    subst (λ rows. CanBeCut c.args.self.now.cut rows) (sym c.deref.ensures.value) (can_be_cut c.args.self.now c.requires.plan c.args.chunk.now c.requires.formed)
+    subst (λ rows. CanBeCut c.args.self.now.prepared.now.cut rows) (sym c.deref.ensures.value) (can_be_cut c.args.self.now c.requires.plan c.args.chunk.now c.requires.formed)
 
 pub select_rows-requires-clause-valid : goal.select_rows-requires-clause-valid
 select_rows-requires-clause-valid c =
-    subst (λ rows. CanBeCut c.args.self.now.cut rows) (sym c.deref-in-Tested.ensures.value) (can_be_cut c.args.self.now c.requires.plan c.args.chunk.now c.requires.formed)
+    subst (λ rows. CanBeCut c.args.self.now.prepared.now.cut rows) (sym c.deref-in-Tested.ensures.value) (can_be_cut c.args.self.now c.requires.plan c.args.chunk.now c.requires.formed)
 
 pub returns-in-Skipped-clause-rows : goal.returns-in-Skipped-clause-rows
 returns-in-Skipped-clause-rows c =
@@ -26,7 +26,7 @@ returns-in_ok-take_rows-in-Whole-clause-rows c =
     let whole = sym (ap outcome_of c.in-Whole.is) ∙ c.requires.outcome in
     let before = map scalar_content c.args.found.now.items in
     c.in_ok-take_rows-in-Whole.ensures.content
-    ∙ ap (λ rows. before ++ cut_rows c.args.self.now.cut (map row_content rows)) c.deref.ensures.value
+    ∙ ap (λ rows. before ++ cut_rows c.args.self.now.prepared.now.cut (map row_content rows)) c.deref.ensures.value
     ∙ ap (λ xs. before ++ xs) (all_found c.args.self.now c.requires.plan c.args.chunk.now c.requires.formed whole)
 
 pub returns-in_ok-select_rows-in-Tested-clause-rows :
@@ -34,5 +34,5 @@ pub returns-in_ok-select_rows-in-Tested-clause-rows :
 returns-in_ok-select_rows-in-Tested-clause-rows c =
     let before = map scalar_content c.args.found.now.items in
     c.in_ok-select_rows-in-Tested.ensures.content
-    ∙ ap (λ rows. before ++ cut_rows c.args.self.now.cut (selected_rows c.args.self.now.bound (map row_content rows))) c.deref-in-Tested.ensures.value
+    ∙ ap (λ rows. before ++ cut_rows c.args.self.now.prepared.now.cut (selected_rows c.args.self.now.prepared.now.bound (map row_content rows))) c.deref-in-Tested.ensures.value
     ∙ ap (λ xs. before ++ xs) (some_found c.args.self.now c.requires.plan c.args.chunk.now c.requires.formed)

@@ -4,7 +4,7 @@ use Rattle.vortex_model.specs.Command.{scan}
 use Rattle.vortex_model.specs.Refusal.{no_table}
 use Rattle.vortex_model.specs.Reply.{refused, found}
 use Rattle.vortex_paths.specs.View.{steps_of}
-use Rattle.vortex_chunks.specs.AnswerView.{answer_of}
+use Rattle.vortex_cuts.specs.Answer.{answer_of}
 use Rattle.vortex_chunks.specs.TableView.{table_of}
 use Rattle.vortex_run.specs.Said.{error_answer}
 use Rattle.vortex_run.specs.State.{table_in}

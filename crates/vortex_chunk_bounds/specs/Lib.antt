@@ -1,0 +1,5 @@
+pub mod BoundCode
+pub mod Bounds
+pub mod Chunk
+pub mod Given
+pub mod Proved

@@ -1,0 +1,4 @@
+mod Compared
+mod Converted
+mod Steps
+pub mod Told

@@ -1,0 +1,110 @@
+//! What stands in a value with its type, for the machine's types.
+ghost use Rattle.std.specs.Prelude.{◌≡◌, option_map, option_copied};
+ghost use Rattle.vortex_types.specs.Parts.{is_boolean_kind, is_primitive_kind, is_utf8_kind, is_binary_kind};
+ghost use Rattle.vortex_values.specs.Parts.{truth_in, text_in, blob_in, GivesPart};
+ghost use Rattle.vortex_scalars.specs.Native.{read_of, or_null, whole_within};
+
+use crate::scalar::Scalar;
+use vortex_natives::native::NativePType;
+use vortex_types::{BufferString, ByteBuffer};
+use vortex_values::error::ScalarError;
+
+/// The truth value, and `None` of null. `Invalid` of another type.
+#[tactic(auto, using(crate::proofs::Natives::truths))]
+pub(crate) fn truth(scalar: &Scalar) -> Result<Option<bool>, ScalarError>
+    ensures { GivesPart (λ found. found) (read_of is_boolean_kind (or_null truth_in) scalar.now) result }
+{
+    if !scalar.dtype().is_boolean() {
+        return Err(ScalarError::Invalid);
+    }
+    match scalar.value() {
+        Some(value) => Ok(value.as_bool()),
+        None => Ok(None),
+    }
+}
+
+/// The number as one of the machine's type, whatever its kind, and `None` of null. `Invalid` of another type and where the
+/// number is out of range.
+#[tactic(auto, using(crate::proofs::Natives::numbers))]
+pub(crate) fn number<T: NativePType>(scalar: &Scalar) -> Result<Option<T>, ScalarError>
+    ensures { GivesPart (option_map T.integer) (read_of is_primitive_kind (or_null (whole_within T.kind)) scalar.now) result }
+{
+    if !scalar.dtype().is_primitive() {
+        return Err(ScalarError::Invalid);
+    }
+    match scalar.value() {
+        Some(value) => {
+            let number = value.to_native()?;
+            Ok(Some(number))
+        }
+        None => Ok(None),
+    }
+}
+
+/// The text, and `None` of null. `Invalid` of another type.
+#[tactic(auto, using(crate::proofs::Natives::texts))]
+pub(crate) fn text(scalar: &Scalar) -> Result<Option<&BufferString>, ScalarError>
+    ensures { GivesPart (λ found. option_copied found) (read_of is_utf8_kind (or_null text_in) scalar.now) result }
+{
+    if !scalar.dtype().is_utf8() {
+        return Err(ScalarError::Invalid);
+    }
+    match scalar.value() {
+        Some(value) => Ok(value.as_utf8()),
+        None => Ok(None),
+    }
+}
+
+/// The bytes, and `None` of null. `Invalid` of another type.
+#[tactic(auto, using(crate::proofs::Natives::bytes))]
+pub(crate) fn bytes(scalar: &Scalar) -> Result<Option<&ByteBuffer>, ScalarError>
+    ensures { GivesPart (λ found. option_copied found) (read_of is_binary_kind (or_null blob_in) scalar.now) result }
+{
+    if !scalar.dtype().is_binary() {
+        return Err(ScalarError::Invalid);
+    }
+    match scalar.value() {
+        Some(value) => Ok(value.as_binary()),
+        None => Ok(None),
+    }
+}
+
+/// The text itself, and `None` of null. `Invalid` of another type.
+#[tactic(auto, using(crate::proofs::Natives::texts))]
+pub(crate) fn into_text(scalar: Scalar) -> Result<Option<BufferString>, ScalarError>
+    ensures { GivesPart (λ found. found) (read_of is_utf8_kind (or_null text_in) scalar) result }
+{
+    if !scalar.dtype().is_utf8() {
+        return Err(ScalarError::Invalid);
+    }
+    match scalar.into_value() {
+        Some(value) => Ok(value.into_utf8()),
+        None => Ok(None),
+    }
+}
+
+/// The bytes themselves, and `None` of null. `Invalid` of another type.
+#[tactic(auto, using(crate::proofs::Natives::bytes))]
+pub(crate) fn into_bytes(scalar: Scalar) -> Result<Option<ByteBuffer>, ScalarError>
+    ensures { GivesPart (λ found. found) (read_of is_binary_kind (or_null blob_in) scalar) result }
+{
+    if !scalar.dtype().is_binary() {
+        return Err(ScalarError::Invalid);
+    }
+    match scalar.into_value() {
+        Some(value) => Ok(value.into_binary()),
+        None => Ok(None),
+    }
+}
+
+/// The number as one of the machine's type, whatever its kind. `Invalid` of another type, of null and where the number is out
+/// of range.
+#[tactic(auto, using(crate::proofs::Natives::present))]
+pub(crate) fn number_present<T: NativePType>(scalar: &Scalar) -> Result<T, ScalarError>
+    ensures { GivesPart T.integer (read_of is_primitive_kind (whole_within T.kind) scalar.now) result }
+{
+    match number(scalar)? {
+        Some(number) => Ok(number),
+        None => Err(ScalarError::Invalid),
+    }
+}

@@ -1,0 +1,4 @@
+pub mod Choices
+pub mod Elements
+pub mod Entries
+pub mod Records

@@ -1,0 +1,4 @@
+pub mod Choices
+pub mod Entries
+pub mod Iterators
+pub mod Records
