@@ -123,10 +123,11 @@ impl ScalarMakers for Scalar {
     }
 
     fn try_utf8(bytes: ByteBuffer, nullability: Nullability) -> Result<Scalar, ScalarError> {
-        match BufferString::from_utf8(bytes) {
-            Ok(text) => Ok(text_value(text, nullability)),
-            Err(_) => Err(ScalarError::Invalid),
+        if simdutf8::basic::from_utf8(bytes.as_slice()).is_err() {
+            return Err(ScalarError::Invalid);
         }
+        let text = BufferString::from_known_utf8(bytes);
+        Ok(text_value(text, nullability))
     }
 
     fn binary(bytes: ByteBuffer, nullability: Nullability) -> Scalar {
