@@ -1,6 +1,6 @@
 //! Types of columns: what values a column may have, paths to their parts, and how they cross a boundary.
 //!
-//! The layer stands in seven crates, and this one gathers their items, as a reader of types alone takes them.
+//! The layer stands in eight crates, and this one gathers their items, as a reader of types alone takes them.
 #![tactic(auto)]
 
 pub use vortex_decimals::decimal_type::DecimalType;
@@ -20,12 +20,12 @@ pub use vortex_messages::read::from_proto;
 pub use vortex_messages::session::DTypeSession;
 pub use vortex_messages::vtable::ExtVTable;
 pub use vortex_messages::write::to_proto;
+pub use vortex_native_types::native_dtype::NativeDType;
 pub use vortex_natives::downcast::{PTypeDowncast, PTypeDowncastExt, PTypeUpcast};
 pub use vortex_natives::little_endian::{ToBytes, TryFromBytes};
 pub use vortex_natives::native::{
     IntegerPType, NativePType, OffsetBuilderPType, PhysicalPType, UnsignedPType,
 };
-pub use vortex_natives::native_dtype::NativeDType;
 pub use vortex_natives::{
     match_each_integer_ptype, match_each_native_ptype, match_each_signed_integer_ptype,
     match_each_unsigned_integer_ptype,

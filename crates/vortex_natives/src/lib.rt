@@ -5,7 +5,6 @@ pub mod by_kind;
 pub mod downcast;
 pub mod little_endian;
 pub mod native;
-pub mod native_dtype;
 pub mod private;
 
 pub use vortex_kinds::ptype;

@@ -8,7 +8,7 @@ ghost use Rattle.vortex_scalars.specs.Native.{IsMadeAs, raw_or_null};
 
 use crate::scalar::Scalar;
 use std::alloc::{AllocError, Global};
-use vortex_natives::native_dtype::NativeDType;
+use vortex_native_types::native_dtype::NativeDType;
 use vortex_types::ByteBuffer;
 use vortex_values::scalar_value::ScalarValue;
 
