@@ -11,9 +11,9 @@ use crate::kept::{is_kept, keep_value};
 use crate::leaves::cast_leaf;
 use crate::lists::{list_element, takes_length};
 use std::alloc::Global;
+use vortex_scalar_errors::error::ScalarError;
 use vortex_types::dtype::DType;
 use vortex_types::struct_fields::StructField;
-use vortex_values::error::ScalarError;
 use vortex_values::scalar_value::ScalarValue;
 
 /// The value as one of the target type, with the same content. `None` is null. It is refused by `NotConvertible`

@@ -10,8 +10,8 @@ ghost use Rattle.vortex_values.specs.View.{raw_of};
 
 use crate::validate::validate;
 use std::alloc::AllocError;
+use vortex_scalar_errors::error::ScalarError;
 use vortex_types::dtype::DType;
-use vortex_values::error::ScalarError;
 use vortex_values::scalar_value::ScalarValue;
 
 /// Whether the type's values are converted only to the same type, outer nullability aside.

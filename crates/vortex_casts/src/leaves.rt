@@ -9,8 +9,8 @@ ghost use Rattle.vortex_values.specs.Parts.{items_in};
 ghost use Rattle.vortex_values.specs.View.{raw_of};
 ghost use Rattle.vortex_casts.specs.Converting.{is_kept};
 
+use vortex_scalar_errors::error::ScalarError;
 use vortex_types::dtype::DType;
-use vortex_values::error::ScalarError;
 use vortex_values::pvalue::PValue;
 use vortex_values::scalar_value::ScalarValue;
 

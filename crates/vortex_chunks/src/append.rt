@@ -17,8 +17,8 @@ use crate::error::TableError;
 use std::alloc::Global;
 use vortex_casts::cast::cast_value;
 use vortex_casts::validate::validate;
+use vortex_scalar_errors::error::ScalarError;
 use vortex_types::dtype::DType;
-use vortex_values::error::ScalarError;
 use vortex_values::scalar_value::ScalarValue;
 
 // The first row, by its index, that isn't valid for the type.

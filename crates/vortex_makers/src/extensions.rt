@@ -4,15 +4,15 @@ ghost use Rattle.vortex_model.specs.Kind.{variant, non_nullable, same_kind};
 ghost use Rattle.vortex_model.specs.Content.{raw_scalar};
 ghost use Rattle.vortex_types.specs.Parts.{storage_of};
 ghost use Rattle.vortex_types.specs.View.{extension_kind};
-ghost use Rattle.vortex_values.specs.declared.error.ScalarError.TheVariants.{Invalid};
+ghost use Rattle.vortex_scalar_errors.specs.declared.error.ScalarError.TheVariants.{Invalid};
 ghost use Rattle.vortex_scalars.specs.Scalar.{scalar_kind, scalar_raw};
 
 use std::alloc::{AllocError, Global};
 use vortex_kinds::nullability::Nullability;
+use vortex_scalar_errors::error::ScalarError;
 use vortex_scalars::scalar::Scalar;
 use vortex_types::dtype::DType;
 use vortex_types::extension::ExtDTypeRef;
-use vortex_values::error::ScalarError;
 use vortex_values::scalar_value::ScalarValue;
 use vortex_values::variant_value::VariantValue;
 

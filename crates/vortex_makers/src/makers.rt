@@ -7,7 +7,7 @@ ghost use Rattle.vortex_kinds.specs.View.{nullability_of_flag, number_kind_of};
 ghost use Rattle.vortex_types.specs.Parts.{storage_of};
 ghost use Rattle.vortex_types.specs.View.{kind_of, extension_kind};
 ghost use Rattle.vortex_values.specs.Numbers.{kind_of_number, integer_of, raw_of_number, is_number_of};
-ghost use Rattle.vortex_values.specs.declared.error.ScalarError.TheVariants.{Invalid};
+ghost use Rattle.vortex_scalar_errors.specs.declared.error.ScalarError.TheVariants.{Invalid};
 ghost use Rattle.vortex_scalars.specs.Scalar.{scalar_kind, scalar_raw};
 
 use crate::extensions::{extension_value, variant_value};
@@ -19,11 +19,11 @@ use vortex_kinds::nullability::Nullability;
 use vortex_kinds::ptype::PType;
 use vortex_native_types::native_dtype::NativeDType;
 use vortex_natives::native::NativePType;
+use vortex_scalar_errors::error::ScalarError;
 use vortex_scalars::scalar::Scalar;
 use vortex_types::dtype::DType;
 use vortex_types::extension::ExtDTypeRef;
 use vortex_types::{BufferString, ByteBuffer};
-use vortex_values::error::ScalarError;
 use vortex_values::pvalue::PValue;
 
 /// Makers of a value with its type, as those of Vortex's `Scalar`. No value that a maker is given is null, but for those with a

@@ -3,8 +3,8 @@ use Rattle.std.specs.Prelude.{◌≡◌, ◌≢◌, ℤ, List, [], ◌∷◌, Bo
 use Rattle.std.specs.List.{list_all}
 use Rattle.vortex_model.specs.Kind.{Kind, struct, Fields, no_fields, field, Variants, has_tag, kind_tagged, same_kind}
 use Rattle.vortex_model.specs.Content.{Raw, raw_tuple, no_raws, raw_first}
-use Rattle.vortex_values.specs.declared.error.ScalarError.{ScalarError}
-use Rattle.vortex_values.specs.declared.error.ScalarError.TheVariants.{Memory, Invalid}
+use Rattle.vortex_scalar_errors.specs.declared.error.ScalarError.{ScalarError}
+use Rattle.vortex_scalar_errors.specs.declared.error.ScalarError.TheVariants.{Memory, Invalid}
 
 -- each is the type
 abbrev pub all_are : Kind → List Kind → Bool

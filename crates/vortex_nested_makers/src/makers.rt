@@ -6,7 +6,7 @@ ghost use Rattle.vortex_model.specs.Valid.{valid};
 ghost use Rattle.vortex_kinds.specs.View.{nullability_of_flag};
 ghost use Rattle.vortex_types.specs.View.{kind_of, entries_in, variants_in};
 ghost use Rattle.vortex_values.specs.View.{raws_from, raws_in};
-ghost use Rattle.vortex_values.specs.declared.error.ScalarError.TheVariants.{Memory, Invalid};
+ghost use Rattle.vortex_scalar_errors.specs.declared.error.ScalarError.TheVariants.{Memory, Invalid};
 ghost use Rattle.vortex_scalars.specs.Scalar.{scalar_kind, scalar_raw};
 ghost use Rattle.vortex_nested_makers.specs.Children.{GivesNested, all_are, is_record_of, all_are_entries, is_choice, raw_entry};
 
@@ -17,11 +17,11 @@ use std::rc::Rc;
 use vortex_kinds::nullability::Nullability;
 use vortex_messages::ext_dtype::ExtDType;
 use vortex_messages::vtable::ExtVTable;
+use vortex_scalar_errors::error::ScalarError;
 use vortex_scalars::scalar::Scalar;
 use vortex_types::dtype::DType;
 use vortex_types::map_dtype::MapDType;
 use vortex_types::union_variants::UnionVariants;
-use vortex_values::error::ScalarError;
 use vortex_values::scalar_value::ScalarValue;
 use vortex_values::union_value::UnionValue;
 

@@ -12,8 +12,8 @@ use crate::nested_views::NestedScalarViews;
 use crate::struct_scalar::StructScalar;
 use crate::union_scalar::UnionScalar;
 use crate::variant_scalar::VariantScalar;
+use vortex_scalar_errors::error::ScalarError;
 use vortex_scalars::scalar::Scalar;
-use vortex_values::error::ScalarError;
 
 /// The value, where the type is of lists, of any length or of one.
 impl<'a> TryFrom<&'a Scalar> for ListScalar<'a> {

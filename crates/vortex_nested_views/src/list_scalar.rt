@@ -11,9 +11,9 @@ ghost use Rattle.vortex_nested_views.specs.Places.{list_element, is_listing, par
 use crate::copies::{scalar_of, scalars_of, value_at};
 use std::alloc::{AllocError, Global};
 use vortex_casts::validate::validate;
+use vortex_scalar_errors::error::ScalarError;
 use vortex_scalars::scalar::Scalar;
 use vortex_types::dtype::DType;
-use vortex_values::error::ScalarError;
 use vortex_values::scalar_value::ScalarValue;
 
 /// A list or null with its type, as Vortex's `ListScalar`. The type is of lists of any length or of one.

@@ -14,10 +14,10 @@ ghost use Rattle.vortex_nested_views.specs.Entries.{entry_at, each_key, each_val
 use crate::copies::{pair_of, scalar_of, value_at};
 use std::alloc::{AllocError, Global};
 use vortex_casts::validate::validate;
+use vortex_scalar_errors::error::ScalarError;
 use vortex_scalars::scalar::Scalar;
 use vortex_types::dtype::DType;
 use vortex_types::map_dtype::MapDType;
-use vortex_values::error::ScalarError;
 use vortex_values::scalar_value::ScalarValue;
 
 /// A map or null with its type, as Vortex's `MapScalar`.

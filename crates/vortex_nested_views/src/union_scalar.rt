@@ -16,10 +16,10 @@ use std::alloc::AllocError;
 use vortex_casts::validate::validate;
 use vortex_kinds::nullability::Nullability;
 use vortex_records::union_variants_ext::UnionVariantsExt;
+use vortex_scalar_errors::error::ScalarError;
 use vortex_scalars::scalar::Scalar;
 use vortex_types::dtype::DType;
 use vortex_types::union_variants::UnionVariants;
-use vortex_values::error::ScalarError;
 use vortex_values::scalar_value::ScalarValue;
 use vortex_values::union_value::UnionValue;
 

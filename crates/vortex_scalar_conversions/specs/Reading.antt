@@ -5,8 +5,8 @@ use Rattle.vortex_model.specs.Kind.{Kind, IntKind}
 use Rattle.vortex_model.specs.Content.{Content, null, truth, whole, text, blob, tuple, Contents, nothing, first, contents_from}
 use Rattle.vortex_model.specs.Valid.{in_range}
 use Rattle.vortex_types.specs.Parts.{is_boolean_kind, is_primitive_kind, is_utf8_kind, is_binary_kind}
-use Rattle.vortex_values.specs.declared.error.ScalarError.{ScalarError}
-use Rattle.vortex_values.specs.declared.error.ScalarError.TheVariants.{Memory, Invalid}
+use Rattle.vortex_scalar_errors.specs.declared.error.ScalarError.{ScalarError}
+use Rattle.vortex_scalar_errors.specs.declared.error.ScalarError.TheVariants.{Memory, Invalid}
 
 -- the content has the form asked
 abbrev pub is_truth : Content → Bool

@@ -4,12 +4,12 @@ ghost use Rattle.vortex_model.specs.Kind.{Kind};
 ghost use Rattle.vortex_model.specs.Valid.{valid};
 ghost use Rattle.vortex_types.specs.View.{kind_of};
 ghost use Rattle.vortex_values.specs.View.{raw_at};
-ghost use Rattle.vortex_values.specs.declared.error.ScalarError.TheVariants.{Invalid};
+ghost use Rattle.vortex_scalar_errors.specs.declared.error.ScalarError.TheVariants.{Invalid};
 
 use vortex_messages::ext_dtype::ExtDType;
 use vortex_messages::vtable::ExtVTable;
+use vortex_scalar_errors::error::ScalarError;
 use vortex_scalars::scalar::Scalar;
-use vortex_values::error::ScalarError;
 use vortex_values::scalar_value::ScalarValue;
 
 /// What can be asked of an extension type about values.

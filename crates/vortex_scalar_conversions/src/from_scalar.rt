@@ -13,10 +13,10 @@ ghost use Rattle.vortex_scalar_conversions.specs.Reading.{IsRead, reads_truth, r
 use crate::leaves::{bytes, number, text, truth};
 use crate::lists::{element_of, read_items};
 use std::alloc::Global;
+use vortex_scalar_errors::error::ScalarError;
 use vortex_scalars::scalar::Scalar;
 use vortex_types::dtype::DType;
 use vortex_types::{BufferString, ByteBuffer};
-use vortex_values::error::ScalarError;
 use vortex_values::scalar_value::ScalarValue;
 
 /// A type of the machine whose values are read from values with their type. An integer is read from one of any kind.

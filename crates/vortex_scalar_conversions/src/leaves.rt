@@ -6,9 +6,9 @@ ghost use Rattle.vortex_values.specs.View.{content_at};
 ghost use Rattle.vortex_scalar_conversions.specs.Reading.{IsFound, reads_truth, reads_number, reads_text, reads_bytes};
 
 use vortex_natives::native::NativePType;
+use vortex_scalar_errors::error::ScalarError;
 use vortex_types::dtype::DType;
 use vortex_types::{BufferString, ByteBuffer};
-use vortex_values::error::ScalarError;
 use vortex_values::scalar_value::ScalarValue;
 
 /// The truth value. `Invalid` of another type and of null.

@@ -8,8 +8,8 @@ ghost use Rattle.vortex_scalar_conversions.specs.Reading.{AreRead, all_read};
 
 use crate::from_scalar::FromScalar;
 use std::alloc::Global;
+use vortex_scalar_errors::error::ScalarError;
 use vortex_types::dtype::DType;
-use vortex_values::error::ScalarError;
 use vortex_values::scalar_value::ScalarValue;
 
 /// The type of the elements, where the values are lists of any length or of one.

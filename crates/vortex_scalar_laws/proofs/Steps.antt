@@ -7,8 +7,8 @@ use Rattle.vortex_model.specs.Convert.{converts}
 use Rattle.vortex_model.specs.Laws.{ConversionsCompose, TestsOfConversionAreRight}
 use Rattle.vortex_model.proofs.Contents.{said}
 use Rattle.vortex_model.proofs.Tests.{has_so}
-use Rattle.vortex_values.specs.declared.error.ScalarError.{ScalarError}
-use Rattle.vortex_values.specs.declared.error.ScalarError.TheVariants.{Memory, Invalid, NotConvertible}
+use Rattle.vortex_scalar_errors.specs.declared.error.ScalarError.{ScalarError}
+use Rattle.vortex_scalar_errors.specs.declared.error.ScalarError.TheVariants.{Memory, Invalid, NotConvertible}
 use Rattle.vortex_scalar_laws.proofs.Converted.{from_nullable}
 
 pub through : ConversionsCompose → TestsOfConversionAreRight → (s m t w : Kind) (c d : Content) → converts s m c ≡ true → t ≡ m → d ≡ c → converts t w d ≡ true → converts s w c ≡ true

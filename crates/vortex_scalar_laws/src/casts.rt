@@ -2,14 +2,14 @@
 ghost use Rattle.std.specs.Prelude.{◌≡◌, true, IfOk, IfErr};
 ghost use Rattle.vortex_model.specs.Convert.{converts};
 ghost use Rattle.vortex_types.specs.View.{kind_of};
-ghost use Rattle.vortex_values.specs.declared.error.ScalarError.TheVariants.{Memory};
+ghost use Rattle.vortex_scalar_errors.specs.declared.error.ScalarError.TheVariants.{Memory};
 ghost use Rattle.vortex_scalars.specs.Scalar.{scalar_kind, scalar_raw, scalar_content};
 
 use std::alloc::Global;
 use vortex_model::laws::{conversions_compose, tests_of_conversion_are_right};
+use vortex_scalar_errors::error::ScalarError;
 use vortex_scalars::scalar::Scalar;
 use vortex_types::dtype::DType;
-use vortex_values::error::ScalarError;
 
 /// The value cast to the type and back: the value again.
 #[tactic(auto, using(crate::proofs::Told::back_again))]

@@ -3,8 +3,8 @@ use Rattle.std.specs.Prelude.{◌≡◌, ◌≢◌, ℤ, Bool, if◌then◌else�
 use Rattle.vortex_model.specs.Kind.{Kind, IntKind}
 use Rattle.vortex_model.specs.Content.{Raw, raw_null, raw_number}
 use Rattle.vortex_model.specs.Valid.{in_range}
-use Rattle.vortex_values.specs.declared.error.ScalarError.{ScalarError}
-use Rattle.vortex_values.specs.declared.error.ScalarError.TheVariants.{Memory, Invalid}
+use Rattle.vortex_scalar_errors.specs.declared.error.ScalarError.{ScalarError}
+use Rattle.vortex_scalar_errors.specs.declared.error.ScalarError.TheVariants.{Memory, Invalid}
 use Rattle.vortex_scalars.specs.Scalar.{scalar_kind, scalar_raw}
 use Rattle.vortex_scalars.specs.declared.scalar.Scalar.{Scalar}
 

@@ -7,8 +7,8 @@ ghost use Rattle.vortex_scalars.specs.Native.{read_of, or_null, whole_within, Gi
 
 use crate::reading::{bytes, into_bytes, into_text, number, number_present, text, truth};
 use crate::scalar::Scalar;
+use vortex_scalar_errors::error::ScalarError;
 use vortex_types::{BufferString, ByteBuffer};
-use vortex_values::error::ScalarError;
 
 /// The truth value. `Invalid` of another type and of null.
 impl TryFrom<&Scalar> for bool {

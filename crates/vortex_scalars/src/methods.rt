@@ -6,14 +6,14 @@ ghost use Rattle.vortex_model.specs.Convert.{converts};
 ghost use Rattle.vortex_model.specs.Valid.{valid};
 ghost use Rattle.vortex_types.specs.View.{kind_of};
 ghost use Rattle.vortex_values.specs.View.{raw_in, raw_at};
-ghost use Rattle.vortex_values.specs.declared.error.ScalarError.TheVariants.{Memory, Invalid, NotConvertible};
+ghost use Rattle.vortex_scalar_errors.specs.declared.error.ScalarError.TheVariants.{Memory, Invalid, NotConvertible};
 
 use crate::scalar::Scalar;
 use std::alloc::{AllocError, Global};
 use vortex_casts::cast::cast_value;
 use vortex_casts::validate::validate;
+use vortex_scalar_errors::error::ScalarError;
 use vortex_types::dtype::DType;
-use vortex_values::error::ScalarError;
 use vortex_values::scalar_value::ScalarValue;
 
 impl Scalar {

@@ -6,8 +6,8 @@ ghost use Rattle.vortex_scalars.specs.Native.{read_of, or_null, whole_within};
 
 use crate::scalar::Scalar;
 use vortex_natives::native::NativePType;
+use vortex_scalar_errors::error::ScalarError;
 use vortex_types::{BufferString, ByteBuffer};
-use vortex_values::error::ScalarError;
 
 /// The truth value, and `None` of null. `Invalid` of another type.
 #[tactic(auto, using(crate::proofs::Natives::truths))]

@@ -6,13 +6,13 @@ ghost use Rattle.vortex_kinds.specs.Numbers.{type_of_numbers};
 ghost use Rattle.vortex_kinds.specs.View.{number_kind_of};
 ghost use Rattle.vortex_types.specs.View.{kind_of};
 ghost use Rattle.vortex_values.specs.View.{raw_in, raw_at};
-ghost use Rattle.vortex_values.specs.declared.error.ScalarError.TheVariants.{Invalid};
+ghost use Rattle.vortex_scalar_errors.specs.declared.error.ScalarError.TheVariants.{Invalid};
 ghost use Rattle.vortex_scalars.specs.Reinterpreted.{are_as_wide, is_as_wide, HaveTheSameBytes};
 
 use crate::scalar::Scalar;
 use vortex_kinds::ptype::PType;
+use vortex_scalar_errors::error::ScalarError;
 use vortex_types::dtype::DType;
-use vortex_values::error::ScalarError;
 use vortex_values::scalar_value::ScalarValue;
 
 impl Scalar {

@@ -8,9 +8,9 @@ ghost use Rattle.vortex_values.specs.View.{raw_in, raw_at};
 
 use std::alloc::AllocError;
 use vortex_casts::validate::validate;
+use vortex_scalar_errors::error::ScalarError;
 use vortex_types::dtype::DType;
 use vortex_values::clone::copy_value;
-use vortex_values::error::ScalarError;
 use vortex_values::scalar_value::ScalarValue;
 
 /// A value of a type, as Vortex's `Scalar`. Null is `None`.

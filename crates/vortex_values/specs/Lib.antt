@@ -1,4 +1,3 @@
-pub mod Errors
 pub mod Numbers
 pub mod Parts
 pub mod View

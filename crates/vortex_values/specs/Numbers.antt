@@ -7,8 +7,8 @@ use Rattle.vortex_kinds.specs.Numbers.{NumberKind, whole, real, reach_of}
 use Rattle.vortex_natives.specs.NativeBytes.{AreBytesOf}
 use Rattle.vortex_values.specs.declared.pvalue.PValue.{PValue}
 use Rattle.vortex_values.specs.declared.pvalue.PValue.TheVariants as number
-use Rattle.vortex_values.specs.declared.error.ScalarError.{ScalarError}
-use Rattle.vortex_values.specs.declared.error.ScalarError.TheVariants.{Invalid}
+use Rattle.vortex_scalar_errors.specs.declared.error.ScalarError.{ScalarError}
+use Rattle.vortex_scalar_errors.specs.declared.error.ScalarError.TheVariants.{Invalid}
 
 abbrev pub kind_of_number : PValue → IntKind
 kind_of_number (number.U8 n) = u8

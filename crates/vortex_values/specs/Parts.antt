@@ -3,8 +3,8 @@ use Rattle.std.specs.Prelude.{◌≡◌, ℤ, pos, List, ℕ, Bool, false, Optio
 use Rattle.vortex_model.specs.Kind.{Kind, IntKind, null_only}
 use Rattle.vortex_model.specs.Content.{Raw, raw_null, raw_truth, raw_number, raw_text, raw_blob, raw_tuple, raw_tagged, raw_scalar, Raws}
 use Rattle.vortex_model.specs.Valid.{in_range}
-use Rattle.vortex_values.specs.declared.error.ScalarError.{ScalarError}
-use Rattle.vortex_values.specs.declared.error.ScalarError.TheVariants.{Invalid}
+use Rattle.vortex_scalar_errors.specs.declared.error.ScalarError.{ScalarError}
+use Rattle.vortex_scalar_errors.specs.declared.error.ScalarError.TheVariants.{Invalid}
 
 abbrev pub truth_in : Raw → Option Bool
 truth_in (raw_truth b) = Some b

@@ -3,8 +3,8 @@ ghost use Rattle.std.specs.Prelude.{◌≡◌, pos};
 ghost use Rattle.vortex_model.specs.Kind.{u8, u16, u32, u64, i8, i16, i32, i64};
 ghost use Rattle.vortex_values.specs.Numbers.{kind_of_number, integer_of, GivesNumber};
 
-use crate::error::ScalarError;
 use crate::pvalue::PValue;
+use vortex_scalar_errors::error::ScalarError;
 
 impl From<u8> for PValue {
     ghost from_gives = { λ number value. (kind_of_number value ≡ u8) × (integer_of value ≡ pos number) };

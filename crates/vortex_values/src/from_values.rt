@@ -6,13 +6,13 @@ ghost use Rattle.vortex_values.specs.Numbers.{raw_of_number};
 ghost use Rattle.vortex_values.specs.Parts.{truth_in, as_number, text_in, blob_in, items_in, GivesPart, GivesWhole};
 ghost use Rattle.vortex_values.specs.View.{raw_of, raw_of_union, raw_of_variant, raws_in};
 
-use crate::error::ScalarError;
 use crate::pvalue::PValue;
 use crate::scalar_value::ScalarValue;
 use crate::union_value::UnionValue;
 use crate::variant_value::VariantValue;
 use std::alloc::{AllocError, Global};
 use vortex_natives::native::NativePType;
+use vortex_scalar_errors::error::ScalarError;
 use vortex_types::{BufferString, ByteBuffer};
 
 impl From<bool> for ScalarValue {

@@ -4,7 +4,6 @@
 pub mod bits;
 pub mod clone;
 pub mod comparing;
-pub mod error;
 mod from_numbers;
 mod from_values;
 pub mod natives;

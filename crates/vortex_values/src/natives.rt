@@ -3,9 +3,9 @@ ghost use Rattle.std.specs.Prelude.{◌≡◌, pos};
 ghost use Rattle.vortex_model.specs.Kind.{u64};
 ghost use Rattle.vortex_values.specs.Numbers.{kind_of_number, integer_of, GivesNumber};
 
-use crate::error::ScalarError;
 use crate::pvalue::PValue;
 use vortex_natives::native::NativePType;
+use vortex_scalar_errors::error::ScalarError;
 
 /// Calls the function with the number of the value as its first argument, and the number's type as its type argument, as
 /// `match_each_pvalue!(value, f(x))`.

@@ -7,8 +7,8 @@ use Rattle.vortex_model.specs.Valid.{fields_have}
 use Rattle.vortex_records.specs.Records.{projected}
 use Rattle.vortex_scalars.specs.declared.scalar.Scalar.{Scalar}
 use Rattle.vortex_types.specs.Parts.{fields_in_kind}
-use Rattle.vortex_values.specs.declared.error.ScalarError.{ScalarError}
-use Rattle.vortex_values.specs.declared.error.ScalarError.TheVariants.{Memory, Invalid}
+use Rattle.vortex_scalar_errors.specs.declared.error.ScalarError.{ScalarError}
+use Rattle.vortex_scalar_errors.specs.declared.error.ScalarError.TheVariants.{Memory, Invalid}
 use Rattle.vortex_views.specs.Forms.{Typed}
 use Rattle.vortex_views.specs.Views.{typed_scalar}
 use Rattle.vortex_nested_views.specs.Places.{item_at, both}

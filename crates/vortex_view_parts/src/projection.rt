@@ -5,7 +5,7 @@ ghost use Rattle.vortex_model.specs.Valid.{fields_have};
 ghost use Rattle.vortex_types.specs.View.{kind_of, fields_in};
 ghost use Rattle.vortex_records.specs.Records.{projected};
 ghost use Rattle.vortex_values.specs.View.{raw_at, raw_in, raws_in};
-ghost use Rattle.vortex_values.specs.declared.error.ScalarError.TheVariants.{Memory, Invalid};
+ghost use Rattle.vortex_scalar_errors.specs.declared.error.ScalarError.TheVariants.{Memory, Invalid};
 ghost use Rattle.vortex_nested_views.specs.Held.{raw_of_items};
 ghost use Rattle.vortex_view_parts.specs.Records.{value_named, values_named, raw_projected, holds_fields};
 
@@ -13,10 +13,10 @@ use std::alloc::Global;
 use vortex_kinds::error::DTypeError;
 use vortex_kinds::field_names::FieldName;
 use vortex_records::struct_fields_ext::StructFieldsExt;
+use vortex_scalar_errors::error::ScalarError;
 use vortex_types::dtype::DType;
 use vortex_types::struct_fields::StructFields;
 use vortex_values::clone::copy_value;
-use vortex_values::error::ScalarError;
 use vortex_values::scalar_value::ScalarValue;
 
 /// The type of a record of the first field of each of these names, as nullable as the type. `Invalid` where a name has no field.

@@ -4,7 +4,7 @@ ghost use Rattle.vortex_model.specs.Content.{content_of};
 ghost use Rattle.vortex_model.specs.Convert.{converts};
 ghost use Rattle.vortex_model.specs.Valid.{valid};
 ghost use Rattle.vortex_types.specs.View.{kind_of};
-ghost use Rattle.vortex_values.specs.declared.error.ScalarError.TheVariants.{Memory, NotConvertible};
+ghost use Rattle.vortex_scalar_errors.specs.declared.error.ScalarError.TheVariants.{Memory, NotConvertible};
 ghost use Rattle.vortex_views.specs.Forms.{Typed};
 ghost use Rattle.vortex_views.specs.Views.{typed_scalar};
 ghost use Rattle.vortex_nested_views.specs.Held.{raw_of_items};
@@ -18,9 +18,9 @@ use std::alloc::Global;
 use vortex_casts::cast::cast_value;
 use vortex_kinds::field_names::FieldName;
 use vortex_nested_views::struct_scalar::StructScalar;
+use vortex_scalar_errors::error::ScalarError;
 use vortex_scalars::scalar::Scalar;
 use vortex_types::dtype::DType;
-use vortex_values::error::ScalarError;
 use vortex_values::scalar_value::ScalarValue;
 
 /// What else can be asked of a record's value.

@@ -5,8 +5,8 @@ use Rattle.vortex_model.specs.Content.{Raw, raw_null, raw_truth, raw_text, raw_b
 use Rattle.vortex_model.specs.Valid.{valid}
 use Rattle.vortex_values.specs.Numbers.{raw_of_number}
 use Rattle.vortex_values.specs.declared.pvalue.PValue.{PValue}
-use Rattle.vortex_values.specs.declared.error.ScalarError.{ScalarError}
-use Rattle.vortex_values.specs.declared.error.ScalarError.TheVariants.{Invalid}
+use Rattle.vortex_scalar_errors.specs.declared.error.ScalarError.{ScalarError}
+use Rattle.vortex_scalar_errors.specs.declared.error.ScalarError.TheVariants.{Invalid}
 
 -- a type and a value of it
 abbrev pub Typed : Type 0

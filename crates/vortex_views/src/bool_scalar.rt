@@ -10,9 +10,9 @@ ghost use Rattle.vortex_views.specs.Forms.{raw_of_truth, GivesView};
 
 use std::alloc::AllocError;
 use vortex_casts::validate::validate;
+use vortex_scalar_errors::error::ScalarError;
 use vortex_scalars::scalar::Scalar;
 use vortex_types::dtype::DType;
-use vortex_values::error::ScalarError;
 use vortex_values::scalar_value::ScalarValue;
 
 /// A truth value or null with its type, as Vortex's `BoolScalar`.

@@ -1,7 +1,7 @@
 //! Views of scalars by `TryFrom`: `Invalid` exactly where the type is of another kind.
 ghost use Rattle.std.specs.Prelude.{◌≡◌, IfOk, IfErr};
 ghost use Rattle.vortex_types.specs.Parts.{is_boolean_kind, is_primitive_kind, is_utf8_kind, is_binary_kind};
-ghost use Rattle.vortex_values.specs.declared.error.ScalarError.TheVariants.{Memory};
+ghost use Rattle.vortex_scalar_errors.specs.declared.error.ScalarError.TheVariants.{Memory};
 ghost use Rattle.vortex_views.specs.Forms.{ViewsTyped};
 ghost use Rattle.vortex_views.specs.Views.{typed_scalar, typed_bool, typed_primitive, typed_utf8, typed_binary};
 
@@ -10,8 +10,8 @@ use crate::bool_scalar::BoolScalar;
 use crate::primitive_scalar::PrimitiveScalar;
 use crate::scalar_views::ScalarViews;
 use crate::utf8_scalar::Utf8Scalar;
+use vortex_scalar_errors::error::ScalarError;
 use vortex_scalars::scalar::Scalar;
-use vortex_values::error::ScalarError;
 
 /// The value, where the type is of truth values.
 impl<'a> TryFrom<&'a Scalar> for BoolScalar<'a> {

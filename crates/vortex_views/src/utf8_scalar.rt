@@ -9,9 +9,9 @@ ghost use Rattle.vortex_values.specs.View.{raw_at};
 ghost use Rattle.vortex_views.specs.Forms.{raw_of_text, GivesView};
 
 use vortex_casts::validate::validate;
+use vortex_scalar_errors::error::ScalarError;
 use vortex_types::BufferString;
 use vortex_types::dtype::DType;
-use vortex_values::error::ScalarError;
 use vortex_values::scalar_value::ScalarValue;
 
 /// A text or null with its type, as Vortex's `Utf8Scalar`.

@@ -5,7 +5,7 @@ use Rattle.vortex_model.specs.Convert.{converts, fields_convert}
 use Rattle.vortex_types.specs.View.{kind_of, fields_of}
 use Rattle.vortex_casts.specs.Converting.{takes_length}
 use Rattle.vortex_values.specs.View.{raw_in, raw_at, raws_in, content_in, content_at}
-use Rattle.vortex_values.specs.declared.error.ScalarError.TheVariants.{NotConvertible, Invalid}
+use Rattle.vortex_scalar_errors.specs.declared.error.ScalarError.TheVariants.{NotConvertible, Invalid}
 use Rattle.vortex_casts.proofs.ListValues.{lists_convert, valid_list}
 use Rattle.vortex_casts.proofs.Casts.{content_at-copied, contents_all, contents_more, valid_more, fields_next, items_more, all_have-more, all_have-at, fields_have-at}
 use Rattle.vortex_values.proofs.Sizes.{raw_size, raws_size, raw_at-copied, item_smaller}

@@ -2,7 +2,7 @@ use Rattle.std.proofs.Common.{rules, ◌≡◌, ◌≢◌, ◌&&◌, ◌+◌, ap
 use Rattle.vortex_model.specs.Content.{contents_of}
 use Rattle.vortex_types.specs.View.{kind_of}
 use Rattle.vortex_values.specs.View.{raws_in}
-use Rattle.vortex_values.specs.declared.error.ScalarError.TheVariants.{Memory, Invalid}
+use Rattle.vortex_scalar_errors.specs.declared.error.ScalarError.TheVariants.{Memory, Invalid}
 use Rattle.vortex_scalar_conversions.specs.Reading.{all_read}
 use Rattle.vortex_scalar_conversions.proofs.Reading.{next_read, none_left, one_more, all_said}
 use Rattle.vortex_scalar_conversions.proofs.lists.read_items.Goals as goal

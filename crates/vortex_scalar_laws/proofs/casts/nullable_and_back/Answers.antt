@@ -3,7 +3,7 @@ use Rattle.vortex_model.specs.Kind.{nullable, with_nullability}
 use Rattle.vortex_model.specs.Valid.{valid}
 use Rattle.vortex_model.specs.Convert.{converts}
 use Rattle.vortex_types.specs.View.{kind_of}
-use Rattle.vortex_values.specs.declared.error.ScalarError.TheVariants.{Memory}
+use Rattle.vortex_scalar_errors.specs.declared.error.ScalarError.TheVariants.{Memory}
 use Rattle.vortex_scalars.specs.Scalar.{scalar_kind, scalar_raw, scalar_content}
 use Rattle.vortex_scalar_laws.proofs.Steps.{comes_back, only_memory}
 use Rattle.vortex_scalar_laws.proofs.casts.nullable_and_back.Goals as goal

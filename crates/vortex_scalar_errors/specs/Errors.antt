@@ -1,7 +1,7 @@
 -- The refusals.
 use Rattle.std.specs.Prelude.{ℕ, List, codes}
-use Rattle.vortex_values.specs.declared.error.ScalarError.{ScalarError}
-use Rattle.vortex_values.specs.declared.error.ScalarError.TheVariants as error
+use Rattle.vortex_scalar_errors.specs.declared.error.ScalarError.{ScalarError}
+use Rattle.vortex_scalar_errors.specs.declared.error.ScalarError.TheVariants as error
 
 abbrev pub number_of_error : ScalarError → ℕ
 number_of_error error.Memory = 1

@@ -1,7 +1,7 @@
 //! Why a value can't be made.
 ghost use Rattle.std.specs.Prelude.{◌≡◌};
-ghost use Rattle.vortex_values.specs.declared.error.ScalarError.TheVariants.{Memory};
-ghost use Rattle.vortex_values.specs.Errors.{number_of_error, name_of_error};
+ghost use Rattle.vortex_scalar_errors.specs.declared.error.ScalarError.TheVariants.{Memory};
+ghost use Rattle.vortex_scalar_errors.specs.Errors.{number_of_error, name_of_error};
 
 use std::alloc::{AllocError, AllocFailed};
 use thiserror::Error;
