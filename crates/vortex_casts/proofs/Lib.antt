@@ -2,6 +2,8 @@ pub mod Casts
 pub mod KeptValues
 pub mod LeafValues
 pub mod ListValues
+pub mod NativeValues
+pub mod Nullable
 pub mod Tags
 pub mod Validity
 pub mod Views

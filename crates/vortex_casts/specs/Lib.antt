@@ -1,2 +1,3 @@
 pub mod Converting
+pub mod Native
 pub mod Tagged

@@ -1,6 +1,4 @@
-pub mod Choices
 pub mod Elements
 pub mod Pairs
 pub mod Records
 pub mod Storage
-pub mod Whichever

@@ -1,4 +1,3 @@
-pub mod Compared
 pub mod Entries
 pub mod Held
 pub mod Nested

@@ -5,8 +5,6 @@ use Rattle.vortex_views.specs.Forms.{Typed}
 use Rattle.vortex_nested_views.specs.declared.list_scalar.ListScalar.{ListScalar}
 use Rattle.vortex_nested_views.specs.declared.map_scalar.MapScalar.{MapScalar}
 use Rattle.vortex_nested_views.specs.declared.struct_scalar.StructScalar.{StructScalar}
-use Rattle.vortex_nested_views.specs.declared.union_scalar.UnionScalar.{UnionScalar}
-use Rattle.vortex_nested_views.specs.declared.variant_scalar.VariantScalar.{VariantScalar}
 use Rattle.vortex_nested_views.specs.declared.ext_scalar.ExtScalar.{ExtScalar}
 
 abbrev pub typed_list : ListScalar → Typed
@@ -17,12 +15,6 @@ typed_struct v = (kind_of v.dtype.now, raw_at v.value)
 
 abbrev pub typed_map : MapScalar → Typed
 typed_map v = (kind_of v.dtype.now, raw_at v.value)
-
-abbrev pub typed_union : UnionScalar → Typed
-typed_union v = (kind_of v.dtype.now, raw_at v.value)
-
-abbrev pub typed_variant : VariantScalar → Typed
-typed_variant v = (kind_of v.dtype.now, raw_at v.stored)
 
 abbrev pub typed_extension : ExtScalar → Typed
 typed_extension v = (kind_of v.dtype.now, raw_at v.value)

@@ -3,23 +3,21 @@
 ghost use Rattle.std.specs.Cmp.{on_equiv, partial_equiv_from_equiv};
 ghost use Rattle.std.specs.Hash.{on_Alike};
 ghost use Rattle.std.specs.Ordering.{on};
-ghost use Rattle.vortex_nested_views.specs.Compared.{same_typed, typed_writes, same_typed_equiv, same_typed_alike};
-ghost use Rattle.vortex_nested_views.specs.Nested.{typed_list, typed_struct, typed_map, typed_union, typed_variant, typed_extension};
+ghost use Rattle.vortex_views.specs.Compared.{same_views, typed_writes, same_views_equiv, same_views_alike};
+ghost use Rattle.vortex_nested_views.specs.Nested.{typed_list, typed_struct, typed_map, typed_extension};
 
 use crate::ext_scalar::ExtScalar;
 use crate::list_scalar::ListScalar;
 use crate::map_scalar::MapScalar;
 use crate::struct_scalar::StructScalar;
-use crate::union_scalar::UnionScalar;
-use crate::variant_scalar::VariantScalar;
 use std::hash::{Hash, Hasher};
 use vortex_order::feed::feed_value;
 use vortex_order::same::same_values;
 
 impl PartialEq for ListScalar<'_> {
-    ghost eq = { on typed_list same_typed };
+    ghost eq = { on typed_list same_views };
 
-    ghost laws = { partial_equiv_from_equiv (on_equiv typed_list same_typed_equiv) };
+    ghost laws = { partial_equiv_from_equiv (on_equiv typed_list same_views_equiv) };
 
     fn eq(&self, other: &ListScalar<'_>) -> bool {
         self.dtype().eq_ignore_nullability(other.dtype())
@@ -28,13 +26,13 @@ impl PartialEq for ListScalar<'_> {
 }
 
 impl Eq for ListScalar<'_> {
-    ghost laws = { on_equiv typed_list same_typed_equiv };
+    ghost laws = { on_equiv typed_list same_views_equiv };
 }
 
 impl Hash for ListScalar<'_> {
     ghost hash_input = { λ view. typed_writes (typed_list view) };
 
-    ghost respects_eq = { (on_Alike typed_list same_typed_alike).fed };
+    ghost respects_eq = { (on_Alike typed_list same_views_alike).fed };
 
     fn hash<H: Hasher>(&self, state: &mut H) {
         feed_value(self.value(), state);
@@ -42,9 +40,9 @@ impl Hash for ListScalar<'_> {
 }
 
 impl PartialEq for StructScalar<'_> {
-    ghost eq = { on typed_struct same_typed };
+    ghost eq = { on typed_struct same_views };
 
-    ghost laws = { partial_equiv_from_equiv (on_equiv typed_struct same_typed_equiv) };
+    ghost laws = { partial_equiv_from_equiv (on_equiv typed_struct same_views_equiv) };
 
     fn eq(&self, other: &StructScalar<'_>) -> bool {
         self.dtype().eq_ignore_nullability(other.dtype())
@@ -53,13 +51,13 @@ impl PartialEq for StructScalar<'_> {
 }
 
 impl Eq for StructScalar<'_> {
-    ghost laws = { on_equiv typed_struct same_typed_equiv };
+    ghost laws = { on_equiv typed_struct same_views_equiv };
 }
 
 impl Hash for StructScalar<'_> {
     ghost hash_input = { λ view. typed_writes (typed_struct view) };
 
-    ghost respects_eq = { (on_Alike typed_struct same_typed_alike).fed };
+    ghost respects_eq = { (on_Alike typed_struct same_views_alike).fed };
 
     fn hash<H: Hasher>(&self, state: &mut H) {
         feed_value(self.value(), state);
@@ -67,9 +65,9 @@ impl Hash for StructScalar<'_> {
 }
 
 impl PartialEq for MapScalar<'_> {
-    ghost eq = { on typed_map same_typed };
+    ghost eq = { on typed_map same_views };
 
-    ghost laws = { partial_equiv_from_equiv (on_equiv typed_map same_typed_equiv) };
+    ghost laws = { partial_equiv_from_equiv (on_equiv typed_map same_views_equiv) };
 
     fn eq(&self, other: &MapScalar<'_>) -> bool {
         self.dtype().eq_ignore_nullability(other.dtype())
@@ -78,73 +76,23 @@ impl PartialEq for MapScalar<'_> {
 }
 
 impl Eq for MapScalar<'_> {
-    ghost laws = { on_equiv typed_map same_typed_equiv };
+    ghost laws = { on_equiv typed_map same_views_equiv };
 }
 
 impl Hash for MapScalar<'_> {
     ghost hash_input = { λ view. typed_writes (typed_map view) };
 
-    ghost respects_eq = { (on_Alike typed_map same_typed_alike).fed };
+    ghost respects_eq = { (on_Alike typed_map same_views_alike).fed };
 
     fn hash<H: Hasher>(&self, state: &mut H) {
         feed_value(self.value(), state);
-    }
-}
-
-impl PartialEq for UnionScalar<'_> {
-    ghost eq = { on typed_union same_typed };
-
-    ghost laws = { partial_equiv_from_equiv (on_equiv typed_union same_typed_equiv) };
-
-    fn eq(&self, other: &UnionScalar<'_>) -> bool {
-        self.dtype().eq_ignore_nullability(other.dtype())
-            && same_values(self.value(), other.value())
-    }
-}
-
-impl Eq for UnionScalar<'_> {
-    ghost laws = { on_equiv typed_union same_typed_equiv };
-}
-
-impl Hash for UnionScalar<'_> {
-    ghost hash_input = { λ view. typed_writes (typed_union view) };
-
-    ghost respects_eq = { (on_Alike typed_union same_typed_alike).fed };
-
-    fn hash<H: Hasher>(&self, state: &mut H) {
-        feed_value(self.value(), state);
-    }
-}
-
-impl PartialEq for VariantScalar<'_> {
-    ghost eq = { on typed_variant same_typed };
-
-    ghost laws = { partial_equiv_from_equiv (on_equiv typed_variant same_typed_equiv) };
-
-    fn eq(&self, other: &VariantScalar<'_>) -> bool {
-        self.dtype().eq_ignore_nullability(other.dtype())
-            && same_values(self.stored(), other.stored())
-    }
-}
-
-impl Eq for VariantScalar<'_> {
-    ghost laws = { on_equiv typed_variant same_typed_equiv };
-}
-
-impl Hash for VariantScalar<'_> {
-    ghost hash_input = { λ view. typed_writes (typed_variant view) };
-
-    ghost respects_eq = { (on_Alike typed_variant same_typed_alike).fed };
-
-    fn hash<H: Hasher>(&self, state: &mut H) {
-        feed_value(self.stored(), state);
     }
 }
 
 impl PartialEq for ExtScalar<'_> {
-    ghost eq = { on typed_extension same_typed };
+    ghost eq = { on typed_extension same_views };
 
-    ghost laws = { partial_equiv_from_equiv (on_equiv typed_extension same_typed_equiv) };
+    ghost laws = { partial_equiv_from_equiv (on_equiv typed_extension same_views_equiv) };
 
     fn eq(&self, other: &ExtScalar<'_>) -> bool {
         self.dtype().eq_ignore_nullability(other.dtype())
@@ -153,13 +101,13 @@ impl PartialEq for ExtScalar<'_> {
 }
 
 impl Eq for ExtScalar<'_> {
-    ghost laws = { on_equiv typed_extension same_typed_equiv };
+    ghost laws = { on_equiv typed_extension same_views_equiv };
 }
 
 impl Hash for ExtScalar<'_> {
     ghost hash_input = { λ view. typed_writes (typed_extension view) };
 
-    ghost respects_eq = { (on_Alike typed_extension same_typed_alike).fed };
+    ghost respects_eq = { (on_Alike typed_extension same_views_alike).fed };
 
     fn hash<H: Hasher>(&self, state: &mut H) {
         feed_value(self.value(), state);

@@ -1,8 +1,8 @@
 //! Views of scalars by `TryFrom`: `Invalid` exactly where the type is of another kind.
-ghost use Rattle.vortex_types.specs.Parts.{is_struct_kind, is_map_kind, is_union_kind, is_variant_kind, is_extension_kind};
+ghost use Rattle.vortex_types.specs.Parts.{is_struct_kind, is_map_kind, is_extension_kind};
 ghost use Rattle.vortex_views.specs.Forms.{ViewsTyped};
 ghost use Rattle.vortex_views.specs.Views.{typed_scalar};
-ghost use Rattle.vortex_nested_views.specs.Nested.{typed_list, typed_struct, typed_map, typed_union, typed_variant, typed_extension};
+ghost use Rattle.vortex_nested_views.specs.Nested.{typed_list, typed_struct, typed_map, typed_extension};
 ghost use Rattle.vortex_nested_views.specs.Places.{is_listing};
 
 use crate::ext_scalar::ExtScalar;
@@ -10,8 +10,6 @@ use crate::list_scalar::ListScalar;
 use crate::map_scalar::MapScalar;
 use crate::nested_views::NestedScalarViews;
 use crate::struct_scalar::StructScalar;
-use crate::union_scalar::UnionScalar;
-use crate::variant_scalar::VariantScalar;
 use vortex_scalar_errors::error::ScalarError;
 use vortex_scalars::scalar::Scalar;
 
@@ -51,34 +49,6 @@ impl<'a> TryFrom<&'a Scalar> for MapScalar<'a> {
 
     fn try_from(scalar: &'a Scalar) -> Result<MapScalar<'a>, ScalarError> {
         match scalar.as_map_opt() {
-            Some(view) => Ok(view),
-            None => Err(ScalarError::Invalid),
-        }
-    }
-}
-
-/// The value, where the type is a union.
-impl<'a> TryFrom<&'a Scalar> for UnionScalar<'a> {
-    type Error = ScalarError;
-
-    ghost try_from_gives = { λ scalar result. ViewsTyped typed_union is_union_kind (typed_scalar scalar.now) result };
-
-    fn try_from(scalar: &'a Scalar) -> Result<UnionScalar<'a>, ScalarError> {
-        match scalar.as_union_opt() {
-            Some(view) => Ok(view),
-            None => Err(ScalarError::Invalid),
-        }
-    }
-}
-
-/// The value, where the type is of variants.
-impl<'a> TryFrom<&'a Scalar> for VariantScalar<'a> {
-    type Error = ScalarError;
-
-    ghost try_from_gives = { λ scalar result. ViewsTyped typed_variant is_variant_kind (typed_scalar scalar.now) result };
-
-    fn try_from(scalar: &'a Scalar) -> Result<VariantScalar<'a>, ScalarError> {
-        match scalar.as_variant_opt() {
             Some(view) => Ok(view),
             None => Err(ScalarError::Invalid),
         }

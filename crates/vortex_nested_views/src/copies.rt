@@ -1,6 +1,6 @@
-//! Scalars made of copies, and entries of maps taken apart.
+//! Elements as values of their type, and entries of maps taken apart.
 ghost use Rattle.std.specs.Prelude.{◌≡◌, IsTrue, IfOk, map, option_map};
-ghost use Rattle.vortex_model.specs.Valid.{valid, all_have};
+ghost use Rattle.vortex_model.specs.Valid.{all_have};
 ghost use Rattle.vortex_types.specs.View.{kind_of};
 ghost use Rattle.vortex_values.specs.View.{raw_at, raws_in};
 ghost use Rattle.vortex_views.specs.Views.{typed_scalar};
@@ -10,18 +10,8 @@ ghost use Rattle.vortex_nested_views.specs.Places.{item_at, each_of};
 use std::alloc::{AllocError, Global};
 use vortex_scalars::scalar::Scalar;
 use vortex_types::dtype::DType;
-use vortex_values::clone::copy_value;
 use vortex_values::scalar_value::ScalarValue;
-
-/// A copy of the value, as one of a copy of the type.
-pub fn scalar_of(dtype: &DType, value: Option<&ScalarValue>) -> Result<Scalar, AllocError>
-    requires { IsTrue (valid (kind_of dtype.now) (raw_at value)) }
-    ensures { IfOk result (λ scalar. typed_scalar scalar ≡ (kind_of dtype.now, raw_at value.entry)) }
-{
-    let dtype = dtype.clone()?;
-    let value = copy_value(value)?;
-    Ok(Scalar::new_unchecked(dtype, value))
-}
+use vortex_views::copies::scalar_of;
 
 /// The value at this place, and `None` past the end. Null is `Some(None)`.
 #[tactic(auto, using(crate::proofs::Elements::items))]

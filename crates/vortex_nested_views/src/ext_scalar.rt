@@ -6,12 +6,12 @@ ghost use Rattle.vortex_types.specs.Parts.{is_extension_kind, extension_in_kind,
 ghost use Rattle.vortex_types.specs.View.{kind_of, extension_kind};
 ghost use Rattle.vortex_values.specs.View.{raw_at};
 
-use crate::copies::scalar_of;
 use std::alloc::AllocError;
 use vortex_scalars::scalar::Scalar;
 use vortex_types::dtype::DType;
 use vortex_types::extension::ExtDTypeRef;
 use vortex_values::scalar_value::ScalarValue;
+use vortex_views::copies::scalar_of;
 
 /// An extension's value or null with its type, as Vortex's `ExtScalar`.
 #[derive(Drop)]

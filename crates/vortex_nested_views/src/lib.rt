@@ -10,5 +10,3 @@ pub mod map_scalar;
 pub mod nested_views;
 pub mod ordering;
 pub mod struct_scalar;
-pub mod union_scalar;
-pub mod variant_scalar;

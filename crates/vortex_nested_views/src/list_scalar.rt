@@ -8,13 +8,14 @@ ghost use Rattle.vortex_views.specs.Forms.{GivesView};
 ghost use Rattle.vortex_nested_views.specs.Held.{raw_of_items};
 ghost use Rattle.vortex_nested_views.specs.Places.{list_element, is_listing, part_count, element_at, elements_of};
 
-use crate::copies::{scalar_of, scalars_of, value_at};
+use crate::copies::{scalars_of, value_at};
 use std::alloc::{AllocError, Global};
 use vortex_casts::validate::validate;
 use vortex_scalar_errors::error::ScalarError;
 use vortex_scalars::scalar::Scalar;
 use vortex_types::dtype::DType;
 use vortex_values::scalar_value::ScalarValue;
+use vortex_views::copies::scalar_of;
 
 /// A list or null with its type, as Vortex's `ListScalar`. The type is of lists of any length or of one.
 #[derive(Drop)]

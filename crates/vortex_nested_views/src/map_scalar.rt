@@ -11,7 +11,7 @@ ghost use Rattle.vortex_nested_views.specs.Held.{raw_of_items};
 ghost use Rattle.vortex_nested_views.specs.Places.{part_count};
 ghost use Rattle.vortex_nested_views.specs.Entries.{entry_at, each_key, each_value, keys_of, values_of};
 
-use crate::copies::{pair_of, scalar_of, value_at};
+use crate::copies::{pair_of, value_at};
 use std::alloc::{AllocError, Global};
 use vortex_casts::validate::validate;
 use vortex_scalar_errors::error::ScalarError;
@@ -19,6 +19,7 @@ use vortex_scalars::scalar::Scalar;
 use vortex_types::dtype::DType;
 use vortex_types::map_dtype::MapDType;
 use vortex_values::scalar_value::ScalarValue;
+use vortex_views::copies::scalar_of;
 
 /// A map or null with its type, as Vortex's `MapScalar`.
 #[derive(Drop)]

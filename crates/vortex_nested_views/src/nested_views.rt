@@ -4,14 +4,15 @@ ghost use Rattle.vortex_types.specs.Parts.{is_struct_kind, is_map_kind, is_union
 ghost use Rattle.vortex_views.specs.Forms.{Typed, viewed};
 ghost use Rattle.vortex_views.specs.Views.{typed_scalar};
 ghost use Rattle.vortex_nested_views.specs.Places.{is_listing};
-ghost use Rattle.vortex_nested_views.specs.Nested.{typed_list, typed_struct, typed_map, typed_union, typed_variant, typed_extension};
+ghost use Rattle.vortex_choice_views.specs.Views.{typed_union, typed_variant};
+ghost use Rattle.vortex_nested_views.specs.Nested.{typed_list, typed_struct, typed_map, typed_extension};
 
 use crate::ext_scalar::ExtScalar;
 use crate::list_scalar::{ListScalar, is_any_list};
 use crate::map_scalar::MapScalar;
 use crate::struct_scalar::StructScalar;
-use crate::union_scalar::UnionScalar;
-use crate::variant_scalar::VariantScalar;
+use vortex_choice_views::union_scalar::UnionScalar;
+use vortex_choice_views::variant_scalar::VariantScalar;
 use vortex_scalars::scalar::Scalar;
 
 /// The views of a scalar whose kind has parts. Each `_opt` form answers `None` exactly where the type is of another kind.

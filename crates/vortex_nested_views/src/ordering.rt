@@ -1,6 +1,6 @@
 //! How views of lists, records and extensions stand. Equal values of variants don't compare, so this is no `PartialOrd`.
 ghost use Rattle.std.specs.Prelude.{◌≡◌};
-ghost use Rattle.vortex_nested_views.specs.Compared.{typed_cmp};
+ghost use Rattle.vortex_views.specs.Compared.{typed_cmp};
 
 use crate::ext_scalar::ExtScalar;
 use crate::list_scalar::ListScalar;

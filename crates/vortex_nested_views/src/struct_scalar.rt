@@ -9,7 +9,7 @@ ghost use Rattle.vortex_values.specs.View.{raw_at};
 ghost use Rattle.vortex_nested_views.specs.Held.{raw_of_items};
 ghost use Rattle.vortex_nested_views.specs.Places.{field_of_record, field_named};
 
-use crate::copies::{scalar_of, value_at};
+use crate::copies::value_at;
 use std::alloc::{AllocError, Global};
 use vortex_kinds::field_names::{FieldName, FieldNames};
 use vortex_records::struct_fields_ext::StructFieldsExt;
@@ -17,6 +17,7 @@ use vortex_scalars::scalar::Scalar;
 use vortex_types::dtype::DType;
 use vortex_types::struct_fields::StructFields;
 use vortex_values::scalar_value::ScalarValue;
+use vortex_views::copies::scalar_of;
 
 /// A record or null with its type, as Vortex's `StructScalar`.
 #[derive(Drop)]

@@ -1,3 +1,2 @@
 pub mod Natives
-pub mod Nullable
 pub mod Reinterpreted

@@ -1,5 +1,5 @@
 -- What the machine's values read of a value with its type.
-use Rattle.std.proofs.Common.{map, [], ◌∷◌, ◌++◌, IsUtf8, rules, ◌≡◌, ℤ, Bool, true, false, List, ℕ, Option, Some, None, option_map, if◌then◌else◌, refl, ap, ◌∙◌}
+use Rattle.std.proofs.Common.{IsUtf8, rules, ◌≡◌, ℤ, Bool, true, false, List, ℕ, Option, Some, None, option_map, if◌then◌else◌, refl, ap, ◌∙◌}
 use Rattle.std.proofs.lemmas.Str.{is_utf8-from_IsUtf8}
 use Rattle.vortex_model.specs.Kind.{Kind, IntKind, boolean, utf8, binary}
 use Rattle.vortex_model.specs.Content.{Raw, raw_null, raw_truth, raw_number, raw_text, raw_blob, raw_tuple, raw_tagged, raw_scalar, content_of, is_null}
@@ -11,9 +11,8 @@ use Rattle.vortex_types.specs.declared.dtype.DType as type
 use Rattle.vortex_types.proofs.Views as types
 use Rattle.vortex_types.specs.Parts.{is_boolean_kind, is_utf8_kind, is_binary_kind}
 use Rattle.vortex_values.specs.Parts.{truth_in, text_in, blob_in, has_whole, whole_in}
-use Rattle.vortex_values.specs.View.{raw_of, raw_in}
+use Rattle.vortex_values.specs.View.{raw_of}
 use Rattle.vortex_values.specs.declared.scalar_value.ScalarValue as value
-use Rattle.vortex_values.specs.declared.scalar_value.ScalarValue.{ScalarValue}
 use Rattle.vortex_values.proofs.Views as values
 use Rattle.vortex_values.proofs.Views.{raw_of-Utf8, raw_of-Binary}
 use Rattle.vortex_values.proofs.Nulls.{never_null}
@@ -114,11 +113,5 @@ pub bytes_valid : (n : outer.Nullability) (b : List ℕ) → are_bytes b ≡ tru
 bytes_valid n b u =
     let k : kind_of (type.Binary n) ≡ binary (nullability_of_flag n) = search (rules, type.the_lemmas) in
     (λ i. valid (k i) (raw_of-Binary b i)) ∙ u
-
--- one more is made of those that are left
-pub moved_over : {A : Type 0} → (raw : A → Raw) (vs : List (Option ScalarValue)) (item : Option ScalarValue) (v : A) (behind : List A) (all : List Raw) → raw_in item ≡ raw v →
-    map raw_in vs ++ map raw (v ∷ behind) ≡ all → map raw_in (vs ++ item ∷ []) ++ map raw behind ≡ all
-moved_over raw [] item v behind all e h = ap (λ r. r ∷ map raw behind) e ∙ h
-moved_over raw (w ∷ vs) item v behind all e h = ap (λ rs. raw_in w ∷ rs) (moved_over raw vs item v behind (map raw_in vs ++ map raw (v ∷ behind)) e refl) ∙ h
 
 pub ruleset leaves = (types.one_level, values.one_level)

@@ -26,11 +26,6 @@ whole_within i r = None
 abbrev pub GivesCopy : {A B : Type 0} → (A → B) → Option B → Result A ScalarError → Type 0
 GivesCopy view part r = (IfOk r (λ a. part ≡ Some (view a))) × (IfErr r (λ e. e ≢ Memory → (e ≡ Invalid) × (part ≡ None)))
 
--- null where there is none
-abbrev pub raw_or_null : {A : Type 0} → (A → Raw) → Option A → Raw
-raw_or_null view None = raw_null
-raw_or_null view (Some a) = view a
-
 -- the value has this type and is this one
 abbrev pub IsMadeAs : Kind → Raw → Scalar → Type 0
 IsMadeAs k r s = (scalar_kind s ≡ k) × (scalar_raw s ≡ r)

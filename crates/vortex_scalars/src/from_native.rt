@@ -1,15 +1,19 @@
 //! The machine's values with their type. Only the conversions that can fail take memory.
-ghost use Rattle.std.specs.Prelude.{◌≡◌, pos, true, string_bytes, IfOk};
-ghost use Rattle.vortex_model.specs.Kind.{boolean, integer, utf8, binary, nullable, non_nullable, u8, u16, u32, u64, i8, i16, i32, i64};
-ghost use Rattle.vortex_model.specs.Content.{raw_truth, raw_number, raw_text, raw_blob};
+ghost use Rattle.std.specs.Prelude.{◌≡◌, pos, map, true, string_bytes, IfOk};
+ghost use Rattle.vortex_model.specs.Kind.{boolean, integer, utf8, binary, list, nullable, non_nullable, u8, u16, u32, u64, i8, i16, i32, i64};
+ghost use Rattle.vortex_model.specs.Content.{raw_truth, raw_number, raw_text, raw_blob, raw_tuple};
 ghost use Rattle.vortex_model.specs.Valid.{are_bytes};
 ghost use Rattle.vortex_kinds.specs.View.{nullability_of_flag};
-ghost use Rattle.vortex_scalars.specs.Native.{IsMadeAs, raw_or_null};
+ghost use Rattle.vortex_values.specs.View.{raws_from};
+ghost use Rattle.vortex_casts.specs.Native.{raw_or_null};
+ghost use Rattle.vortex_scalars.specs.Native.{IsMadeAs};
 ghost use Rattle.vortex_scalars.specs.Scalar.{scalar_kind, scalar_raw};
 
 use crate::scalar::Scalar;
 use std::alloc::{AllocError, Global};
+use vortex_casts::native_value::NativeValue;
 use vortex_kinds::nullability::Nullability;
+use vortex_native_types::native_dtype::NativeDType;
 use vortex_natives::native::NativePType;
 use vortex_types::dtype::DType;
 use vortex_types::{BufferString, ByteBuffer};
@@ -283,6 +287,32 @@ impl TryFrom<(Global, &[u8])> for Scalar {
     fn try_from((alloc, bytes): (Global, &[u8])) -> Result<Scalar, AllocError> {
         let bytes = ByteBuffer::copy_from_slice(alloc, bytes)?;
         Ok(of_bytes(bytes, Nullability::NonNullable))
+    }
+}
+
+/// A list of any length without null, of elements of the values' type.
+impl<T: NativeValue> TryFrom<(Global, Vec<T>)> for Scalar {
+    type Error = AllocError;
+
+    ghost try_from_gives = { λ p result. IfOk result (λ made. IsMadeAs (list T.values non_nullable) (raw_tuple (raws_from (map T.raw p.1.items))) made) };
+
+    fn try_from((alloc, values): (Global, Vec<T>)) -> Result<Scalar, AllocError> {
+        let dtype = Vec::<T>::dtype(alloc)?;
+        let value = values.into_scalar_value(alloc)?;
+        Ok(Scalar::new_unchecked(dtype, value))
+    }
+}
+
+/// A list of any length or null, of elements of the values' type.
+impl<T: NativeValue> TryFrom<(Global, Option<Vec<T>>)> for Scalar {
+    type Error = AllocError;
+
+    ghost try_from_gives = { λ p result. IfOk result (λ made. IsMadeAs (list T.values nullable) (raw_or_null (λ v. raw_tuple (raws_from (map T.raw v.items))) p.1) made) };
+
+    fn try_from((alloc, values): (Global, Option<Vec<T>>)) -> Result<Scalar, AllocError> {
+        let dtype = Option::<Vec<T>>::dtype(alloc)?;
+        let value = values.into_scalar_value(alloc)?;
+        Ok(Scalar::new_unchecked(dtype, value))
     }
 }
 

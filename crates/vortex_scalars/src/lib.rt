@@ -5,7 +5,6 @@ pub mod compare;
 pub mod from_native;
 pub mod into_native;
 pub mod methods;
-pub mod native_value;
 mod reading;
 pub mod reinterpret;
 pub mod scalar;

@@ -53,7 +53,7 @@ impl Scalar {
     }
 
     /// The value as one of the same type with null.
-    #[tactic(auto, using(crate::proofs::Nullable::kept))]
+    #[tactic(auto, using(vortex_casts::proofs::Nullable::kept))]
     pub fn into_nullable(self) -> Result<Scalar, AllocError>
         ensures dtype { IfOk result (λ new. scalar_kind new ≡ with_nullability nullable (scalar_kind self)) }
         ensures value { IfOk result (λ new. scalar_raw new ≡ scalar_raw self) }

@@ -3,7 +3,7 @@ use Rattle.std.specs.Prelude.{ℕ, zero, suc, List, Option, Some, None, option_a
 use Rattle.vortex_model.specs.Kind.{Variants, no_variants, choice}
 use Rattle.vortex_types.specs.Parts.{variants_in_kind}
 use Rattle.vortex_views.specs.Forms.{Typed}
-use Rattle.vortex_nested_views.specs.Places.{place_of_choice}
+use Rattle.vortex_choice_views.specs.Choices.{place_of_choice}
 
 -- the name of the choice at a place
 abbrev pub variant_name_at : Variants → ℕ → Option (List ℕ)

@@ -9,10 +9,10 @@ ghost use Rattle.vortex_nested_views.specs.Places.{each_of};
 
 use std::alloc::AllocError;
 use std::iter::ExactSizeIterator;
-use vortex_nested_views::copies::scalar_of;
 use vortex_scalars::scalar::Scalar;
 use vortex_types::dtype::DType;
 use vortex_values::scalar_value::ScalarValue;
+use vortex_views::copies::scalar_of;
 
 /// Copies of a list's elements in order. An element whose copy is refused memory is passed over.
 #[derive(Drop)]

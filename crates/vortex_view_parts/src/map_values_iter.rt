@@ -9,10 +9,11 @@ ghost use Rattle.vortex_nested_views.specs.Entries.{each_value};
 
 use std::alloc::AllocError;
 use std::iter::ExactSizeIterator;
-use vortex_nested_views::copies::{pair_of, scalar_of};
+use vortex_nested_views::copies::pair_of;
 use vortex_scalars::scalar::Scalar;
 use vortex_types::map_dtype::MapDType;
 use vortex_values::scalar_value::ScalarValue;
+use vortex_views::copies::scalar_of;
 
 /// Copies of a map's values in the order of its entries. A value whose copy is refused memory is passed over.
 #[derive(Drop)]

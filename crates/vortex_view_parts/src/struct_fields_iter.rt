@@ -9,10 +9,10 @@ ghost use Rattle.vortex_view_parts.specs.Records.{each_field};
 
 use std::alloc::AllocError;
 use std::iter::ExactSizeIterator;
-use vortex_nested_views::copies::scalar_of;
 use vortex_scalars::scalar::Scalar;
 use vortex_types::struct_fields::StructField;
 use vortex_values::scalar_value::ScalarValue;
+use vortex_views::copies::scalar_of;
 
 /// Copies of a record's fields in order. A field whose copy is refused memory is passed over.
 #[derive(Drop)]

@@ -1,11 +1,11 @@
 //! Values of unions asked for names.
 ghost use Rattle.std.specs.Prelude.{◌≡◌, option_copied};
 ghost use Rattle.vortex_views.specs.Forms.{Typed};
-ghost use Rattle.vortex_nested_views.specs.Nested.{typed_union};
+ghost use Rattle.vortex_choice_views.specs.Views.{typed_union};
 ghost use Rattle.vortex_view_parts.specs.Choices.{name_of_choice};
 
+use vortex_choice_views::union_scalar::UnionScalar;
 use vortex_kinds::field_names::FieldName;
-use vortex_nested_views::union_scalar::UnionScalar;
 
 /// What else can be asked of a union's value.
 pub trait UnionScalarExt {

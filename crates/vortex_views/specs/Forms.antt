@@ -1,10 +1,11 @@
 -- A type with a value of it, and what stands in a value of one form.
 use Rattle.std.specs.Prelude.{◌≡◌, ℕ, List, Bool, ◌&&◌, if◌then◌else◌, Option, Some, None, Result, is_ok, IfOk, IfErr}
 use Rattle.vortex_model.specs.Kind.{Kind}
-use Rattle.vortex_model.specs.Content.{Raw, raw_null, raw_truth, raw_text, raw_blob}
+use Rattle.vortex_model.specs.Content.{Raw, raw_truth, raw_text, raw_blob}
 use Rattle.vortex_model.specs.Valid.{valid}
 use Rattle.vortex_values.specs.Numbers.{raw_of_number}
 use Rattle.vortex_values.specs.declared.pvalue.PValue.{PValue}
+use Rattle.vortex_casts.specs.Native.{raw_or_null}
 use Rattle.vortex_scalar_errors.specs.declared.error.ScalarError.{ScalarError}
 use Rattle.vortex_scalar_errors.specs.declared.error.ScalarError.TheVariants.{Invalid}
 
@@ -12,11 +13,7 @@ use Rattle.vortex_scalar_errors.specs.declared.error.ScalarError.TheVariants.{In
 abbrev pub Typed : Type 0
 Typed = Kind × Raw
 
--- what stands there, as `view` reads it, and null where nothing does
-abbrev pub raw_or_null : {A : Type 0} → (A → Raw) → Option A → Raw
-raw_or_null view None = raw_null
-raw_or_null view (Some a) = view a
-
+-- what stands there, and null where nothing does
 abbrev pub raw_of_truth : Option Bool → Raw
 raw_of_truth o = raw_or_null raw_truth o
 

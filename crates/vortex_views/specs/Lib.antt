@@ -1,3 +1,4 @@
+pub mod Compared
 pub mod Equal
 pub mod Forms
 pub mod Laws

@@ -6,6 +6,7 @@ pub mod binary_scalar;
 pub mod bool_scalar;
 pub mod comparing;
 pub mod conversions;
+pub mod copies;
 pub mod hashing;
 pub mod numeric_operator;
 pub mod ordering;

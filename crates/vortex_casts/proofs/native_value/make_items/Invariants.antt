@@ -2,7 +2,7 @@ use Rattle.std.proofs.Common.{◌≡◌, ◌++◌, map, true}
 use Rattle.std.specs.Vec.Iter.{into_iter_items}
 use Rattle.vortex_model.specs.Valid.{all_have}
 use Rattle.vortex_values.specs.View.{raw_in, raws_in}
-use Rattle.vortex_scalars.proofs.native_value.make_items.Given as goal
+use Rattle.vortex_casts.proofs.native_value.make_items.Given as goal
 
 abbrev pub invariant-loop-value : goal.invariant-loop-value
 invariant-loop-value g l = record {

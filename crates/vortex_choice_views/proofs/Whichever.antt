@@ -9,7 +9,7 @@ use Rattle.vortex_values.specs.View.{raw_of_variant}
 use Rattle.vortex_values.specs.declared.variant_value.VariantValue.{VariantValue}
 use Rattle.vortex_values.proofs.Views as values
 use Rattle.vortex_values.proofs.Nulls as nulls
-use Rattle.vortex_nested_views.specs.Held.{raw_of_whichever}
+use Rattle.vortex_choice_views.specs.Held.{raw_of_whichever}
 
 pub variant_held : (k : Kind) (r : Raw) (o : Option (Bor VariantValue)) → is_variant_kind k ≡ true → valid k r ≡ true → option_map (λ v. raw_of_variant v.now) o ≡ as_scalar r → raw_of_whichever o ≡ r
 variant_held k raw_null None h v e = refl

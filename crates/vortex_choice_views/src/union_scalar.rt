@@ -8,10 +8,9 @@ ghost use Rattle.vortex_types.specs.Parts.{is_union_kind, variants_in_kind};
 ghost use Rattle.vortex_types.specs.View.{kind_of, variants_in};
 ghost use Rattle.vortex_values.specs.View.{raw_at};
 ghost use Rattle.vortex_views.specs.Forms.{GivesView};
-ghost use Rattle.vortex_nested_views.specs.Held.{raw_of_choice};
-ghost use Rattle.vortex_nested_views.specs.Places.{tag_of, place_of_choice, child_of};
+ghost use Rattle.vortex_choice_views.specs.Choices.{tag_of, place_of_choice, child_of};
+ghost use Rattle.vortex_choice_views.specs.Held.{raw_of_choice};
 
-use crate::copies::scalar_of;
 use std::alloc::AllocError;
 use vortex_casts::validate::validate;
 use vortex_kinds::nullability::Nullability;
@@ -22,6 +21,7 @@ use vortex_types::dtype::DType;
 use vortex_types::union_variants::UnionVariants;
 use vortex_values::scalar_value::ScalarValue;
 use vortex_values::union_value::UnionValue;
+use vortex_views::copies::scalar_of;
 
 /// A union's value or null with its type, as Vortex's `UnionScalar`.
 #[derive(Drop)]
@@ -34,7 +34,7 @@ pub struct UnionScalar<'a> {
 
 impl<'a> UnionScalar<'a> {
     ghost use Rattle.vortex_views.specs.Views.{typed_scalar};
-    ghost use Rattle.vortex_nested_views.specs.Nested.{typed_union};
+    ghost use Rattle.vortex_choice_views.specs.Views.{typed_union};
 
     /// The value as one of the type. `Invalid` where the type isn't a union, or does not have the value.
     pub fn try_new(
@@ -49,8 +49,8 @@ impl<'a> UnionScalar<'a> {
         Ok(UnionScalar::new(dtype, value))
     }
 
-    /// The same of a value that the type has.
-    pub(crate) fn new(dtype: &'a DType, value: Option<&'a ScalarValue>) -> UnionScalar<'a>
+    /// The same, for a caller that knows that the type is a union and has the value.
+    pub fn new(dtype: &'a DType, value: Option<&'a ScalarValue>) -> UnionScalar<'a>
         requires kind { IsTrue (is_union_kind (kind_of dtype.now)) }
         requires valid { IsTrue (valid (kind_of dtype.now) (raw_at value)) }
         ensures { typed_union result ≡ (kind_of dtype.now, raw_at value.entry) }

@@ -1,15 +1,16 @@
-//! Values of the machine as values of their columns, lists among them.
+//! Values of the machine as raw values of their columns, lists among them.
 ghost use Rattle.std.specs.Prelude.{◌≡◌, pos, map, true, IfOk, string_bytes};
-ghost use Rattle.vortex_model.specs.Kind.{list, nullable, non_nullable, with_nullability, u8, u16, u32, u64, i8, i16, i32, i64};
+ghost use Rattle.vortex_model.specs.Kind.{integer, utf8, binary, non_nullable, u8, u16, u32, u64, i8, i16, i32, i64};
 ghost use Rattle.vortex_model.specs.Content.{Raw, raw_truth, raw_number, raw_text, raw_blob, raw_tuple};
-ghost use Rattle.vortex_model.specs.Valid.{valid, all_have};
-ghost use Rattle.vortex_values.specs.View.{raw_in, raws_in, raws_from};
-ghost use Rattle.vortex_scalars.specs.Native.{IsMadeAs, raw_or_null};
+ghost use Rattle.vortex_model.specs.Valid.{valid, all_have, are_bytes};
+ghost use Rattle.vortex_values.specs.View.{raw_of, raw_in, raws_in, raws_from};
+ghost use Rattle.vortex_casts.specs.Native.{raw_or_null};
 
-use crate::scalar::Scalar;
 use std::alloc::{AllocError, Global};
 use vortex_native_types::native_dtype::NativeDType;
-use vortex_types::ByteBuffer;
+use vortex_natives::native::NativePType;
+use vortex_types::{BufferString, ByteBuffer};
+use vortex_values::pvalue::PValue;
 use vortex_values::scalar_value::ScalarValue;
 
 /// A value of the machine that is one of its column's type.
@@ -26,8 +27,9 @@ pub trait NativeValue: NativeDType + Drop {
 impl NativeValue for bool {
     ghost raw = { raw_truth };
 
+    #[tactic(auto, using(vortex_values::proofs::Views::one_level))]
     fn into_scalar_value(self, _alloc: Global) -> Result<Option<ScalarValue>, AllocError> {
-        Ok(Scalar::from(self).into_value())
+        Ok(Some(ScalarValue::Bool(self)))
     }
 }
 
@@ -35,7 +37,7 @@ impl NativeValue for u8 {
     ghost raw = { λ n. raw_number u8 (pos n) };
 
     fn into_scalar_value(self, _alloc: Global) -> Result<Option<ScalarValue>, AllocError> {
-        Ok(Scalar::from(self).into_value())
+        Ok(Some(number_value(self)))
     }
 }
 
@@ -43,7 +45,7 @@ impl NativeValue for u16 {
     ghost raw = { λ n. raw_number u16 (pos n) };
 
     fn into_scalar_value(self, _alloc: Global) -> Result<Option<ScalarValue>, AllocError> {
-        Ok(Scalar::from(self).into_value())
+        Ok(Some(number_value(self)))
     }
 }
 
@@ -51,7 +53,7 @@ impl NativeValue for u32 {
     ghost raw = { λ n. raw_number u32 (pos n) };
 
     fn into_scalar_value(self, _alloc: Global) -> Result<Option<ScalarValue>, AllocError> {
-        Ok(Scalar::from(self).into_value())
+        Ok(Some(number_value(self)))
     }
 }
 
@@ -59,7 +61,7 @@ impl NativeValue for u64 {
     ghost raw = { λ n. raw_number u64 (pos n) };
 
     fn into_scalar_value(self, _alloc: Global) -> Result<Option<ScalarValue>, AllocError> {
-        Ok(Scalar::from(self).into_value())
+        Ok(Some(number_value(self)))
     }
 }
 
@@ -67,7 +69,7 @@ impl NativeValue for i8 {
     ghost raw = { raw_number i8 };
 
     fn into_scalar_value(self, _alloc: Global) -> Result<Option<ScalarValue>, AllocError> {
-        Ok(Scalar::from(self).into_value())
+        Ok(Some(number_value(self)))
     }
 }
 
@@ -75,7 +77,7 @@ impl NativeValue for i16 {
     ghost raw = { raw_number i16 };
 
     fn into_scalar_value(self, _alloc: Global) -> Result<Option<ScalarValue>, AllocError> {
-        Ok(Scalar::from(self).into_value())
+        Ok(Some(number_value(self)))
     }
 }
 
@@ -83,7 +85,7 @@ impl NativeValue for i32 {
     ghost raw = { raw_number i32 };
 
     fn into_scalar_value(self, _alloc: Global) -> Result<Option<ScalarValue>, AllocError> {
-        Ok(Scalar::from(self).into_value())
+        Ok(Some(number_value(self)))
     }
 }
 
@@ -91,7 +93,7 @@ impl NativeValue for i64 {
     ghost raw = { raw_number i64 };
 
     fn into_scalar_value(self, _alloc: Global) -> Result<Option<ScalarValue>, AllocError> {
-        Ok(Scalar::from(self).into_value())
+        Ok(Some(number_value(self)))
     }
 }
 
@@ -99,8 +101,8 @@ impl NativeValue for String {
     ghost raw = { λ s. raw_text (string_bytes s) };
 
     fn into_scalar_value(self, _alloc: Global) -> Result<Option<ScalarValue>, AllocError> {
-        let made = Scalar::try_from(self)?;
-        Ok(made.into_value())
+        let text = BufferString::from_string(self)?;
+        Ok(Some(text_value(text)))
     }
 }
 
@@ -108,7 +110,7 @@ impl NativeValue for ByteBuffer {
     ghost raw = { raw_blob };
 
     fn into_scalar_value(self, _alloc: Global) -> Result<Option<ScalarValue>, AllocError> {
-        Ok(Scalar::from(self).into_value())
+        Ok(Some(bytes_value(self)))
     }
 }
 
@@ -155,28 +157,38 @@ fn make_items<T: NativeValue>(
     Ok(items)
 }
 
-/// A list of any length without null, of elements of the values' type.
-impl<T: NativeValue> TryFrom<(Global, Vec<T>)> for Scalar {
-    type Error = AllocError;
-
-    ghost try_from_gives = { λ p result. IfOk result (λ made. IsMadeAs (list T.values non_nullable) (raw_tuple (raws_from (map T.raw p.1.items))) made) };
-
-    fn try_from((alloc, values): (Global, Vec<T>)) -> Result<Scalar, AllocError> {
-        let dtype = Vec::<T>::dtype(alloc)?;
-        let value = values.into_scalar_value(alloc)?;
-        Ok(Scalar::new_unchecked(dtype, value))
-    }
+// A number, which its kind has.
+#[tactic(auto, using(vortex_values::proofs::Views::one_level))]
+fn number_value<T: NativePType>(number: T) -> ScalarValue
+    ensures value { raw_of result ≡ raw_number T.kind (T.integer number) }
+    ensures valid { valid (integer T.kind non_nullable) (raw_of result) ≡ true }
+{
+    let value = PValue::of_native(number);
+    // Tells the proof that the number is in the range of its kind.
+    let _ = value.get();
+    ScalarValue::Primitive(value)
 }
 
-/// A list of any length or null, of elements of the values' type.
-impl<T: NativeValue> TryFrom<(Global, Option<Vec<T>>)> for Scalar {
-    type Error = AllocError;
-
-    ghost try_from_gives = { λ p result. IfOk result (λ made. IsMadeAs (list T.values nullable) (raw_or_null (λ v. raw_tuple (raws_from (map T.raw v.items))) p.1) made) };
-
-    fn try_from((alloc, values): (Global, Option<Vec<T>>)) -> Result<Scalar, AllocError> {
-        let dtype = Option::<Vec<T>>::dtype(alloc)?;
-        let value = values.into_scalar_value(alloc)?;
-        Ok(Scalar::new_unchecked(dtype, value))
-    }
+#[tactic(auto, using(vortex_values::proofs::Views::one_level))]
+fn text_value(text: BufferString) -> ScalarValue
+    ensures value { raw_of result ≡ raw_text text }
+    ensures valid { valid (utf8 non_nullable) (raw_of result) ≡ true }
+{
+    // Tells the proof that the text is UTF-8.
+    let _ = text.as_bytes();
+    ScalarValue::Utf8(text)
 }
+
+#[tactic(auto, using(vortex_values::proofs::Views::one_level))]
+fn bytes_value(bytes: ByteBuffer) -> ScalarValue
+    ensures value { raw_of result ≡ raw_blob bytes }
+    ensures valid { valid (binary non_nullable) (raw_of result) ≡ true }
+{
+    tell_bytes(bytes.as_slice());
+    ScalarValue::Binary(bytes)
+}
+
+// Tells the proof that they are bytes.
+fn tell_bytes(bytes: &[u8])
+    ensures { are_bytes bytes.now ≡ true }
+{}

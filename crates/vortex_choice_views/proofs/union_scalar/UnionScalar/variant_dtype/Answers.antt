@@ -1,8 +1,8 @@
 use Rattle.std.proofs.Common.{◌∙◌, rules}
 use Rattle.vortex_types.specs.View.{kind_of, variants_in}
 use Rattle.vortex_values.specs.View.{raw_at}
-use Rattle.vortex_nested_views.proofs.Choices.{chosen_some, chosen_none}
-use Rattle.vortex_nested_views.proofs.union_scalar.UnionScalar.variant_dtype.Goals as goal
+use Rattle.vortex_choice_views.proofs.Choices.{chosen_some, chosen_none}
+use Rattle.vortex_choice_views.proofs.union_scalar.UnionScalar.variant_dtype.Goals as goal
 
 pub returns-in_err-index : goal.returns-in_err-index
 returns-in_err-index c =

@@ -10,8 +10,8 @@ use Rattle.vortex_values.specs.Parts.{as_tagged}
 use Rattle.vortex_values.specs.View.{raw_of_union}
 use Rattle.vortex_values.specs.declared.union_value.UnionValue.{UnionValue}
 use Rattle.vortex_values.proofs.Views as values
-use Rattle.vortex_nested_views.specs.Held.{raw_of_choice}
-use Rattle.vortex_nested_views.specs.Places.{place_of_choice, child_of}
+use Rattle.vortex_choice_views.specs.Held.{raw_of_choice}
+use Rattle.vortex_choice_views.specs.Choices.{place_of_choice, child_of}
 
 pub choice_held : (k : Kind) (r : Raw) (o : Option (Bor UnionValue)) → is_union_kind k ≡ true → valid k r ≡ true → option_map (λ u. raw_of_union u.now) o ≡ as_tagged r → raw_of_choice o ≡ r
 choice_held k raw_null None h v e = refl

@@ -6,16 +6,16 @@ ghost use Rattle.vortex_types.specs.Parts.{is_variant_kind};
 ghost use Rattle.vortex_types.specs.View.{kind_of};
 ghost use Rattle.vortex_values.specs.View.{raw_at};
 ghost use Rattle.vortex_defaults.specs.Zero.{zero_test};
-ghost use Rattle.vortex_nested_views.specs.Held.{raw_of_whichever};
-ghost use Rattle.vortex_nested_views.specs.Places.{inner_of};
+ghost use Rattle.vortex_choice_views.specs.Choices.{inner_of};
+ghost use Rattle.vortex_choice_views.specs.Held.{raw_of_whichever};
 
-use crate::copies::scalar_of;
 use std::alloc::AllocError;
 use vortex_defaults::is_zero::is_zero_value;
 use vortex_scalars::scalar::Scalar;
 use vortex_types::dtype::DType;
 use vortex_values::scalar_value::ScalarValue;
 use vortex_values::variant_value::VariantValue;
+use vortex_views::copies::scalar_of;
 
 /// A variant's value or null with its type, as Vortex's `VariantScalar`.
 #[derive(Drop)]
@@ -28,10 +28,10 @@ pub struct VariantScalar<'a> {
 
 impl<'a> VariantScalar<'a> {
     ghost use Rattle.vortex_views.specs.Views.{typed_scalar};
-    ghost use Rattle.vortex_nested_views.specs.Nested.{typed_variant};
+    ghost use Rattle.vortex_choice_views.specs.Views.{typed_variant};
 
     /// The value as one of the type, which is of variants and has it.
-    pub(crate) fn new(dtype: &'a DType, value: Option<&'a ScalarValue>) -> VariantScalar<'a>
+    pub fn new(dtype: &'a DType, value: Option<&'a ScalarValue>) -> VariantScalar<'a>
         requires kind { IsTrue (is_variant_kind (kind_of dtype.now)) }
         requires valid { IsTrue (valid (kind_of dtype.now) (raw_at value)) }
         ensures { typed_variant result ≡ (kind_of dtype.now, raw_at value.entry) }

@@ -1,8 +1,8 @@
 use Rattle.std.proofs.Common.{◌≡◌, ◌∷◌}
 use Rattle.std.specs.Vec.Iter.{into_iter_items}
 use Rattle.vortex_casts.proofs.Casts.{all_have-more}
-use Rattle.vortex_scalars.proofs.Natives.{moved_over}
-use Rattle.vortex_scalars.proofs.native_value.make_items.Goals as goal
+use Rattle.vortex_casts.proofs.NativeValues.{moved_over}
+use Rattle.vortex_casts.proofs.native_value.make_items.Goals as goal
 
 pub loop-value-preserved : goal.loop-value-preserved
 loop-value-preserved g c =

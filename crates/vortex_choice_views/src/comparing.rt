@@ -1,0 +1,63 @@
+//! Views of unions' and variants' values are equal where their types are, nullability aside, and their values are the same. Views that are
+//! equal feed hashers equally.
+ghost use Rattle.std.specs.Cmp.{on_equiv, partial_equiv_from_equiv};
+ghost use Rattle.std.specs.Hash.{on_Alike};
+ghost use Rattle.std.specs.Ordering.{on};
+ghost use Rattle.vortex_views.specs.Compared.{same_views, typed_writes, same_views_equiv, same_views_alike};
+ghost use Rattle.vortex_choice_views.specs.Views.{typed_union, typed_variant};
+
+use crate::union_scalar::UnionScalar;
+use crate::variant_scalar::VariantScalar;
+use std::hash::{Hash, Hasher};
+use vortex_order::feed::feed_value;
+use vortex_order::same::same_values;
+
+impl PartialEq for UnionScalar<'_> {
+    ghost eq = { on typed_union same_views };
+
+    ghost laws = { partial_equiv_from_equiv (on_equiv typed_union same_views_equiv) };
+
+    fn eq(&self, other: &UnionScalar<'_>) -> bool {
+        self.dtype().eq_ignore_nullability(other.dtype())
+            && same_values(self.value(), other.value())
+    }
+}
+
+impl Eq for UnionScalar<'_> {
+    ghost laws = { on_equiv typed_union same_views_equiv };
+}
+
+impl Hash for UnionScalar<'_> {
+    ghost hash_input = { λ view. typed_writes (typed_union view) };
+
+    ghost respects_eq = { (on_Alike typed_union same_views_alike).fed };
+
+    fn hash<H: Hasher>(&self, state: &mut H) {
+        feed_value(self.value(), state);
+    }
+}
+
+impl PartialEq for VariantScalar<'_> {
+    ghost eq = { on typed_variant same_views };
+
+    ghost laws = { partial_equiv_from_equiv (on_equiv typed_variant same_views_equiv) };
+
+    fn eq(&self, other: &VariantScalar<'_>) -> bool {
+        self.dtype().eq_ignore_nullability(other.dtype())
+            && same_values(self.stored(), other.stored())
+    }
+}
+
+impl Eq for VariantScalar<'_> {
+    ghost laws = { on_equiv typed_variant same_views_equiv };
+}
+
+impl Hash for VariantScalar<'_> {
+    ghost hash_input = { λ view. typed_writes (typed_variant view) };
+
+    ghost respects_eq = { (on_Alike typed_variant same_views_alike).fed };
+
+    fn hash<H: Hasher>(&self, state: &mut H) {
+        feed_value(self.stored(), state);
+    }
+}
