@@ -1,0 +1,9 @@
+pub mod Canonical
+pub mod Column
+pub mod Laws
+pub mod Layout
+pub mod LayoutCode
+pub mod Parts
+pub mod Picks
+pub mod Referenced
+pub mod Trimmed

@@ -1,0 +1,6 @@
+pub mod Bytes
+pub mod Padding
+pub mod Digits
+pub mod Ordered
+pub mod Made
+mod Examples

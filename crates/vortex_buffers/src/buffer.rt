@@ -1,0 +1,111 @@
+//! A shared list, cut with no copy.
+ghost use Rattle.std.specs.Prelude.{◌≡◌, ◌<◌, ◌≤◌, ◌↔◌, [], Some, length, slice_get, slice_range, IsTrue, IfOk};
+
+use std::alloc::{AllocError, Global};
+use std::marker::Model;
+use std::ops::Range;
+use std::rc::Rc;
+
+/// Part of a shared list, as Vortex's `Buffer`. A clone and a part share the items.
+#[derive(Drop)]
+pub struct Buffer<T> {
+    items: Rc<Vec<T>>,
+    start: usize,
+    len: usize,
+}
+
+impl<T> Model for Buffer<T> {
+    ghost use Rattle.std.specs.Prelude.{List, ◌+◌, ◌≤◌, length, take, drop};
+
+    ghost Value = { List T };
+
+    ghost view = { λ b. take b.len (drop b.start b.items.value.items) };
+
+    ghost invariant = { λ b. b.start + b.len ≤ length b.items.value.items };
+}
+
+impl<T: Drop> Buffer<T> {
+    /// The items of the vector, which are not copied.
+    pub fn from_vec(items: Vec<T>) -> Result<Buffer<T>, AllocError>
+        ensures { IfOk result (λ b. b ≡ items.items) }
+    {
+        let len = items.len();
+        let items = Rc::new(*items.allocator(), items)?;
+        Ok(Buffer {
+            items,
+            start: 0,
+            len,
+        })
+    }
+
+    /// No items.
+    pub fn empty(alloc: Global) -> Result<Buffer<T>, AllocError>
+        ensures { IfOk result (λ b. b ≡ []) }
+    {
+        Buffer::from_vec(Vec::new(alloc))
+    }
+
+    /// The allocator that the items were taken from.
+    pub fn allocator(&self) -> Global {
+        *self.items.allocator()
+    }
+
+    /// How many items there are.
+    pub fn len(&self) -> usize
+        ensures { result ≡ length self.now }
+    {
+        self.len
+    }
+
+    /// Whether there is no item.
+    pub fn is_empty(&self) -> bool
+        ensures { IsTrue result ↔ (self.now ≡ []) }
+    {
+        self.len == 0
+    }
+
+    /// The items.
+    pub fn as_slice(&self) -> &[T]
+        ensures { result.now ≡ self.now }
+    {
+        &self.items.as_slice()[self.start..self.start + self.len]
+    }
+
+    /// The items at the places of the range. They are shared and not copied.
+    #[tactic(auto, using(crate::proofs::Windows::part_of_part))]
+    pub fn slice(&self, range: Range<usize>) -> Result<Buffer<T>, AllocError>
+        requires order { range.start ≤ range.end }
+        requires within { range.end ≤ length self.now }
+        ensures { IfOk result (λ b. b ≡ slice_range self.now range.start range.end) }
+    {
+        let items = self.items.clone()?;
+        Ok(Buffer {
+            items,
+            start: self.start + range.start,
+            len: range.end - range.start,
+        })
+    }
+}
+
+impl<T: Copy + Drop> Buffer<T> {
+    /// The item at a place.
+    pub fn get(&self, i: usize) -> T
+        requires { i < length self.now }
+        ensures { slice_get self.now i ≡ Some result }
+    {
+        self.as_slice()[i]
+    }
+}
+
+impl<T: Drop> Clone for Buffer<T> {
+    ghost is_clone = { λ old new. new ≡ old };
+
+    fn clone(&self) -> Result<Buffer<T>, AllocError> {
+        let items = self.items.clone()?;
+        Ok(Buffer {
+            items,
+            start: self.start,
+            len: self.len,
+        })
+    }
+}

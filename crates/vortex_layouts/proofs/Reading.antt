@@ -1,0 +1,53 @@
+-- What is read at a position.
+use Rattle.std.proofs.Common.{◌≡◌, ◌↔◌, ◌&&◌, ℕ, ℤ, true, false, not, Bool, cond, Option, Some, None, IsTrue, List, refl}
+use Rattle.vortex_model.specs.Kind.{Nullability, non_nullable, nullable, Kind, null_only, boolean, integer, float, decimal, utf8, binary, list, fixed_list, mapping, struct, union, variant, extension, with_nullability, nullability_of, is_nullable}
+use Rattle.vortex_model.specs.Content.{Content, null, truth, whole, text, blob, tuple, tagged, scalar, is_null, content_of, Raw, raw_null, raw_truth, raw_number, raw_text, raw_blob, raw_tuple, raw_tagged, raw_scalar}
+use Rattle.vortex_model.specs.Valid.{IsValid}
+use Rattle.vortex_types.specs.Parts.{is_integer_kind, is_boolean_kind}
+use Rattle.vortex_values.specs.Parts.{whole_in}
+use Rattle.vortex_array_model.specs.Layout.{Strings, texts, blobs, kind_of_strings, IsInteger, IsOffsets, string_content, is_truth}
+use Rattle.vortex_layouts.specs.LayoutOf.{integer_content}
+
+pub integer_kind : (k : Kind) → IsTrue (is_integer_kind k) ↔ IsInteger k
+integer_kind (integer i n) = (λ e. tt, λ h. refl)
+integer_kind k = (λ e. absurd (cc (e)), λ h. absurd h)
+
+pub values_are_integers : (n : Nullability) (k : Kind) → IsInteger (with_nullability n k) → IsInteger k
+values_are_integers n (integer i m) h = tt
+values_are_integers n k h = absurd h
+
+pub strings_are_no_integers : (s : Strings) (n : Nullability) → IsInteger (kind_of_strings s n) → ⊥
+strings_are_no_integers texts n h = h
+strings_are_no_integers blobs n h = h
+
+pub constant_integer : (k : Kind) (r : Raw) → IsInteger k → IsValid k r → content_of r ≡ integer_content (whole_in r)
+constant_integer (integer i n) raw_null h v = refl
+constant_integer (integer i n) (raw_number j z) h v = refl
+constant_integer (integer i n) r h v = absurd v
+constant_integer k r h v = absurd h
+
+pub ruleset integers = (integer_kind, values_are_integers, strings_are_no_integers, constant_integer)
+
+pub no_truth : (b : Bool) (s : Strings) (bs : List ℕ) → is_truth (cond b (string_content s bs) null) ≡ false
+no_truth true texts bs = refl
+no_truth true blobs bs = refl
+no_truth false s bs = refl
+
+pub string_there : (b : Bool) (s : Strings) (bs : List ℕ) → is_null (cond b (string_content s bs) null) ≡ not b
+string_there true texts bs = refl
+string_there true blobs bs = refl
+string_there false s bs = refl
+
+pub offsets_are_integers : (k : Kind) → IsOffsets k → IsInteger k
+offsets_are_integers (integer i non_nullable) h = tt
+offsets_are_integers (integer i nullable) h = absurd h
+offsets_are_integers k h = absurd h
+
+pub ruleset truths = (no_truth)
+
+pub ruleset nulls = (string_there)
+
+pub truths_without_null : (k : Kind) → ((is_boolean_kind k && not (is_nullable (nullability_of k))) ≡ true) ↔ (k ≡ boolean non_nullable)
+truths_without_null (boolean non_nullable) = (λ e. refl, λ e. refl)
+truths_without_null (boolean nullable) = (λ e. absurd (cc (e)), λ e. absurd (cc (e)))
+truths_without_null k = (λ e. absurd (cc (e)), λ e. absurd (cc (e)))

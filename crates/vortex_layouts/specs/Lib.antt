@@ -1,0 +1,3 @@
+pub mod LayoutOf
+pub mod LayoutFalls
+pub mod Errors

@@ -1,0 +1,5 @@
+//! Shared lists of integers of one of eight kinds.
+#![tactic(auto)]
+
+pub mod element;
+pub mod numbers;
