@@ -45,11 +45,6 @@ impl<T: Drop> Buffer<T> {
         Buffer::from_vec(Vec::new(alloc))
     }
 
-    /// The allocator that the items were taken from.
-    pub fn allocator(&self) -> Global {
-        *self.items.allocator()
-    }
-
     /// How many items there are.
     pub fn len(&self) -> usize
         ensures { result ≡ length self.now }
