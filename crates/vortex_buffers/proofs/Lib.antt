@@ -1,3 +1,4 @@
 pub mod BitLemmas
 pub mod Built
+pub mod Positions
 pub mod Windows

@@ -1,6 +1,7 @@
 //! A shared list of bits, cut with no copy.
-ghost use Rattle.std.specs.Prelude.{◌≡◌, ◌<◌, ◌≤◌, ◌↔◌, ◌*◌, ◌/◌, [], true, false, length, replicate, slice_index_or, slice_range, IsTrue, IfOk, All};
-ghost use Rattle.vortex_buffers.specs.Bits.{bits_of, bits_at};
+ghost use Rattle.std.specs.Prelude.{◌≡◌, ◌<◌, ◌≤◌, ◌↔◌, ◌*◌, ◌/◌, ◌&&◌, ◌||◌, ℕ, [], true, false, not, length, map, count_by, replicate, slice_index_or, slice_range, IsTrue, IfOk, All};
+ghost use Rattle.std.specs.List.{zip};
+ghost use Rattle.vortex_buffers.specs.Bits.{bits_of, bits_at, positions_of};
 
 use crate::bit::{bit, set_bit};
 use crate::buffer::Buffer;
@@ -59,6 +60,26 @@ impl BitBuffer {
         BitBuffer::of_bytes(bytes, len)
     }
 
+    /// So many bits, at each place what `f` says of it, as Vortex's `BitBuffer::collect_bool`.
+    #[tactic(auto, using(crate::proofs::Built::collected))]
+    pub fn collect_bool<F: Fn(usize) -> bool>(
+        alloc: Global,
+        len: usize,
+        f: F,
+    ) -> Result<BitBuffer, AllocError>
+        requires { (i : ℕ) → i < len → F.pre f i }
+        ensures count { IfOk result (λ b. length b ≡ len) }
+        ensures bits { IfOk result (λ b. (i : ℕ) → i < len → F.post f i (slice_index_or b i false)) }
+    {
+        let mut bytes = vec![in alloc; 0; len.div_ceil(8)]?;
+        for i in 0..len {
+            if f(i) {
+                set_bit(&mut bytes, i);
+            }
+        }
+        BitBuffer::of_bytes(bytes, len)
+    }
+
     /// These bits.
     #[tactic(auto, using(crate::proofs::Built::fronts))]
     pub fn from_bools(alloc: Global, bits: &[bool]) -> Result<BitBuffer, AllocError>
@@ -113,6 +134,65 @@ impl BitBuffer {
         ensures { result ≡ slice_index_or self.now i false }
     {
         bit(self.bytes.as_slice(), self.start + i)
+    }
+
+    /// How many bits are true.
+    #[tactic(auto, using(crate::proofs::Positions::counted))]
+    pub fn true_count(&self) -> usize
+        ensures { result ≡ count_by (λ b. b) self.now }
+    {
+        let mut count = 0;
+        for i in 0..self.len() {
+            if self.value(i) {
+                count += 1;
+            }
+        }
+        count
+    }
+
+    /// The places of the true bits, ascending, as Vortex's `BitBuffer::set_indices`.
+    #[tactic(auto, using(crate::proofs::Positions::placed))]
+    pub fn set_indices(&self, alloc: Global) -> Result<Vec<usize>, AllocError>
+        ensures { IfOk result (λ places. places.items ≡ positions_of self.now) }
+    {
+        let mut places = Vec::with_capacity(alloc, self.true_count())?;
+        for i in 0..self.len() {
+            if self.value(i) {
+                places.push(i)?;
+            }
+        }
+        Ok(places)
+    }
+
+    /// The contrary of each bit.
+    pub fn not(&self, alloc: Global) -> Result<BitBuffer, AllocError>
+        ensures { IfOk result (λ b. b ≡ map not self.now) }
+    {
+        BitBuffer::collect_bool(alloc, self.len(), |i| !self.value(i))
+    }
+
+    /// The bits at the places, in the order of the places.
+    pub fn gather(&self, alloc: Global, places: &[usize]) -> Result<BitBuffer, AllocError>
+        requires { All (λ i. i < length self.now) places.now }
+        ensures { IfOk result (λ b. b ≡ map (λ i. slice_index_or self.now i false) places.now) }
+    {
+        BitBuffer::collect_bool(alloc, places.len(), |i| self.value(places[i]))
+    }
+
+    /// At each place, whether both have a true bit.
+    pub fn and(&self, alloc: Global, other: &BitBuffer) -> Result<BitBuffer, AllocError>
+        requires { length self.now ≡ length other.now }
+        ensures { IfOk result (λ b. b ≡ map (λ p. p.0 && p.1) (zip self.now other.now)) }
+    {
+        BitBuffer::collect_bool(alloc, self.len(), |i| self.value(i) && other.value(i))
+    }
+
+    /// At each place, whether one of both has a true bit.
+    pub fn or(&self, alloc: Global, other: &BitBuffer) -> Result<BitBuffer, AllocError>
+        requires { length self.now ≡ length other.now }
+        ensures { IfOk result (λ b. b ≡ map (λ p. p.0 || p.1) (zip self.now other.now)) }
+    {
+        BitBuffer::collect_bool(alloc, self.len(), |i| self.value(i) || other.value(i))
     }
 
     /// The bits at the places of the range. They are shared and not copied.

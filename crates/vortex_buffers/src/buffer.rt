@@ -1,5 +1,5 @@
 //! A shared list, cut with no copy.
-ghost use Rattle.std.specs.Prelude.{◌≡◌, ◌<◌, ◌≤◌, ◌↔◌, [], Some, length, slice_get, slice_range, IsTrue, IfOk};
+ghost use Rattle.std.specs.Prelude.{◌≡◌, ◌<◌, ◌≤◌, ◌↔◌, [], Some, length, map, slice_get, slice_range, IsTrue, IfOk, All};
 
 use std::alloc::{AllocError, Global};
 use std::marker::Model;
@@ -89,6 +89,18 @@ impl<T: Copy + Drop> Buffer<T> {
         ensures { slice_get self.now i ≡ Some result }
     {
         self.as_slice()[i]
+    }
+
+    /// The items at the places, in the order of the places.
+    pub fn gather(&self, alloc: Global, places: &[usize]) -> Result<Buffer<T>, AllocError>
+        requires { All (λ i. i < length self.now) places.now }
+        ensures { IfOk result (λ b. map Some b ≡ map (slice_get self.now) places.now) }
+    {
+        let mut items = Vec::with_capacity(alloc, places.len())?;
+        for i in 0..places.len() {
+            items.push(self.get(places[i]))?;
+        }
+        Buffer::from_vec(items)
     }
 }
 

@@ -4,3 +4,4 @@
 mod bit;
 pub mod bit_buffer;
 pub mod buffer;
+pub mod mask;

@@ -1,7 +1,7 @@
 -- The type that an array's parts give.
-use Rattle.std.proofs.Common.{◌≡◌, true, ℕ, suc, List, [], ◌∷◌, length, map, refl, sym, ap, ◌∙◌, arith}
+use Rattle.std.proofs.Common.{◌≡◌, true, ℕ, List, [], ◌∷◌, length, map, refl, ap, ◌∙◌, arith}
 use Rattle.std.specs.List.{zip}
-use Rattle.vortex_model.specs.Kind.{Kind, Nullability, non_nullable, nullable, either_nullable, with_nullability, nullability_of, stored, Fields, field}
+use Rattle.vortex_model.specs.Kind.{Kind, Nullability, non_nullable, nullable, either_nullable, nullability_of, stored, Fields, field}
 use Rattle.vortex_model.specs.Content.{Raw}
 use Rattle.vortex_model.specs.Valid.{valid, IsValid}
 use Rattle.vortex_model.proofs.Tests.{has_so}

@@ -1,7 +1,7 @@
 -- What is read at a position.
-use Rattle.std.proofs.Common.{◌≡◌, ◌↔◌, ◌&&◌, ℕ, ℤ, true, false, not, Bool, cond, Option, Some, None, IsTrue, List, refl}
-use Rattle.vortex_model.specs.Kind.{Nullability, non_nullable, nullable, Kind, null_only, boolean, integer, float, decimal, utf8, binary, list, fixed_list, mapping, struct, union, variant, extension, with_nullability, nullability_of, is_nullable}
-use Rattle.vortex_model.specs.Content.{Content, null, truth, whole, text, blob, tuple, tagged, scalar, is_null, content_of, Raw, raw_null, raw_truth, raw_number, raw_text, raw_blob, raw_tuple, raw_tagged, raw_scalar}
+use Rattle.std.proofs.Common.{◌≡◌, ◌↔◌, ◌&&◌, ℕ, true, false, not, Bool, cond, IsTrue, List, refl}
+use Rattle.vortex_model.specs.Kind.{Nullability, non_nullable, nullable, Kind, boolean, integer, with_nullability, nullability_of, is_nullable}
+use Rattle.vortex_model.specs.Content.{null, is_null, content_of, Raw, raw_null, raw_number}
 use Rattle.vortex_model.specs.Valid.{IsValid}
 use Rattle.vortex_types.specs.Parts.{is_integer_kind, is_boolean_kind}
 use Rattle.vortex_values.specs.Parts.{whole_in}

@@ -1,3 +1,6 @@
+pub mod Faults
+pub mod Filter
 pub mod LayoutOf
 pub mod LayoutFalls
-pub mod Errors
+pub mod RawRows
+pub mod Picking

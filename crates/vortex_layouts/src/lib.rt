@@ -2,7 +2,13 @@
 #![tactic(auto)]
 
 pub mod array;
-pub mod error;
+pub mod check;
+pub mod filter;
+mod gather;
 pub mod make;
+pub mod meet;
 pub mod read;
+pub mod scalar;
+pub mod slice;
+pub mod take;
 pub mod validity;

@@ -4,6 +4,7 @@ use crate::checks::Checks;
 use bytes::Bytes;
 use std::alloc::Global;
 use std::rc::Rc;
+use vortex_array_errors::error::ArrayError;
 use vortex_binary_views::view::BinaryView;
 use vortex_buffers::bit_buffer::BitBuffer;
 use vortex_buffers::buffer::Buffer;
@@ -11,7 +12,6 @@ use vortex_dtype::{
     DType, DTypeError, FieldName, FieldNames, Nullability, PType, StructField, StructFields,
 };
 use vortex_layouts::array::{ArrayLayout, ArrayRef, StringKind, Validity};
-use vortex_layouts::error::ArrayError;
 use vortex_numbers::element::Element;
 use vortex_numbers::numbers::Numbers;
 use vortex_scalar::{Scalar, ScalarMakers};
@@ -31,7 +31,11 @@ pub fn run(alloc: Global, checks: &mut Checks<'_>) -> Result<(), DTypeError> {
 }
 
 /// An array of these numbers.
-fn numbers<T: Element>(alloc: Global, items: &[T], validity: Validity) -> Result<ArrayRef, DTypeError> {
+pub fn numbers<T: Element>(
+    alloc: Global,
+    items: &[T],
+    validity: Validity,
+) -> Result<ArrayRef, DTypeError> {
     let mut list = Vec::new(alloc);
     for item in items {
         list.push(*item)?;
@@ -41,9 +45,26 @@ fn numbers<T: Element>(alloc: Global, items: &[T], validity: Validity) -> Result
     Ok(array)
 }
 
-fn bools(alloc: Global, bits: &[bool]) -> Result<ArrayRef, DTypeError> {
+/// An array of these truth values.
+pub fn bools(alloc: Global, bits: &[bool]) -> Result<ArrayRef, DTypeError> {
     let bits = BitBuffer::from_bools(alloc, bits)?;
     let array = ArrayRef::of_bools(alloc, bits, Validity::NonNullable)?;
+    Ok(array)
+}
+
+/// An array of these texts, of which long ones lie in a buffer of their own each.
+pub fn strings_of(
+    alloc: Global,
+    texts: &[&[u8]],
+    validity: Validity,
+) -> Result<ArrayRef, DTypeError> {
+    let (mut views, mut buffers) = (Vec::new(alloc), Vec::new(alloc));
+    for text in texts {
+        views.push(BinaryView::make_view(text, buffers.len() as u32, 0))?;
+        buffers.push(Bytes::copy_from_slice(alloc, text)?)?;
+    }
+    let (views, buffers) = (Buffer::from_vec(views)?, Rc::new(alloc, buffers)?);
+    let array = ArrayRef::of_strings(alloc, StringKind::Utf8, views, buffers, validity)?;
     Ok(array)
 }
 

@@ -1,9 +1,10 @@
-//! Calls views of sixteen bytes, buffers, numbers, and the makers of arrays.
+//! Calls views of sixteen bytes, buffers, numbers, masks, the makers of arrays, and what reads, slices, takes and filters their rows.
 #![tactic(auto)]
 
 mod arrays;
 mod buffers;
 mod checks;
+mod rows;
 mod views;
 
 use crate::checks::Checks;
@@ -18,6 +19,8 @@ fn run(alloc: Global, checks: &mut Checks<'_>) -> Result<(), DTypeError> {
     checks.end_part("buffers are lists");
     arrays::run(alloc, checks)?;
     checks.end_part("arrays are made of their parts");
+    rows::run(alloc, checks)?;
+    checks.end_part("arrays have their rows");
     Ok(())
 }
 

@@ -1,7 +1,7 @@
 -- The number and the name of each refusal.
 use Rattle.std.specs.Prelude.{ℕ, List, codes}
-use Rattle.vortex_layouts.specs.declared.error.ArrayError.{ArrayError}
-use Rattle.vortex_layouts.specs.declared.error.ArrayError.TheVariants as error
+use Rattle.vortex_array_errors.specs.declared.error.ArrayError.{ArrayError}
+use Rattle.vortex_array_errors.specs.declared.error.ArrayError.TheVariants as error
 
 abbrev pub number_of_error : ArrayError → ℕ
 number_of_error error.Memory = 1

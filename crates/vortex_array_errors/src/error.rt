@@ -1,7 +1,7 @@
 //! Why an array is refused.
 ghost use Rattle.std.specs.Prelude.{◌≡◌};
-ghost use Rattle.vortex_layouts.specs.declared.error.ArrayError.TheVariants.{Memory};
-ghost use Rattle.vortex_layouts.specs.Errors.{number_of_error, name_of_error};
+ghost use Rattle.vortex_array_errors.specs.declared.error.ArrayError.TheVariants.{Memory};
+ghost use Rattle.vortex_array_errors.specs.Errors.{number_of_error, name_of_error};
 
 use std::alloc::{AllocError, AllocFailed};
 use thiserror::Error;

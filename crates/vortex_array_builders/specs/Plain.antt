@@ -1,0 +1,54 @@
+-- An array that is laid out plain from values.
+use Rattle.std.specs.Prelude.{◌≡◌, ◌<◌, ℕ, zero, suc, ℤ, pos, List, [], length, Bool, true, false, not, slice_index_or}
+use Rattle.vortex_model.specs.Kind.{Kind, Nullability, non_nullable, nullable}
+use Rattle.vortex_model.specs.Content.{content_of, is_null, Raw, raw_null, raw_truth, raw_number, raw_text, raw_blob, raw_tuple, Raws, no_raws, raw_first}
+use Rattle.vortex_model.specs.Valid.{valid}
+use Rattle.vortex_array_model.specs.Layout.{Layout, Valid, len_of, kind_of, content_at, is_valid, nullability_by, IsSound, HasLength}
+
+-- the raw value is null or one of the type
+abbrev pub is_held : Kind → Raw → Bool
+is_held k raw_null = true
+is_held k r = valid k r
+
+-- What stands where the value is of another form is no row's content.
+abbrev pub truth_or_false : Raw → Bool
+truth_or_false (raw_truth b) = b
+truth_or_false r = false
+
+abbrev pub whole_or_zero : Raw → ℤ
+whole_or_zero (raw_number j z) = z
+whole_or_zero r = pos 0
+
+abbrev pub bytes_or_none : Raw → List ℕ
+bytes_or_none (raw_text bs) = bs
+bytes_or_none (raw_blob bs) = bs
+bytes_or_none r = []
+
+-- the raw value at this place, and null past the end
+abbrev pub raw_nth : Raws → ℕ → Raw
+raw_nth no_raws i = raw_null
+raw_nth (raw_first r rs) zero = r
+raw_nth (raw_first r rs) (suc i) = raw_nth rs i
+
+-- what a record has in a field, and null for a null record
+abbrev pub raw_part : ℕ → Raw → Raw
+raw_part i (raw_tuple rs) = raw_nth rs i
+raw_part i r = raw_null
+
+-- whether a row is not null, in a column that null can stand in or not
+abbrev pub is_there : Nullability → Raw → Bool
+is_there non_nullable r = true
+is_there nullable r = not (is_null (content_of r))
+
+-- v has as many rows, null where the value is, if any can be
+pub record MarksNulls (n : Nullability) (rs : List Raw) (v : Valid) : Type 0 where
+  pub fits : HasLength v (length rs)
+  pub nullability : nullability_by v ≡ n
+  pub bits : (i : ℕ) → i < length rs → is_valid v i ≡ is_there n (slice_index_or rs i raw_null)
+
+-- a is of the type, with a row for each value: the value's content, where the type has the value
+pub record IsPlain (k : Kind) (rs : List Raw) (a : Layout) : Type 0 where
+  pub sound : IsSound a
+  pub len : len_of a ≡ length rs
+  pub kind : kind_of a ≡ k
+  pub content : (i : ℕ) → i < length rs → valid k (slice_index_or rs i raw_null) ≡ true → content_at a i ≡ content_of (slice_index_or rs i raw_null)

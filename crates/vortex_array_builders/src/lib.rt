@@ -1,0 +1,4 @@
+//! Arrays that are laid out plain from values.
+#![tactic(auto)]
+
+pub mod leaves;

@@ -1,0 +1,4 @@
+pub mod Constants
+pub mod Fields
+pub mod Pushes
+pub mod Steps

@@ -1,0 +1,3 @@
+pub mod ColumnFaults
+pub mod RawParts
+pub mod ZeroCodes

@@ -1,0 +1,3 @@
+pub mod FixedLists
+pub mod ListViews
+pub mod Parts
