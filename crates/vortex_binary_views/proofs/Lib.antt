@@ -4,3 +4,6 @@ pub mod Digits
 pub mod Ordered
 pub mod Made
 mod Examples
+pub mod Cut
+pub mod Placed
+pub mod Counted

@@ -1,3 +1,6 @@
 pub mod Views
 pub mod Made
 pub mod Laws
+pub mod Cuttings
+pub mod Lengths
+pub mod Built

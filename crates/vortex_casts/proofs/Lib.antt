@@ -7,3 +7,9 @@ pub mod Nullable
 pub mod Tags
 pub mod Validity
 pub mod Views
+pub mod Compared
+pub mod Fed
+pub mod Forms
+pub mod Items
+pub mod Ordered
+pub mod Sameness

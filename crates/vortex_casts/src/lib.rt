@@ -1,10 +1,14 @@
-//! Which values types have, their conversion between types, and the machine's values as such.
+//! Values without a type of their own: which a type has, their conversion, their order, equality and hash, and the machine's values as such.
 #![tactic(auto)]
 
 pub mod cast;
+pub mod compare;
+pub mod feed;
 mod kept;
+pub mod laws;
 mod leaves;
 mod lists;
 pub mod native_value;
+pub mod same;
 mod tagged;
 pub mod validate;

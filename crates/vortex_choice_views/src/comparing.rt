@@ -9,8 +9,8 @@ ghost use Rattle.vortex_choice_views.specs.Views.{typed_union, typed_variant};
 use crate::union_scalar::UnionScalar;
 use crate::variant_scalar::VariantScalar;
 use std::hash::{Hash, Hasher};
-use vortex_order::feed::feed_value;
-use vortex_order::same::same_values;
+use vortex_casts::feed::feed_value;
+use vortex_casts::same::same_values;
 
 impl PartialEq for UnionScalar<'_> {
     ghost eq = { on typed_union same_views };

@@ -5,12 +5,12 @@ ghost use Rattle.vortex_model.specs.Valid.{valid};
 ghost use Rattle.vortex_types.specs.Parts.{is_variant_kind};
 ghost use Rattle.vortex_types.specs.View.{kind_of};
 ghost use Rattle.vortex_values.specs.View.{raw_at};
-ghost use Rattle.vortex_defaults.specs.Zero.{zero_test};
+ghost use Rattle.vortex_scalar_conversions.specs.defaults.Zero.{zero_test};
 ghost use Rattle.vortex_choice_views.specs.Choices.{inner_of};
 ghost use Rattle.vortex_choice_views.specs.Held.{raw_of_whichever};
 
 use std::alloc::AllocError;
-use vortex_defaults::is_zero::is_zero_value;
+use vortex_scalar_conversions::defaults::is_zero::is_zero_value;
 use vortex_scalars::scalar::Scalar;
 use vortex_types::dtype::DType;
 use vortex_values::scalar_value::ScalarValue;

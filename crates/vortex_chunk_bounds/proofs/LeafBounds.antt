@@ -4,10 +4,10 @@ use Rattle.std.proofs.lemmas.List.{take_more}
 use Rattle.vortex_model.specs.Path.{Positions, same_positions}
 use Rattle.vortex_schema.proofs.Places.{positions_so, is_among}
 use Rattle.vortex_values.specs.declared.scalar_value.ScalarValue.{ScalarValue}
-use Rattle.vortex_zones.specs.Bounds.{IsBoundsOf}
+use Rattle.vortex_chunk_bounds.specs.zones.Bounds.{IsBoundsOf}
 use Rattle.vortex_chunk_bounds.specs.Bounds.{column_at, AreBoundsOf}
 use Rattle.vortex_chunk_bounds.specs.Given.{bounds_at}
-use Rattle.vortex_zones.specs.declared.bounds.ColumnBounds.{ColumnBounds}
+use Rattle.vortex_chunk_bounds.specs.declared.zones.bounds.ColumnBounds.{ColumnBounds}
 
 -- ---- the bounds of a leaf
 

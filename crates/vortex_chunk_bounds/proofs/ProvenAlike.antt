@@ -17,9 +17,9 @@ use Rattle.vortex_model.specs.Command.{expression_fault, column_fault, unless}
 use Rattle.vortex_model.proofs.Columns.{all_at_type}
 use Rattle.vortex_schema.specs.Leaves.{leaf_positions}
 use Rattle.vortex_schema.proofs.Places.{is_among, leaf_there}
-use Rattle.vortex_zones.specs.Bounds.{IsBoundsOf}
-use Rattle.vortex_zones.specs.declared.bounds.ColumnBounds.{ColumnBounds}
-use Rattle.vortex_zones.proofs.SaidRightly.{said_rightly}
+use Rattle.vortex_chunk_bounds.specs.zones.Bounds.{IsBoundsOf}
+use Rattle.vortex_chunk_bounds.specs.declared.zones.bounds.ColumnBounds.{ColumnBounds}
+use Rattle.vortex_chunk_bounds.proofs.zones.SaidRightly.{said_rightly}
 use Rattle.vortex_rewrite.specs.Stats.{is_proved}
 use Rattle.vortex_chunk_bounds.specs.Bounds.{row_content, column_at}
 use Rattle.vortex_chunk_bounds.specs.Chunk.{chunk_rows}

@@ -6,8 +6,8 @@ use Rattle.vortex_model.specs.Path.{Positions}
 use Rattle.vortex_model.specs.ZoneMap.{values_at}
 use Rattle.vortex_values.specs.View.{raw_of}
 use Rattle.vortex_values.specs.declared.scalar_value.ScalarValue.{ScalarValue}
-use Rattle.vortex_zones.specs.Bounds.{IsBoundsOf}
-use Rattle.vortex_zones.specs.declared.bounds.ColumnBounds.{ColumnBounds}
+use Rattle.vortex_chunk_bounds.specs.zones.Bounds.{IsBoundsOf}
+use Rattle.vortex_chunk_bounds.specs.declared.zones.bounds.ColumnBounds.{ColumnBounds}
 use Rattle.vortex_chunk_bounds.specs.BoundCode.{coded_bound}
 
 -- what a row says

@@ -4,8 +4,8 @@ use Rattle.vortex_model.specs.Kind.{Kind}
 use Rattle.vortex_model.specs.Content.{Content, null}
 use Rattle.vortex_model.specs.Path.{Positions, positions, same_positions}
 use Rattle.vortex_model.specs.Expression.{Expression, column, Aggregate}
-use Rattle.vortex_zones.specs.Said.{said_by}
-use Rattle.vortex_zones.specs.declared.bounds.ColumnBounds.{ColumnBounds}
+use Rattle.vortex_chunk_bounds.specs.zones.Said.{said_by}
+use Rattle.vortex_chunk_bounds.specs.declared.zones.bounds.ColumnBounds.{ColumnBounds}
 
 abbrev pub said_if_there : Option ColumnBounds → ℕ → Aggregate → Content
 said_if_there None rows a = null

@@ -3,3 +3,4 @@ pub mod Bounds
 pub mod Chunk
 pub mod Given
 pub mod Proved
+pub mod zones

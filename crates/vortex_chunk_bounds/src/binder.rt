@@ -5,13 +5,14 @@ ghost use Rattle.vortex_model.specs.Statistics.{shown};
 ghost use Rattle.vortex_types.specs.View.{kind_of};
 ghost use Rattle.vortex_values.specs.Numbers.{integer_of};
 ghost use Rattle.vortex_values.specs.View.{raw_of};
-ghost use Rattle.vortex_zones.specs.Bounds.{bound_in};
-ghost use Rattle.vortex_zones.specs.Said.{leaf_or_null, said_by};
+ghost use Rattle.vortex_chunk_bounds.specs.zones.Bounds.{bound_in};
+ghost use Rattle.vortex_chunk_bounds.specs.zones.Said.{leaf_or_null, said_by};
 ghost use Rattle.vortex_expr.specs.Tree.{aggregate_of};
 ghost use Rattle.vortex_rewrite.specs.Stats.{IsAnswer};
 ghost use Rattle.vortex_chunk_bounds.specs.Proved.{proved_by};
 
 use crate::chunk::{Chunk, bounds_at};
+use crate::zones::bounds::{Bound, ColumnBounds};
 use std::alloc::{AllocError, Global};
 use vortex_expr::aggregate::AggregateFn;
 use vortex_expr::bind::column_positions;
@@ -23,7 +24,6 @@ use vortex_scalars::scalar::Scalar;
 use vortex_types::dtype::DType;
 use vortex_values::pvalue::PValue;
 use vortex_values::scalar_value::ScalarValue;
-use vortex_zones::bounds::{Bound, ColumnBounds};
 
 // A literal of the truth value.
 fn truth(value: bool) -> Expression

@@ -1,14 +1,14 @@
 //! The bounds of leaves in rows.
 ghost use Rattle.std.specs.Prelude.{◌≡◌, IfOk};
-ghost use Rattle.vortex_zones.specs.Bounds.{IsExtremesOf, IsBoundsOf};
+ghost use Rattle.vortex_chunk_bounds.specs.zones.Bounds.{IsExtremesOf, IsBoundsOf};
 ghost use Rattle.vortex_chunk_bounds.specs.Bounds.{column_at, AreBoundsOf};
 
+use crate::zones::bounds::ColumnBounds;
+use crate::zones::extremes::Extremes;
 use std::alloc::{AllocError, Global};
 use vortex_expr::bound::part_at;
 use vortex_schema::leaves::Positions;
 use vortex_values::scalar_value::ScalarValue;
-use vortex_zones::bounds::ColumnBounds;
-use vortex_zones::extremes::Extremes;
 
 // The least and the greatest value of the leaf at these positions in the rows.
 fn leaf_extremes<'a>(rows: &'a [ScalarValue], leaf: &[usize]) -> Extremes<'a>

@@ -4,11 +4,11 @@ ghost use Rattle.vortex_chunk_bounds.specs.Bounds.{AreBoundsOf, AreBoundsOf-prop
 ghost use Rattle.vortex_chunk_bounds.specs.Given.{bounds_at};
 
 use crate::bounds::all_bounds;
+use crate::zones::bounds::ColumnBounds;
 use std::alloc::{AllocError, Global};
 use std::rc::Rc;
 use vortex_schema::leaves::Positions;
 use vortex_values::scalar_value::ScalarValue;
-use vortex_zones::bounds::ColumnBounds;
 
 /// Rows that were appended at once, with the bounds of their leaves.
 #[derive(Drop)]

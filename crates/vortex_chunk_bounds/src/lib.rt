@@ -4,3 +4,4 @@
 pub mod binder;
 pub mod bounds;
 pub mod chunk;
+pub mod zones;

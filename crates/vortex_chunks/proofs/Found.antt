@@ -13,14 +13,14 @@ use Rattle.vortex_model.proofs.Skipping.{found_rightly}
 use Rattle.vortex_values.specs.View.{raw_of}
 use Rattle.vortex_values.specs.declared.scalar_value.ScalarValue.{ScalarValue}
 use Rattle.vortex_chunk_bounds.specs.Chunk.{chunk_rows}
-use Rattle.vortex_cuts.specs.Cut.{content_cut, kept_by, raw_cut}
+use Rattle.vortex_schema.specs.Cut.{content_cut, kept_by, raw_cut}
 use Rattle.vortex_chunks.specs.Plan.{IsPlan, table_in, paths_in, predicate_in}
 use Rattle.vortex_chunks.specs.Progress.{found_rows}
 use Rattle.vortex_chunks.specs.Selected.{is_selected, cut_rows, selected_rows, CanBeCut}
 use Rattle.vortex_chunks.specs.Table.{is_formed}
 use Rattle.vortex_chunk_bounds.specs.declared.chunk.Chunk.{Chunk}
 use Rattle.vortex_chunks.specs.declared.plan.Plan.{Plan}
-use Rattle.vortex_cuts.proofs.Cuts.{cut_is_valid}
+use Rattle.vortex_schema.proofs.Cuts.{cut_is_valid}
 use Rattle.vortex_chunks.proofs.Formed.{valid_rows as formed_rows}
 use Rattle.vortex_chunks.proofs.Rows.{list_all_at, rows_said, kept_each, kept_all}
 

@@ -12,8 +12,8 @@ use Rattle.vortex_model.proofs.Tests.{has_so}
 use Rattle.vortex_values.specs.View.{raw_of}
 use Rattle.vortex_values.specs.declared.scalar_value.ScalarValue.{ScalarValue}
 use Rattle.vortex_chunk_bounds.specs.Bounds.{row_content}
-use Rattle.vortex_cuts.specs.Cut.{content_cut, kept_by}
-use Rattle.vortex_cuts.proofs.Cuts.{cut_is_kept}
+use Rattle.vortex_schema.specs.Cut.{content_cut, kept_by}
+use Rattle.vortex_schema.proofs.Cuts.{cut_is_kept}
 
 pub list_all_at : {X : Type 0} (p : X → Bool) (xs : List X) (i : ℕ) (d : X) → list_all p xs ≡ true → i < length xs → p (get_or xs i d) ≡ true
 list_all_at p [] i d h g = absurd (omega (arith, g))

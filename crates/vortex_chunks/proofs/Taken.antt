@@ -10,10 +10,10 @@ use Rattle.vortex_scalars.specs.declared.scalar.Scalar.{Scalar}
 use Rattle.vortex_values.specs.declared.scalar_value.ScalarValue.{ScalarValue}
 use Rattle.vortex_expr.specs.Bound.{Bound}
 use Rattle.vortex_chunk_bounds.specs.Bounds.{row_content}
-use Rattle.vortex_cuts.specs.Cut.{tree_of, content_cut, raw_cut}
+use Rattle.vortex_schema.specs.Cut.{tree_of, content_cut, raw_cut}
 use Rattle.vortex_chunks.specs.Selected.{is_selected, cut_rows, selected_rows}
-use Rattle.vortex_cuts.specs.declared.cut.Cut.{Cut}
-use Rattle.vortex_cuts.proofs.Cuts.{cut_content_of}
+use Rattle.vortex_schema.specs.declared.cut.Cut.{Cut}
+use Rattle.vortex_schema.proofs.Cuts.{cut_content_of}
 
 module _ (cut : Cut) (rows : List ScalarValue) (i : ℕ) (row : ScalarValue) (inside : i < length rows) (is : row ≡ get_or rows i row) where
   row_more : map row_content (take (i + 1) rows) ≡ map row_content (take i rows) ++ row_content row ∷ []

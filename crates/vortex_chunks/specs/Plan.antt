@@ -12,7 +12,7 @@ use Rattle.vortex_model.specs.Pruning.{has_no_like}
 use Rattle.vortex_model.specs.Table as model
 use Rattle.vortex_types.specs.View.{kind_of}
 use Rattle.vortex_expr.specs.Bound.{bound_value}
-use Rattle.vortex_cuts.specs.Cut.{paths_of, tree_of, kept_by}
+use Rattle.vortex_schema.specs.Cut.{paths_of, tree_of, kept_by}
 use Rattle.vortex_chunks.specs.TableView.{table_of}
 use Rattle.vortex_chunks.specs.declared.plan.Plan.{Plan}
 use Rattle.vortex_chunks.specs.declared.plan.Prepared.{Prepared}

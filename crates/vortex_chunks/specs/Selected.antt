@@ -7,8 +7,8 @@ use Rattle.vortex_types.specs.View.{kind_of}
 use Rattle.vortex_values.specs.View.{raw_of}
 use Rattle.vortex_values.specs.declared.scalar_value.ScalarValue.{ScalarValue}
 use Rattle.vortex_expr.specs.Bound.{Bound, bound_value}
-use Rattle.vortex_cuts.specs.Cut.{tree_of, content_cut, raw_cut}
-use Rattle.vortex_cuts.specs.declared.cut.Cut.{Cut}
+use Rattle.vortex_schema.specs.Cut.{tree_of, content_cut, raw_cut}
+use Rattle.vortex_schema.specs.declared.cut.Cut.{Cut}
 
 -- the bound predicate is true of the row
 abbrev pub is_selected : Bound → Content → Bool

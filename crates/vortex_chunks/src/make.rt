@@ -9,7 +9,7 @@ ghost use Rattle.vortex_model.specs.Refusal.{Refusal, or_else};
 ghost use Rattle.vortex_model.specs.Command.{paths_fault, predicate_fault};
 ghost use Rattle.vortex_types.specs.View.{kind_of};
 ghost use Rattle.vortex_paths.specs.View.{steps_of};
-ghost use Rattle.vortex_cuts.specs.Cut.{paths_of};
+ghost use Rattle.vortex_schema.specs.Cut.{paths_of};
 ghost use Rattle.vortex_expr.specs.Faults.{IsReason};
 ghost use Rattle.vortex_chunks.specs.Error.{Explains};
 ghost use Rattle.vortex_chunks.specs.Plan.{IsPreparedFor};
@@ -18,12 +18,12 @@ use crate::check::check_paths;
 use crate::error::TableError;
 use crate::plan::{Prepared, Proofs};
 use std::alloc::{AllocError, Global};
-use vortex_cuts::cut::make_cut;
 use vortex_expr::bind::{PredicateError, bind};
 use vortex_expr::bound::BoundExpression;
 use vortex_expr::expression::Expression;
 use vortex_paths::path::FieldPath;
 use vortex_rewrite::rewrite::{falsify, satisfy};
+use vortex_schema::cut::make_cut;
 use vortex_types::dtype::DType;
 
 fn predicate_error(error: PredicateError) -> TableError

@@ -9,12 +9,12 @@ use crate::table::Table;
 use std::alloc::{AllocError, Global};
 use vortex_chunk_bounds::binder::is_proved;
 use vortex_chunk_bounds::chunk::Chunk;
-use vortex_cuts::answer::ScanAnswer;
-use vortex_cuts::cut::Cut;
 use vortex_expr::bound::BoundExpression;
 use vortex_expr::expression::Expression;
 use vortex_paths::path::FieldPath;
 use vortex_scalars::scalar::Scalar;
+use vortex_schema::answer::ScanAnswer;
+use vortex_schema::cut::Cut;
 
 /// What becomes of a chunk.
 #[derive(Clone, Copy)]
@@ -56,7 +56,7 @@ impl Plan<'_> {
     ghost use Rattle.vortex_model.specs.Scan.{chunk_outcome, scanned};
     ghost use Rattle.vortex_types.specs.View.{kind_of};
     ghost use Rattle.vortex_scalars.specs.Scalar.{scalar_kind, scalar_content};
-    ghost use Rattle.vortex_cuts.specs.Answer.{answer_of, IsTyped};
+    ghost use Rattle.vortex_schema.specs.Answer.{answer_of, IsTyped};
     ghost use Rattle.vortex_chunk_bounds.specs.Chunk.{chunk_rows};
     ghost use Rattle.vortex_chunks.specs.Outcome.{outcome_of};
     ghost use Rattle.vortex_chunks.specs.Plan.{IsPlan, table_in, paths_in, predicate_in};

@@ -5,9 +5,9 @@ use crate::make::prepare;
 use crate::plan::Plan;
 use crate::table::Table;
 use std::alloc::Global;
-use vortex_cuts::answer::ScanAnswer;
 use vortex_expr::expression::Expression;
 use vortex_paths::path::FieldPath;
+use vortex_schema::answer::ScanAnswer;
 
 impl Table {
     ghost use Rattle.std.specs.Prelude.{◌≡◌, None, map, IfOk, OnOk, IfErr};
@@ -16,7 +16,7 @@ impl Table {
     ghost use Rattle.vortex_paths.specs.View.{steps_of};
     ghost use Rattle.vortex_chunks.specs.Error.{Explains};
     ghost use Rattle.vortex_chunks.specs.TableView.{table_of};
-    ghost use Rattle.vortex_cuts.specs.Answer.{answer_of, IsTyped};
+    ghost use Rattle.vortex_schema.specs.Answer.{answer_of, IsTyped};
 
     /// The rows that the predicate selects, in order and cut by the paths. The path without a step asks for whole rows,
     /// and no path for empty records.

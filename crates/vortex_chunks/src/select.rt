@@ -6,9 +6,9 @@ ghost use Rattle.vortex_chunk_bounds.specs.Bounds.{row_content};
 ghost use Rattle.vortex_chunks.specs.Selected.{cut_rows, selected_rows, CanBeCut};
 
 use std::alloc::{AllocError, Global};
-use vortex_cuts::cut::{Cut, cut_row};
 use vortex_expr::bound::BoundExpression;
 use vortex_scalars::scalar::Scalar;
+use vortex_schema::cut::{Cut, cut_row};
 use vortex_values::scalar_value::ScalarValue;
 
 /// Adds each row, cut.

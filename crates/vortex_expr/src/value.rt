@@ -8,7 +8,7 @@ ghost use Rattle.vortex_expr.specs.Tree.{comparison_of};
 
 use crate::operator::Comparison;
 use std::cmp::Ordering;
-use vortex_order::compare::compare_values as order_values;
+use vortex_casts::compare::compare_values as order_values;
 use vortex_values::scalar_value::ScalarValue;
 
 /// What an expression gives: null, a truth value, or what a literal or a row holds.

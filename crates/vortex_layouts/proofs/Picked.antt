@@ -1,15 +1,13 @@
 -- What is picked from an array's parts.
-use Rattle.std.proofs.Common.{◌≡◌, ◌≤◌, ◌+◌, ◌-◌, ◌*◌, ℕ, Bool, true, false, List, [], ◌∷◌, ◌++◌, length, map, get_or, Option, Some, None, refl, sym, ap, subst, ◌∙◌, arith}
-use Rattle.std.specs.List.{range_with_len}
+use Rattle.std.proofs.Common.{◌≡◌, ◌<◌, ◌≤◌, ◌+◌, ◌-◌, ◌*◌, ℕ, Bool, true, false, List, [], ℤ, pos, length, get_or, slice_range, Option, Some, None, refl, sym, ap, subst, ◌∙◌, arith}
 use Rattle.std.proofs.lemmas.Nat.{mul-le}
-use Rattle.std.proofs.lemmas.List.FromFn.{get_or-map-range_with_len, length-map-range_with_len, map-range_with_len_more}
-use Rattle.vortex_model.specs.Kind.{Kind, integer, Nullability, non_nullable, nullable, is_nullable, IsNullable, nullability_of, either_nullable}
+use Rattle.vortex_model.specs.Kind.{Kind, IntKind, integer, Nullability, non_nullable, nullable, is_nullable, IsNullable, nullability_of, either_nullable}
 use Rattle.vortex_model.specs.Content.{Content, null, whole}
-use Rattle.vortex_model.specs.Valid.{IsContent}
-use Rattle.vortex_array_model.specs.Layout.{Layout, bools, fixed_lists, Valid, required, all_valid, all_null, by_array, len_of, kind_of, nullability_by, content_at, IsInteger, IsSound}
+use Rattle.vortex_model.specs.Valid.{InRange, IsContent}
+use Rattle.vortex_array_model.specs.Layout.{Strings, Layout, bools, numbers, strings, fixed_lists, Valid, required, all_valid, all_null, by_array, len_of, kind_of, nullability_by, content_at, IsInteger, IsSound, HasLength}
 use Rattle.vortex_array_model.specs.Picks.{Picks, PicksValid, PicksSomeValid, position_of, is_valid_some}
 use Rattle.vortex_array_model.proofs.ValidRows.{rows_valid}
-use Rattle.vortex_array_model.proofs.PicksLemmas.{picks_all, picks_same, picks_bools, picks_numbers, picks_strings, picks_constant, picks_dictionary, picks_fixed_lists_from, picks_list_views_from, picks_records, picks_by_array, picks_required, picks_all_valid, picks_all_null, get_or-part, length-part, All-part}
+use Rattle.vortex_array_model.proofs.PicksLemmas.{picks_all, picks_same, picks_bools, picks_numbers, picks_strings, picks_constant, picks_dictionary, picks_fixed_lists_from, picks_list_views_from, picks_records, get_or-part, length-part, All-part}
 use Rattle.vortex_array_model.proofs.SomeLemmas.{picks_some_dictionary}
 use Rattle.vortex_layouts.specs.Picking.{IsUnsigned}
 
@@ -37,7 +35,24 @@ picks_lists_between e r s m start end first last v w order begins ends p q =
 pub elements_fit : (s n m count : ℕ) → n ≤ m → count ≡ m * s → n * s ≤ count
 elements_fit s n m count h e = subst (λ c. n * s ≤ c) (sym e) (mul-le n s m s h (omega arith))
 
-pub ruleset picked = (picks_bools, picks_numbers, picks_strings, picks_constant, picks_dictionary, picks_lists_between, picks_list_views_from, picks_records, picks_by_array, picks_required, picks_all_valid, picks_all_null, get_or-part, length-part, All-part)
+-- so many neighbouring rows have so many valid ones
+pub parts_fit : {X : Type 0} (xs : List X) (w : Valid) (start end : ℕ) → start ≤ end → end ≤ length xs → HasLength w (end - start) → HasLength w (length (slice_range xs start end))
+parts_fit xs w start end order within h = subst (HasLength w) (sym (length-part xs (end - start) start (omega arith))) h
+
+-- neighbouring rows of each layout
+pub slices_bools : (xs : List Bool) (v w : Valid) (start end : ℕ) → start ≤ end → end ≤ length xs → PicksValid v w (end - start) (λ i. start + i) → Picks (bools xs v) (bools (slice_range xs start end) w) (end - start) (λ i. start + i)
+slices_bools xs v w start end order within p = picks_bools xs (slice_range xs start end) v w (end - start) (λ i. start + i) (length-part xs (end - start) start (omega arith)) (λ i l. get_or-part xs (end - start) start false i l) p
+
+pub slices_numbers : (k : IntKind) (xs : List ℤ) (v w : Valid) (start end : ℕ) → IsSound (numbers k xs v) → start ≤ end → end ≤ length xs → PicksValid v w (end - start) (λ i. start + i) → Picks (numbers k xs v) (numbers k (slice_range xs start end) w) (end - start) (λ i. start + i)
+slices_numbers k xs v w start end s order within p =
+    let inside : start + (end - start) ≤ length xs = omega arith in
+    picks_numbers k xs (slice_range xs start end) v w (end - start) (λ i. start + i) (length-part xs (end - start) start inside) (All-part (InRange k) xs (end - start) start inside s.0) (λ i l. get_or-part xs (end - start) start (pos 0) i l) p
+
+pub slices_strings : (k : Strings) (xs bs : List (List ℕ)) (v w : Valid) (start end : ℕ) → IsSound (strings k xs bs v) → start ≤ end → end ≤ length xs → PicksValid v w (end - start) (λ i. start + i) → Picks (strings k xs bs v) (strings k (slice_range xs start end) bs w) (end - start) (λ i. start + i)
+slices_strings k xs bs v w start end s order within p =
+    picks_strings k xs (slice_range xs start end) bs v w (end - start) (λ i. start + i) s (length-part xs (end - start) start (omega arith)) (λ i l. omega arith) (λ i l. get_or-part xs (end - start) start [] i l) p
+
+pub ruleset picked = (slices_bools, slices_numbers, slices_strings, picks_constant, picks_dictionary, picks_lists_between, picks_list_views_from, picks_records)
 
 pub unsigned_are_integers : (k : Kind) → IsUnsigned k → IsInteger k
 unsigned_are_integers (integer i n) h = tt
@@ -92,15 +107,11 @@ pub taken_all_null : (m : Nullability) (n : ℕ) (f : ℕ → Option ℕ) → Pi
 taken_all_null m n f = record { fits = tt; nullability = sym (either_second m); bits = λ i l. sym (no_row_valid (f i)) }
 
 -- which rows are null, said for each position
-pub taken_by_array : (v : Valid) (m : Nullability) (n : ℕ) (f : ℕ → Option ℕ) (a : Layout) (bs : List Bool) → either_nullable m (nullability_by v) ≡ nullable → a ≡ bools bs required → bs ≡ map (λ i. is_valid_some v (f i)) (range_with_len 0 n) → PicksSomeValid v (by_array a) m n f
-taken_by_array v m n f a bs e made same = subst (λ b. PicksSomeValid v (by_array b) m n f) (sym made) (record {
-  fits = (tt, ap length same ∙ length-map-range_with_len (λ i. is_valid_some v (f i)) 0 n, refl);
+pub taken_by_array : (v : Valid) (m : Nullability) (n : ℕ) (f : ℕ → Option ℕ) (a : Layout) (bs : List Bool) → either_nullable m (nullability_by v) ≡ nullable → a ≡ bools bs required → length bs ≡ n → ((i : ℕ) → i < n → get_or bs i false ≡ is_valid_some v (f i)) → PicksSomeValid v (by_array a) m n f
+taken_by_array v m n f a bs e made many same = subst (λ b. PicksSomeValid v (by_array b) m n f) (sym made) (record {
+  fits = (tt, many, refl);
   nullability = sym e;
-  bits = λ i l. ap (λ xs. get_or xs i false) same ∙ get_or-map-range_with_len (λ i. is_valid_some v (f i)) 0 n i i false l (omega arith);
+  bits = λ i l. same i l;
 })
-
--- one truth more
-pub truths_more : (f : ℕ → Bool) (xs : List Bool) (b : Bool) (n : ℕ) → xs ≡ map f (range_with_len 0 n) → b ≡ f n → xs ++ b ∷ [] ≡ map f (range_with_len 0 (n + 1))
-truths_more f xs b n before here = (λ i. before i ++ here i ∷ []) ∙ sym (map-range_with_len_more f 0 n n (omega arith))
 
 pub ruleset rows_taken = (either_first, either_second, not_nullable, taken_required, taken_all_valid, taken_all_null)

@@ -3,20 +3,8 @@ ghost use Rattle.std.specs.Prelude.{◌≡◌, IfOk, length, map};
 ghost use Rattle.vortex_model.specs.Kind.{struct, with_nullability, either_nullable, nullability_of};
 ghost use Rattle.vortex_kinds.specs.View.{nullability_of_flag};
 ghost use Rattle.vortex_types.specs.View.{kind_of as type_of};
-ghost use Rattle.vortex_array_model.specs.Layout.{
-  IsSound,
-  kind_of,
-  kind_of_strings,
-  fields_of,
-  bools,
-  numbers,
-  strings,
-  constant,
-  dictionary,
-  fixed_lists,
-  list_views,
-  records,
-};
+ghost use Rattle.vortex_array_model.specs.Layout.{IsSound, kind_of, kind_of_strings, fields_of};
+ghost use Rattle.vortex_array_model.specs.Layout.{bools, numbers, strings, constant, dictionary, fixed_lists, list_views, records};
 ghost use Rattle.vortex_array_model.specs.Parts.{columns_of};
 ghost use Rattle.vortex_numbers.specs.Numbers.{kind_of_numbers, integers_of};
 ghost use Rattle.vortex_scalars.specs.Scalar.{scalar_kind, scalar_raw};
@@ -76,11 +64,8 @@ impl ArrayRef {
         ensures { IfOk result (λ array. array ≡ strings (strings_of kind) views buffers.value.items (valid_of validity)) }
     {
         let dtype = string_dtype(kind, validity.nullability());
-        ArrayRef::new_unchecked(
-            alloc,
-            dtype,
-            ArrayLayout::VarBinView(kind, views, buffers, validity),
-        )
+        let layout = ArrayLayout::VarBinView(kind, views, buffers, validity);
+        ArrayRef::new_unchecked(alloc, dtype, layout)
     }
 
     /// One value, so many times, as Vortex's `ConstantArray::new`.
@@ -104,11 +89,8 @@ impl ArrayRef {
         ensures { IfOk result (λ array. array ≡ dictionary codes values all_values_referenced) }
     {
         let dtype = dictionary_dtype(codes.dtype(), values.dtype())?;
-        ArrayRef::new_unchecked(
-            alloc,
-            dtype,
-            ArrayLayout::Dict(codes, values, all_values_referenced),
-        )
+        let layout = ArrayLayout::Dict(codes, values, all_values_referenced);
+        ArrayRef::new_unchecked(alloc, dtype, layout)
     }
 
     /// Lists of one size, as Vortex's `FixedSizeListArray::new_unchecked`.
@@ -125,11 +107,8 @@ impl ArrayRef {
     {
         let element = Rc::new(alloc, elements.dtype().clone()?)?;
         let dtype = DType::FixedSizeList(element, size, validity.nullability());
-        ArrayRef::new_unchecked(
-            alloc,
-            dtype,
-            ArrayLayout::FixedSizeList(elements, size, len, validity),
-        )
+        let layout = ArrayLayout::FixedSizeList(elements, size, len, validity);
+        ArrayRef::new_unchecked(alloc, dtype, layout)
     }
 
     /// Lists of any size, as Vortex's `ListViewArray::new_unchecked`.
@@ -147,13 +126,8 @@ impl ArrayRef {
     {
         let element = Rc::new(alloc, elements.dtype().clone()?)?;
         let dtype = DType::List(element, validity.nullability());
-        let layout = ArrayLayout::ListView(
-            elements,
-            offsets,
-            sizes,
-            is_zero_copy_to_list,
-            validity,
-        );
+        let follow = is_zero_copy_to_list;
+        let layout = ArrayLayout::ListView(elements, offsets, sizes, follow, validity);
         ArrayRef::new_unchecked(alloc, dtype, layout)
     }
 
@@ -170,11 +144,8 @@ impl ArrayRef {
         ensures { IfOk result (λ array. array ≡ records (columns_of names.value fields.items) len (valid_of validity)) }
     {
         let dtype = struct_dtype(alloc, &names, &fields, validity.nullability())?;
-        ArrayRef::new_unchecked(
-            alloc,
-            dtype,
-            ArrayLayout::Struct(names, fields, len, validity),
-        )
+        let layout = ArrayLayout::Struct(names, fields, len, validity);
+        ArrayRef::new_unchecked(alloc, dtype, layout)
     }
 }
 

@@ -1,6 +1,6 @@
 //! Validities met.
-ghost use Rattle.std.specs.Prelude.{◌≡◌, ◌<◌, ◌&&◌, ℕ, false, length, slice_index_or, IfOk};
-ghost use Rattle.vortex_array_model.specs.Layout.{by_array, len_of, content_at, is_truth, HasLength};
+ghost use Rattle.std.specs.Prelude.{◌≡◌, IfOk};
+ghost use Rattle.vortex_array_model.specs.Layout.{by_array, len_of, HasLength};
 ghost use Rattle.vortex_array_model.specs.Column.{MeetsValid};
 ghost use Rattle.vortex_layouts.specs.LayoutOf.{valid_of};
 
@@ -39,41 +39,10 @@ impl Validity {
 }
 
 /// True where both are, for arrays of one length.
-#[tactic(auto, using(vortex_array_model::proofs::PushLemmas::meets))]
 fn true_in_both(alloc: Global, mine: &ArrayRef, theirs: &ArrayRef) -> Result<ArrayRef, AllocError>
     requires { len_of theirs.now ≡ len_of mine.now }
     ensures { IfOk result (λ both. MeetsValid (by_array mine.now) (by_array theirs.now) (by_array both) (len_of mine.now)) }
 {
-    let truths = truths_in_both(alloc, mine, theirs)?;
-    let bits = BitBuffer::from_bools(alloc, truths.as_slice())?;
-    let both = ArrayRef::of_bools(alloc, bits, Validity::NonNullable)?;
-    Ok(both)
-}
-
-/// Whether both are true, row by row.
-fn truths_in_both(
-    alloc: Global,
-    mine: &ArrayRef,
-    theirs: &ArrayRef,
-) -> Result<Vec<bool>, AllocError>
-    requires { len_of theirs.now ≡ len_of mine.now }
-    ensures count { IfOk result (λ truths. length truths.items ≡ len_of mine.now) }
-    ensures truths { IfOk result (λ truths. (i : ℕ) → i < len_of mine.now → slice_index_or truths.items i false ≡ (is_truth (content_at mine.now i) && is_truth (content_at theirs.now i))) }
-{
-    let len = mine.len();
-    let mut truths = Vec::with_capacity(alloc, len)?;
-    for i in 0..len {
-        let both = is_true_in_both(mine, theirs, i);
-        truths.push(both)?;
-    }
-    Ok(truths)
-}
-
-/// Whether both are true in the row.
-fn is_true_in_both(mine: &ArrayRef, theirs: &ArrayRef, i: usize) -> bool
-    requires mine { i < len_of mine.now }
-    requires theirs { i < len_of theirs.now }
-    ensures { result ≡ (is_truth (content_at mine.now i) && is_truth (content_at theirs.now i)) }
-{
-    mine.truth(i) && theirs.truth(i)
+    let bits = BitBuffer::collect_bool(alloc, mine.len(), |i| mine.truth(i) && theirs.truth(i))?;
+    ArrayRef::of_bools(alloc, bits, Validity::NonNullable)
 }

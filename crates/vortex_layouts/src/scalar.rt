@@ -1,18 +1,6 @@
 //! Values of rows.
 ghost use Rattle.std.specs.Prelude.{◌≡◌, ◌<◌, ◌≤◌, ◌+◌, ◌*◌, IfOk, IfErr, All, length, map};
-ghost use Rattle.vortex_array_model.specs.Layout.{
-  bools,
-  numbers,
-  strings,
-  len_of,
-  kind_of,
-  content_at,
-  number_in,
-  IsOffsets,
-  IsView,
-  IsString,
-  IsSound,
-};
+ghost use Rattle.vortex_array_model.specs.Layout.{bools, numbers, strings, len_of, kind_of, content_at, number_in, IsOffsets, IsView, IsString, IsSound};
 ghost use Rattle.vortex_binary_views.specs.Views.{value_of, HasValue};
 ghost use Rattle.vortex_numbers.specs.Numbers.{kind_of_numbers, integers_of};
 ghost use Rattle.vortex_scalars.specs.Scalar.{scalar_kind, scalar_content};

@@ -1,16 +1,23 @@
 //! The rows of a range.
-ghost use Rattle.std.specs.Prelude.{◌≡◌, ◌≤◌, ◌+◌, ◌-◌, ◌*◌, IfOk, IfErr, length};
-ghost use Rattle.vortex_array_model.specs.Layout.{len_of, HasLength, HaveLength};
+ghost use Rattle.std.specs.Prelude.{◌≡◌, ◌≤◌, ◌+◌, ◌-◌, ◌*◌, IfOk, IfErr, false, length, slice_range};
+ghost use Rattle.vortex_array_model.specs.Layout.{len_of, IsSound, HasLength, HaveLength, bools, numbers, strings, dictionary, list_views, records};
+ghost use Rattle.vortex_numbers.specs.Numbers.{kind_of_numbers, integers_of};
 ghost use Rattle.vortex_array_model.specs.Parts.{columns_of};
 ghost use Rattle.vortex_array_model.specs.Picks.{Picks, PicksValid, PicksColumns};
-ghost use Rattle.vortex_layouts.specs.LayoutOf.{valid_of};
+ghost use Rattle.vortex_layouts.specs.LayoutOf.{valid_of, strings_of};
 ghost use Rattle.vortex_layouts.specs.Picking.{IsSliceFault};
 
-use crate::array::{ArrayLayout, ArrayRef, Validity};
+use crate::array::{ArrayLayout, ArrayRef, StringKind, Validity};
+use bytes::Bytes;
 use std::alloc::{AllocError, Global};
 use std::ops::Range;
+use std::rc::Rc;
 use vortex_array_errors::error::ArrayError;
+use vortex_binary_views::view::BinaryView;
+use vortex_buffers::bit_buffer::BitBuffer;
+use vortex_buffers::buffer::Buffer;
 use vortex_kinds::field_names::FieldNames;
+use vortex_numbers::numbers::Numbers;
 
 impl ArrayRef {
     /// The rows at the places of the range, as Vortex's `ArrayRef::slice`. Buffers are shared and
@@ -44,23 +51,22 @@ impl ArrayRef {
         match &self.data.layout {
             ArrayLayout::Bool(bits, validity) => {
                 let validity = validity.rows_between(alloc, start, end, bits.len())?;
-                ArrayRef::of_bools(alloc, bits.slice(start..end)?, validity)
+                bools_between(alloc, bits, start, end, validity)
             }
             ArrayLayout::Primitive(items, validity) => {
                 let validity = validity.rows_between(alloc, start, end, items.len())?;
-                ArrayRef::of_numbers(alloc, items.slice(start..end)?, validity)
+                numbers_between(alloc, items, start, end, validity)
             }
             ArrayLayout::VarBinView(kind, views, buffers, validity) => {
                 let validity = validity.rows_between(alloc, start, end, views.len())?;
-                let views = views.slice(start..end)?;
-                ArrayRef::of_strings(alloc, *kind, views, buffers.clone()?, validity)
+                strings_between(alloc, *kind, views, buffers, start, end, validity)
             }
             ArrayLayout::Constant(scalar, _) => {
                 ArrayRef::of_constant(alloc, scalar.clone()?, end - start)
             }
             ArrayLayout::Dict(codes, values, _) => {
                 let codes = codes.rows_between(alloc, start, end)?;
-                ArrayRef::of_dict(alloc, codes, values.clone()?, false)
+                with_values(alloc, codes, values)
             }
             ArrayLayout::FixedSizeList(elements, size, len, validity) => {
                 let validity = validity.rows_between(alloc, start, end, *len)?;
@@ -72,12 +78,12 @@ impl ArrayRef {
                 let validity = validity.rows_between(alloc, start, end, offsets.len())?;
                 let offsets = offsets.rows_between(alloc, start, end)?;
                 let sizes = sizes.rows_between(alloc, start, end)?;
-                ArrayRef::of_list_views(alloc, elements.clone()?, offsets, sizes, *follow, validity)
+                with_elements(alloc, elements, offsets, sizes, *follow, validity)
             }
             ArrayLayout::Struct(names, fields, len, validity) => {
                 let validity = validity.rows_between(alloc, start, end, *len)?;
                 let fields = fields_between(alloc, names, fields, *len, start, end)?;
-                ArrayRef::of_records(alloc, names.clone()?, fields, end - start, validity)
+                with_names(alloc, names, fields, end - start, validity)
             }
         }
     }
@@ -128,6 +134,100 @@ impl Validity {
             }
         }
     }
+}
+
+/// The truth values from `start` on and before `end`, null where the validity says.
+#[tactic(auto, using(crate::proofs::Picked::parts_fit))]
+fn bools_between(
+    alloc: Global,
+    bits: &BitBuffer,
+    start: usize,
+    end: usize,
+    validity: Validity,
+) -> Result<ArrayRef, AllocError>
+    requires order { start ≤ end }
+    requires within { end ≤ length bits.now }
+    requires fits { HasLength (valid_of validity) (end - start) }
+    ensures { IfOk result (λ r. r ≡ bools (slice_range bits.now start end) (valid_of validity)) }
+{
+    ArrayRef::of_bools(alloc, bits.slice(start..end)?, validity)
+}
+
+/// The integers from `start` on and before `end`, null where the validity says.
+#[tactic(auto, using(crate::proofs::Picked::parts_fit))]
+fn numbers_between(
+    alloc: Global,
+    items: &Numbers,
+    start: usize,
+    end: usize,
+    validity: Validity,
+) -> Result<ArrayRef, AllocError>
+    requires order { start ≤ end }
+    requires within { end ≤ length (integers_of items.now) }
+    requires fits { HasLength (valid_of validity) (end - start) }
+    ensures { IfOk result (λ r. r ≡ numbers (kind_of_numbers items.now) (slice_range (integers_of items.now) start end) (valid_of validity)) }
+{
+    let part = items.slice(start..end)?;
+    part.is_in_range();
+    ArrayRef::of_numbers(alloc, part, validity)
+}
+
+/// The texts or bytes from `start` on and before `end`, null where the validity says.
+fn strings_between(
+    alloc: Global,
+    kind: StringKind,
+    views: &Buffer<BinaryView>,
+    buffers: &Rc<Vec<Bytes>>,
+    start: usize,
+    end: usize,
+    validity: Validity,
+) -> Result<ArrayRef, AllocError>
+    requires order { start ≤ end }
+    requires within { end ≤ length views.now }
+    requires sound { IsSound (strings (strings_of kind) (slice_range views.now start end) buffers.now.value.items (valid_of validity)) }
+    ensures { IfOk result (λ r. r ≡ strings (strings_of kind) (slice_range views.now start end) buffers.now.value.items (valid_of validity)) }
+{
+    let buffers = buffers.clone()?;
+    let views = views.slice(start..end)?;
+    ArrayRef::of_strings(alloc, kind, views, buffers, validity)
+}
+
+/// A dictionary of these codes, which are some of another's, and of the values of that.
+fn with_values(alloc: Global, codes: ArrayRef, values: &ArrayRef) -> Result<ArrayRef, AllocError>
+    requires { IsSound (dictionary codes values.now false) }
+    ensures { IfOk result (λ r. r ≡ dictionary codes values.now false) }
+{
+    ArrayRef::of_dict(alloc, codes, values.clone()?, false)
+}
+
+/// Lists of these views of the elements.
+fn with_elements(
+    alloc: Global,
+    elements: &ArrayRef,
+    offsets: ArrayRef,
+    sizes: ArrayRef,
+    follow: bool,
+    validity: Validity,
+) -> Result<ArrayRef, AllocError>
+    requires { IsSound (list_views elements.now offsets sizes follow (valid_of validity)) }
+    ensures { IfOk result (λ r. r ≡ list_views elements.now offsets sizes follow (valid_of validity)) }
+{
+    ArrayRef::of_list_views(alloc, elements.clone()?, offsets, sizes, follow, validity)
+}
+
+/// Records of these fields.
+fn with_names(
+    alloc: Global,
+    names: &Rc<FieldNames>,
+    fields: Vec<ArrayRef>,
+    len: usize,
+    validity: Validity,
+) -> Result<ArrayRef, AllocError>
+    requires named { length names.now.value ≡ length fields.items }
+    requires sound { IsSound (records (columns_of names.now.value fields.items) len (valid_of validity)) }
+    ensures { IfOk result (λ r. r ≡ records (columns_of names.now.value fields.items) len (valid_of validity)) }
+{
+    ArrayRef::of_records(alloc, names.clone()?, fields, len, validity)
 }
 
 /// Where the elements lie of the lists of one size from `start` on and before `end`.

@@ -1,6 +1,5 @@
 //! The rows at positions.
-ghost use Rattle.std.specs.Prelude.{◌≡◌, ◌↔◌, map, IsTrue, IfOk, IfErr};
-ghost use Rattle.std.specs.List.{range_with_len};
+ghost use Rattle.std.specs.Prelude.{◌≡◌, ◌↔◌, IsTrue, IfOk, IfErr};
 ghost use Rattle.vortex_model.specs.Kind.{nullable, nullability_of, either_nullable};
 ghost use Rattle.vortex_array_model.specs.Layout.{len_of, kind_of, nullability_by, content_at, IsInteger, IsCode, HasLength};
 ghost use Rattle.vortex_array_model.specs.Picks.{PicksSome, PicksSomeValid, position_of, is_valid_some};
@@ -119,33 +118,11 @@ impl Validity {
         ensures { IfOk result (λ taken. PicksSomeValid (valid_of self.now) (valid_of taken) (nullability_of (kind_of indices.now)) (len_of indices.now)
             (λ i. position_of (content_at indices.now i))) }
     {
-        let truths = self.truths_at(alloc, indices, len)?;
-        let bits = BitBuffer::from_bools(alloc, truths.as_slice())?;
+        let bits = BitBuffer::collect_bool(alloc, indices.len(), |i| {
+            self.is_valid_at(indices.integer(i), len)
+        })?;
         let rows = ArrayRef::of_bools(alloc, bits, Validity::NonNullable)?;
         Ok(Validity::Array(rows))
-    }
-
-    /// Whether each of the rows at the positions is not null, for an array of so many rows.
-    #[tactic(auto, using(crate::proofs::Picked::truths_more))]
-    fn truths_at(
-        &self,
-        alloc: Global,
-        indices: &ArrayRef,
-        len: usize,
-    ) -> Result<Vec<bool>, AllocError>
-        requires kind { IsInteger (kind_of indices.now) }
-        requires within { AreWithin indices.now len }
-        requires fits { HasLength (valid_of self.now) len }
-        ensures { IfOk result (λ truths. truths.items
-            ≡ map (λ i. is_valid_some (valid_of self.now) (position_of (content_at indices.now i))) (range_with_len 0 (len_of indices.now))) }
-    {
-        let count = indices.len();
-        let mut truths = Vec::with_capacity(alloc, count)?;
-        for i in 0..count {
-            let is_valid = self.is_valid_at(indices.integer(i), len);
-            truths.push(is_valid)?;
-        }
-        Ok(truths)
     }
 
     /// Whether the row at the position is not null, for an array of so many rows; at none it is.

@@ -1,2 +1,4 @@
 pub mod Leaves
 pub mod OptionLemmas
+pub mod Checked
+pub mod Made

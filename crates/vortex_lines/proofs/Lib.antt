@@ -1,1 +1,6 @@
-mod Leaves
+mod Literals
+pub mod Readings
+pub mod Trees
+pub mod Meanings
+pub mod RowLemmas
+pub mod AtKinds

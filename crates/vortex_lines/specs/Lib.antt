@@ -1,3 +1,6 @@
 pub mod Where
 pub mod Line
 pub mod View
+pub mod Parsed
+pub mod Kinds
+pub mod Rows

@@ -6,9 +6,9 @@ use Rattle.serde_json.specs.Find.{get, as_array, as_str}
 use Rattle.vortex_model.specs.Kind.{Kind}
 use Rattle.vortex_model.specs.Content.{Raw}
 use Rattle.vortex_model.specs.Command.{Command, create, append, scan}
-use Rattle.vortex_type_lines.specs.Parsed.{data_of, size_of, natural_of, keeps_whole}
-use Rattle.vortex_type_lines.specs.Kinds.{kind_in, one_if}
-use Rattle.vortex_row_lines.specs.Rows.{rows_at}
+use Rattle.vortex_lines.specs.Parsed.{data_of, size_of, natural_of, keeps_whole}
+use Rattle.vortex_lines.specs.Kinds.{kind_in, one_if}
+use Rattle.vortex_lines.specs.Rows.{rows_at}
 use Rattle.vortex_lines.specs.Where.{paths_in, predicate_in}
 
 -- how rows are laid out, which no answer shows

@@ -10,9 +10,9 @@ use Rattle.vortex_model.specs.Content.{content_of}
 use Rattle.vortex_model.specs.Valid.{valid}
 use Rattle.vortex_model.specs.Path.{Step, name, element}
 use Rattle.vortex_model.specs.Expression.{Comparison, equal, not_equal, greater, at_least, less, at_most, Expression, literal, column, compare}
-use Rattle.vortex_type_lines.specs.Parsed.{items_size}
-use Rattle.vortex_type_lines.specs.Kinds.{kind_in, strings_of}
-use Rattle.vortex_row_lines.specs.Rows.{reading}
+use Rattle.vortex_lines.specs.Parsed.{items_size}
+use Rattle.vortex_lines.specs.Kinds.{kind_in, strings_of}
+use Rattle.vortex_lines.specs.Rows.{reading}
 
 -- ---- paths
 

@@ -1,7 +1,7 @@
 //! Commands from JSON.
 ghost use Rattle.std.specs.Prelude.{◌≡◌, map, option_map, Some, None, if◌then◌else◌};
 ghost use Rattle.serde_json.specs.View.{view, items_view};
-ghost use Rattle.vortex_type_lines.specs.Parsed.{Gives};
+ghost use Rattle.vortex_lines.specs.Parsed.{Gives};
 ghost use Rattle.vortex_lines.specs.Line.{layout_named, layouts_of, layouts_in, rows_in, create_in, append_in, scan_in, verb_named, command_in, command_of};
 ghost use Rattle.vortex_lines.specs.View.{layout_of, verb_of, shown};
 ghost use Rattle.vortex_types.specs.View.{kind_of};
@@ -9,13 +9,12 @@ ghost use Rattle.vortex_values.specs.View.{raw_in};
 
 use crate::paths::read_paths;
 use crate::predicates::read_predicate;
+use crate::{Fault, is_whole, one_if_there, parse, read_dtype, read_rows, size};
 use serde_json::Value;
 use std::alloc::Global;
 use vortex_expr::expression::Expression;
 use vortex_paths::path::FieldPath;
-use vortex_row_lines::read_rows;
 use vortex_schema::layout::Layout;
-use vortex_type_lines::{Fault, is_whole, one_if_there, parse, read_dtype, size};
 use vortex_types::dtype::DType;
 use vortex_values::scalar_value::ScalarValue;
 
@@ -88,14 +87,17 @@ fn read_create(alloc: Global, size: usize, value: &Value) -> Result<Command, Fau
         return Err(Fault::Bad);
     }
     let dtype = read_dtype(alloc, value.get("dtype").ok_or(Fault::Bad)?)?;
-    let length = value
-        .get("length")
-        .and_then(Value::as_u64)
-        .ok_or(Fault::Bad)?;
-    Ok(Command::Create {
-        dtype,
-        length: length as usize,
-    })
+    match value.get("length").and_then(Value::as_u64) {
+        Some(length) => Ok(Command::Create {
+            dtype,
+            length: length as usize,
+        }),
+        None => {
+            // (by a call, since in place each form of the type would be walked in the proof)
+            drop(dtype);
+            Err(Fault::Bad)
+        }
+    }
 }
 
 /// The rows of an append. Each is given up as soon as it was read, so that the JSON value and the rows are never both there in full.
@@ -123,12 +125,18 @@ fn read_append(alloc: Global, size: usize, value: &mut Value) -> Result<Command,
     }
     let layouts = read_layouts(alloc, value.get("layouts"))?;
     let dtype = read_dtype(alloc, value.get("dtype").ok_or(Fault::Bad)?)?;
-    let values = take_rows(alloc, value, &dtype)?;
-    Ok(Command::Append {
-        dtype,
-        values,
-        layouts,
-    })
+    match take_rows(alloc, value, &dtype) {
+        Ok(values) => Ok(Command::Append {
+            dtype,
+            values,
+            layouts,
+        }),
+        Err(fault) => {
+            // (by a call, since in place each form of the type would be walked in the proof)
+            drop(dtype);
+            Err(fault)
+        }
+    }
 }
 
 fn read_scan(alloc: Global, size: usize, value: &Value) -> Result<Command, Fault>

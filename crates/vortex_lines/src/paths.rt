@@ -2,15 +2,15 @@
 ghost use Rattle.std.specs.Prelude.{◌≡◌, map, option_map};
 ghost use Rattle.serde_json.specs.View.{view, items_view};
 ghost use Rattle.vortex_paths.specs.View.{step_of, steps_of};
-ghost use Rattle.vortex_type_lines.specs.Parsed.{Gives};
+ghost use Rattle.vortex_lines.specs.Parsed.{Gives};
 ghost use Rattle.vortex_lines.specs.Where.{step_in, steps_in, path_in, paths_in};
 
+use crate::Fault;
 use serde_json::Value;
 use std::alloc::Global;
 use vortex_kinds::field_names::FieldName;
 use vortex_paths::field::Field;
 use vortex_paths::path::FieldPath;
-use vortex_type_lines::Fault;
 
 /// A step: a name, or null for the elements of a list.
 fn read_step(alloc: Global, value: &Value) -> Result<Field, Fault>

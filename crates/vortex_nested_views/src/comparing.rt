@@ -11,8 +11,8 @@ use crate::list_scalar::ListScalar;
 use crate::map_scalar::MapScalar;
 use crate::struct_scalar::StructScalar;
 use std::hash::{Hash, Hasher};
-use vortex_order::feed::feed_value;
-use vortex_order::same::same_values;
+use vortex_casts::feed::feed_value;
+use vortex_casts::same::same_values;
 
 impl PartialEq for ListScalar<'_> {
     ghost eq = { on typed_list same_views };

@@ -6,7 +6,7 @@ use crate::ext_scalar::ExtScalar;
 use crate::list_scalar::ListScalar;
 use crate::struct_scalar::StructScalar;
 use std::cmp::Ordering;
-use vortex_order::compare::compare_values;
+use vortex_casts::compare::compare_values;
 
 impl ListScalar<'_> {
     ghost use Rattle.vortex_nested_views.specs.Nested.{typed_list};

@@ -1,2 +1,3 @@
 pub mod Text
 pub mod Answers
+pub mod type_texts

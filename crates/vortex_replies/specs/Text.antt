@@ -6,7 +6,7 @@ use Rattle.json.specs.Print.{quoted}
 use Rattle.vortex_model.specs.Content.{Content, null, truth, whole, text, blob, tuple, Contents, nothing, first}
 use Rattle.vortex_model.specs.Refusal.{Refusal, not_a_record, unkept_type, repeated_name, invalid_value, not_convertible, total, no_such_group, unknown_path, element_step, placeholder, unknown_column, not_a_leaf, unequal_types, not_boolean, unsupported_like, no_table, unsupported_predicate, repeated_path, number_of}
 use Rattle.vortex_model.specs.Scan.{ScanAnswer}
-use Rattle.vortex_type_texts.specs.Text.{flag_text, comma, kind_text}
+use Rattle.vortex_replies.specs.type_texts.Text.{flag_text, comma, kind_text}
 
 -- ---- contents
 

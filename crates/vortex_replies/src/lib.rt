@@ -4,9 +4,10 @@
 mod hexadecimal;
 mod refusals;
 mod scans;
+pub mod type_texts;
 mod values;
 
 pub use refusals::refusal;
 pub use scans::push_scan;
+pub use type_texts::{push_dtype, push_flag, push_number};
 pub use values::{push_cell, push_numbers, push_value};
-pub use vortex_type_texts::{push_dtype, push_flag, push_number};

@@ -3,14 +3,14 @@ ghost use Rattle.std.specs.Prelude.{◌≡◌, ◌++◌, OnOk, false, map};
 ghost use Rattle.vortex_model.specs.Scan.{ScanAnswer as Found};
 ghost use Rattle.vortex_types.specs.View.{kind_of};
 ghost use Rattle.vortex_scalars.specs.Scalar.{scalar_content};
-ghost use Rattle.vortex_cuts.specs.Answer.{answer_of};
+ghost use Rattle.vortex_schema.specs.Answer.{answer_of};
 ghost use Rattle.vortex_replies.specs.Text.{rows_text, scan_text, scan_front_text, scan_end_text};
 
+use crate::type_texts::{push_comma, push_dtype, push_number};
 use crate::values::{push_cell, push_numbers};
 use std::alloc::{AllocError, Global};
-use vortex_cuts::answer::ScanAnswer;
 use vortex_scalars::scalar::Scalar;
-use vortex_type_texts::{push_comma, push_dtype, push_number};
+use vortex_schema::answer::ScanAnswer;
 
 /// Writes the rows with commas between.
 fn push_rows(out: &mut Vec<u8>, rows: &[Scalar]) -> Result<(), AllocError>

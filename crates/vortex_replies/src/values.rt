@@ -7,8 +7,8 @@ ghost use Rattle.vortex_values.specs.View.{raw_of, raw_at, raws_in};
 ghost use Rattle.vortex_replies.specs.Text.{content_text, contents_text, numbers_text};
 
 use crate::hexadecimal::push_bytes;
+use crate::type_texts::{push_comma, push_flag, push_number, push_quoted};
 use std::alloc::AllocError;
-use vortex_type_texts::{push_comma, push_flag, push_number, push_quoted};
 use vortex_values::pvalue::PValue;
 use vortex_values::scalar_value::ScalarValue;
 

@@ -1,4 +1,7 @@
 //! Proofs over statistics: that no row satisfies a predicate, and that every row does.
+//!
+//! Where the second of two trees fails, a call lets go of the first: by `?` it would be let go in place, and each of its forms
+//! walked in the proof.
 ghost use Rattle.std.specs.Prelude.{◌≡◌, IfOk, Some, None, false, not};
 ghost use Rattle.std.specs.Option.{option_map_or};
 ghost use Rattle.vortex_model.specs.Expression.{compare, both, either, equal, not_equal, min, max, statistic};
@@ -24,6 +27,7 @@ use vortex_values::pvalue::PValue;
 use vortex_values::scalar_value::ScalarValue;
 
 /// A proof, over statistics, that no row satisfies a predicate over rows of this type, as Vortex's `falsify`. There may be none.
+#[cycle(falsify)]
 pub fn falsify(
     alloc: Global,
     dtype: &DType,
@@ -36,16 +40,35 @@ pub fn falsify(
         Node::Column(_) => Ok(None),
         Node::Compare(comparison, x, y) => falsify_comparison(alloc, dtype, *comparison, x, y),
         Node::And(x, y) => {
-            let left = falsify(alloc, dtype, x)?;
-            let right = falsify(alloc, dtype, y)?;
+            let (left, right) = falsify_both(alloc, dtype, x, y)?;
             either_proof(alloc, left, right)
         }
         Node::Or(x, y) => {
-            let left = falsify(alloc, dtype, x)?;
-            let right = falsify(alloc, dtype, y)?;
+            let (left, right) = falsify_both(alloc, dtype, x, y)?;
             both_proofs(alloc, left, right)
         }
         Node::Stat(_, _) => Ok(None),
+    }
+}
+
+/// The proofs that no row satisfies each of two predicates.
+#[cycle(falsify)]
+fn falsify_both(
+    alloc: Global,
+    dtype: &DType,
+    x: &Expression,
+    y: &Expression,
+) -> Result<(Option<Expression>, Option<Expression>), AllocError>
+    ensures left { IfOk result (λ proofs. proofs.0 ≡ falsifier (kind_of dtype.now) x.now) }
+    ensures right { IfOk result (λ proofs. proofs.1 ≡ falsifier (kind_of dtype.now) y.now) }
+{
+    let left = falsify(alloc, dtype, x)?;
+    match falsify(alloc, dtype, y) {
+        Ok(right) => Ok((left, right)),
+        Err(error) => {
+            drop(left);
+            Err(error)
+        }
     }
 }
 
@@ -215,8 +238,13 @@ fn guarded_twice(
         (guarded no_nan_by_flag left right x.now y.now (comparison_falsifier (comparison_of comparison) x.now y.now))) }
 {
     let by_count = guarded(alloc, NanGuard::Count, comparison, left, right, x, y)?;
-    let by_flag = guarded(alloc, NanGuard::Flag, comparison, left, right, x, y)?;
-    or(alloc, by_count, by_flag)
+    match guarded(alloc, NanGuard::Flag, comparison, left, right, x, y) {
+        Ok(by_flag) => or(alloc, by_count, by_flag),
+        Err(error) => {
+            drop(by_count);
+            Err(error)
+        }
+    }
 }
 
 /// The proof by the bounds, where the flagged sides hold no NaN.
@@ -249,8 +277,13 @@ fn guarded_by(
 ) -> Result<Expression, AllocError>
     ensures { IfOk result (λ all. all ≡ both guard (comparison_falsifier (comparison_of comparison) x.now y.now)) }
 {
-    let proof = compare_bounds(alloc, comparison, x, y)?;
-    and(alloc, guard, proof)
+    match compare_bounds(alloc, comparison, x, y) {
+        Ok(proof) => and(alloc, guard, proof),
+        Err(error) => {
+            drop(guard);
+            Err(error)
+        }
+    }
 }
 
 /// The proof that no value of either expression is NaN.
@@ -263,8 +296,13 @@ fn no_nan_in_both(
     ensures { IfOk result (λ proof. proof ≡ both (guard_of guard x.now) (guard_of guard y.now)) }
 {
     let first = no_nan(alloc, guard, x)?;
-    let second = no_nan(alloc, guard, y)?;
-    and(alloc, first, second)
+    match no_nan(alloc, guard, y) {
+        Ok(second) => and(alloc, first, second),
+        Err(error) => {
+            drop(first);
+            Err(error)
+        }
+    }
 }
 
 /// The proof that no value of an expression is NaN.
@@ -315,8 +353,13 @@ fn never_equal(alloc: Global, x: &Expression, y: &Expression) -> Result<Expressi
     ensures { IfOk result (λ proof. proof ≡ comparison_falsifier equal x.now y.now) }
 {
     let above = compare_least(alloc, Comparison::Gt, x, y)?;
-    let below = compare_least(alloc, Comparison::Gt, y, x)?;
-    or(alloc, above, below)
+    match compare_least(alloc, Comparison::Gt, y, x) {
+        Ok(below) => or(alloc, above, below),
+        Err(error) => {
+            drop(above);
+            Err(error)
+        }
+    }
 }
 
 /// The proof that all values of both sides are one.
@@ -324,8 +367,13 @@ fn one_value(alloc: Global, x: &Expression, y: &Expression) -> Result<Expression
     ensures { IfOk result (λ proof. proof ≡ comparison_falsifier not_equal x.now y.now) }
 {
     let low = compare_least(alloc, Comparison::Eq, x, y)?;
-    let high = compare_greatest(alloc, Comparison::Eq, x, y)?;
-    and(alloc, low, high)
+    match compare_greatest(alloc, Comparison::Eq, x, y) {
+        Ok(high) => and(alloc, low, high),
+        Err(error) => {
+            drop(low);
+            Err(error)
+        }
+    }
 }
 
 /// A comparison of the least value of the left with the greatest of the right.
@@ -337,9 +385,7 @@ fn compare_least(
 ) -> Result<Expression, AllocError>
     ensures { IfOk result (λ proof. proof ≡ compare (comparison_of comparison) (bound_of min x.now) (bound_of max y.now)) }
 {
-    let least = bound(alloc, AggregateFn::Min, x)?;
-    let greatest = bound(alloc, AggregateFn::Max, y)?;
-    compare(alloc, comparison, least, greatest)
+    compare_by(alloc, comparison, AggregateFn::Min, x, AggregateFn::Max, y)
 }
 
 /// A comparison of the greatest value of the left with the least of the right.
@@ -351,9 +397,29 @@ fn compare_greatest(
 ) -> Result<Expression, AllocError>
     ensures { IfOk result (λ proof. proof ≡ compare (comparison_of comparison) (bound_of max x.now) (bound_of min y.now)) }
 {
-    let greatest = bound(alloc, AggregateFn::Max, x)?;
-    let least = bound(alloc, AggregateFn::Min, y)?;
-    compare(alloc, comparison, greatest, least)
+    compare_by(alloc, comparison, AggregateFn::Max, x, AggregateFn::Min, y)
+}
+
+/// A comparison of a bound of the left with one of the right.
+fn compare_by(
+    alloc: Global,
+    comparison: Comparison,
+    first: AggregateFn,
+    x: &Expression,
+    second: AggregateFn,
+    y: &Expression,
+) -> Result<Expression, AllocError>
+    ensures { IfOk result (λ proof. proof
+        ≡ compare (comparison_of comparison) (bound_of (aggregate_of first) x.now) (bound_of (aggregate_of second) y.now)) }
+{
+    let left = bound(alloc, first, x)?;
+    match bound(alloc, second, y) {
+        Ok(right) => compare(alloc, comparison, left, right),
+        Err(error) => {
+            drop(left);
+            Err(error)
+        }
+    }
 }
 
 /// The least or the greatest value of an expression: a literal is its own.

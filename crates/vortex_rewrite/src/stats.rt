@@ -73,8 +73,14 @@ fn bind_both<B: StatBinder>(
     ensures right { IfOk result (λ bound. IsBinding (B.meaning binder.now) y.now bound.1) }
 {
     let left = bind_stats(alloc, x, binder)?;
-    let right = bind_stats(alloc, y, binder)?;
-    Ok((left, right))
+    match bind_stats(alloc, y, binder) {
+        Ok(right) => Ok((left, right)),
+        Err(error) => {
+            // (by a call, since in place each form of the tree would be walked in the proof)
+            drop(left);
+            Err(error)
+        }
+    }
 }
 
 /// What a placeholder is replaced by.
@@ -120,7 +126,10 @@ pub fn prove_with<B: StatBinder>(
     ensures { IfOk result (λ proved. (rows : ℕ) → proved ≡ is_proved (B.meaning binder.now) rows proof.now) }
 {
     let bound = bind_stats(alloc, proof, binder)?;
-    Ok(is_true(value_of_proof(&bound)))
+    let proved = is_true(value_of_proof(&bound));
+    // (by a call, since in place each form of the tree would be walked in the proof)
+    drop(bound);
+    Ok(proved)
 }
 
 /// Whether an expression has a column outside a placeholder.

@@ -1,1 +1,5 @@
 pub mod Reading
+mod Compared
+mod Converted
+mod Steps
+pub mod Told

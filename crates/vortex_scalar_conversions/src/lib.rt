@@ -1,7 +1,11 @@
-//! What the machine's types are read from, with memory, and the values of extension types whose meaning is known.
+//! More of values with their type: what the machine's types are read from, values of extension types whose meaning is known,
+//! zeros and defaults, and laws of casts and of the order.
 #![tactic(auto)]
 
+pub mod casts;
+pub mod defaults;
 pub mod ext_dtype_scalar_ext;
 pub mod from_scalar;
+pub mod laws;
 mod leaves;
 mod lists;

@@ -13,7 +13,7 @@ use Rattle.vortex_values.specs.Numbers.{integer_of, kind_of_number, raw_of_numbe
 use Rattle.vortex_values.specs.Parts.{as_number}
 use Rattle.vortex_values.specs.declared.pvalue.PValue.{PValue}
 use Rattle.vortex_values.proofs.Nulls.{never_null}
-use Rattle.vortex_order.proofs.Ordered.{int_alike}
+use Rattle.vortex_casts.proofs.Ordered.{int_alike}
 use Rattle.vortex_scalars.specs.Reinterpreted.{is_as_wide, HaveTheSameBytes}
 
 pub null_stays : (k : Kind) (t : NumberKind) → is_as_wide k t ≡ true → valid k raw_null ≡ true → valid (type_of_numbers t (nullability_of k)) raw_null ≡ true

@@ -6,10 +6,10 @@ use Rattle.vortex_model.specs.Content.{Content}
 use Rattle.vortex_model.proofs.Tests.{kind_so}
 use Rattle.vortex_records.specs.Feeding.{kind_writes}
 use Rattle.vortex_records.proofs.Lawful.{equal_equiv, fed_alike}
-use Rattle.vortex_order.specs.Feeding.{content_writes}
-use Rattle.vortex_order.specs.Same.{same_content}
-use Rattle.vortex_order.proofs.Fed.{same_fed}
-use Rattle.vortex_order.proofs.Sameness.{same_equiv}
+use Rattle.vortex_casts.specs.Feeding.{content_writes}
+use Rattle.vortex_casts.specs.Same.{same_content}
+use Rattle.vortex_casts.proofs.Fed.{same_fed}
+use Rattle.vortex_casts.proofs.Sameness.{same_equiv}
 use Rattle.vortex_scalars.specs.Scalar.{scalar_kind, scalar_content}
 use Rattle.vortex_scalars.specs.declared.scalar.Scalar.{Scalar}
 

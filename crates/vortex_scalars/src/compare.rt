@@ -7,9 +7,9 @@ ghost use Rattle.vortex_scalars.specs.Same.{same_scalar, same_scalar_equiv, scal
 use crate::scalar::Scalar;
 use std::cmp::Ordering;
 use std::hash::{Hash, Hasher};
-use vortex_order::compare::compare_values;
-use vortex_order::feed::feed_value;
-use vortex_order::same::same_values;
+use vortex_casts::compare::compare_values;
+use vortex_casts::feed::feed_value;
+use vortex_casts::same::same_values;
 use vortex_records::dtype_ext::DTypeExt;
 
 impl Scalar {

@@ -1,2 +1,4 @@
 pub mod Fault
 pub mod Leaves
+pub mod Answer
+pub mod Cut

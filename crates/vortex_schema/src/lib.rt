@@ -1,6 +1,9 @@
-//! Types of tables: which a table can hold, and where their leaves stand.
+//! Types of tables: which a table can hold, where their leaves stand, and what paths ask for of a type and of its values.
 #![tactic(auto)]
 
+pub mod answer;
+pub mod cut;
 pub mod kept;
 pub mod layout;
 pub mod leaves;
+pub mod projection;

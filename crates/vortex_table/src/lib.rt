@@ -3,6 +3,10 @@
 //! Each module gathers one layer: types, values, predicates, the table, and the lines.
 #![tactic(auto)]
 
+mod commands;
+mod refused;
+mod session;
+
 /// Types, names, paths and messages.
 pub mod dtype {
     pub use vortex_dtype::{
@@ -53,13 +57,14 @@ pub mod expr {
 pub mod table {
     pub use vortex_chunks::error::TableError;
     pub use vortex_chunks::table::Table;
-    pub use vortex_cuts::answer::ScanAnswer;
+    pub use vortex_schema::answer::ScanAnswer;
     pub use vortex_schema::layout::Layout;
 }
 
 /// Lines to commands, and commands to answers.
 pub mod run {
-    pub use vortex_run::{Session, run};
+    pub use crate::commands::run;
+    pub use crate::session::Session;
     pub use vortex_streams::{
         Machine, MemorySink, MemorySource, RunError, ShortText, Sink, Source, Spoken, Tap,
     };

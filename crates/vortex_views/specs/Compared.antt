@@ -8,9 +8,9 @@ use Rattle.vortex_model.specs.Kind.{Kind, bare, equal_ignoring_nullability}
 use Rattle.vortex_model.specs.Content.{Content, content_of}
 use Rattle.vortex_model.specs.Order.{scalar_cmp}
 use Rattle.vortex_types.specs.Equal.{same_kind_equiv}
-use Rattle.vortex_order.specs.Feeding.{content_writes}
-use Rattle.vortex_order.proofs.Fed.{same_fed}
-use Rattle.vortex_order.proofs.Sameness.{same_equiv}
+use Rattle.vortex_casts.specs.Feeding.{content_writes}
+use Rattle.vortex_casts.proofs.Fed.{same_fed}
+use Rattle.vortex_casts.proofs.Sameness.{same_equiv}
 use Rattle.vortex_scalars.specs.Same.{same_typed}
 use Rattle.vortex_views.specs.Forms.{Typed}
 

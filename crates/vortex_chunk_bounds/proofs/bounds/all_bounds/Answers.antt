@@ -1,5 +1,5 @@
 use Rattle.std.proofs.Common.{subst}
-use Rattle.vortex_zones.specs.Bounds.{IsBoundsOf}
+use Rattle.vortex_chunk_bounds.specs.zones.Bounds.{IsBoundsOf}
 use Rattle.vortex_chunk_bounds.specs.Bounds.{column_at}
 use Rattle.vortex_chunk_bounds.proofs.LeafBounds.{leaf_pushed}
 use Rattle.vortex_chunk_bounds.proofs.bounds.all_bounds.Goals as goal

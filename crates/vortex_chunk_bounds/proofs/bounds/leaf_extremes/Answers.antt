@@ -1,5 +1,5 @@
 use Rattle.std.proofs.Common.{◌<◌, ◌^◌, ◌∙◌, ◌∷◌, sym, length, drop, arith, subst}
-use Rattle.vortex_zones.specs.Bounds.{IsExtremesOf}
+use Rattle.vortex_chunk_bounds.specs.zones.Bounds.{IsExtremesOf}
 use Rattle.vortex_chunk_bounds.specs.Bounds.{column_at}
 use Rattle.vortex_chunk_bounds.proofs.InColumn.{column_before, few_nulls}
 use Rattle.vortex_chunk_bounds.proofs.bounds.leaf_extremes.Goals as goal

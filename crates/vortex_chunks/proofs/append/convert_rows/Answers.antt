@@ -5,7 +5,7 @@ use Rattle.vortex_model.specs.Command.{first_unconvertible}
 use Rattle.vortex_types.specs.View.{kind_of}
 use Rattle.vortex_values.specs.View.{raw_in, raw_at, content_in, content_at}
 use Rattle.vortex_chunk_bounds.specs.Bounds.{row_content}
-use Rattle.vortex_cuts.proofs.Projections.{raw_copied}
+use Rattle.vortex_schema.proofs.Projections.{raw_copied}
 use Rattle.vortex_chunks.specs.Error.{Explains}
 use Rattle.vortex_chunks.proofs.Appends.{said, valid_at, next_is, refused_here, left_behind, row_moved}
 use Rattle.vortex_chunks.proofs.append.convert_rows.Goals as goal

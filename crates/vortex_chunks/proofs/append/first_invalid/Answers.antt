@@ -3,7 +3,7 @@ use Rattle.vortex_model.specs.Valid.{valid}
 use Rattle.vortex_types.specs.View.{kind_of}
 use Rattle.vortex_values.specs.View.{raw_in, raw_at}
 use Rattle.vortex_chunks.proofs.Appends.{invalid_here, valid_here}
-use Rattle.vortex_cuts.proofs.Projections.{raw_copied}
+use Rattle.vortex_schema.proofs.Projections.{raw_copied}
 use Rattle.vortex_chunks.proofs.append.first_invalid.Goals as goal
 
 pub returns-then-not-validate : goal.returns-then-not-validate

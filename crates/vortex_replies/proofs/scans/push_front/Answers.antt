@@ -1,4 +1,4 @@
-use Rattle.vortex_type_texts.proofs.Pieces.{five_pieces}
+use Rattle.vortex_replies.proofs.type_texts.Pieces.{five_pieces}
 use Rattle.vortex_replies.proofs.scans.push_front.Goals as goal
 
 pub returns : goal.returns

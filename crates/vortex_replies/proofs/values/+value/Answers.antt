@@ -3,7 +3,7 @@ use Rattle.vortex_model.specs.Content.{Raw, raw_tuple, content_of, contents_of}
 use Rattle.vortex_values.specs.View.{raw_of, raws_in}
 use Rattle.vortex_values.proofs.Views.{raw_of-Tuple}
 use Rattle.vortex_replies.specs.Text.{content_text, contents_text}
-use Rattle.vortex_type_texts.proofs.Pieces.{three_pieces}
+use Rattle.vortex_replies.proofs.type_texts.Pieces.{three_pieces}
 use Rattle.vortex_replies.proofs.values.+value.Goals as goal
 
 pub push_value-returns-in_ok-extend_from_slice-in-Tuple-2 : goal.push_value-returns-in_ok-extend_from_slice-in-Tuple-2

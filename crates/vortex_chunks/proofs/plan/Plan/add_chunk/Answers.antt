@@ -1,6 +1,6 @@
 use Rattle.std.proofs.Common.{◌≡◌, ◌∙◌, ◌+◌, ap, refl, is_some}
 use Rattle.vortex_model.specs.Scan.{Outcome, chunk_outcome, is_skipped, is_whole, saturated}
-use Rattle.vortex_cuts.specs.Answer.{answer_of}
+use Rattle.vortex_schema.specs.Answer.{answer_of}
 use Rattle.vortex_chunk_bounds.specs.Chunk.{chunk_rows}
 use Rattle.vortex_chunks.specs.Outcome.{outcome_of}
 use Rattle.vortex_chunks.specs.Plan.{table_in, paths_in, predicate_in}

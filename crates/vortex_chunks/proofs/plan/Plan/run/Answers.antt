@@ -1,6 +1,6 @@
 use Rattle.std.proofs.Common.{◌≡◌, ◌<◌, ◌≤◌, sym, ap, ◌∙◌, subst, length, get_or, All}
 use Rattle.vortex_scalars.specs.Scalar.{scalar_kind}
-use Rattle.vortex_cuts.specs.Answer.{answer_of}
+use Rattle.vortex_schema.specs.Answer.{answer_of}
 use Rattle.vortex_chunks.proofs.Run.{one_ahead, none_ahead, all_ahead}
 use Rattle.vortex_chunks.proofs.plan.Plan.run.Goals as goal
 

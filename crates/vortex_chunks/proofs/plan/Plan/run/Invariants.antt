@@ -1,7 +1,7 @@
 use Rattle.std.proofs.Common.{◌≡◌, All, drop}
 use Rattle.vortex_types.specs.View.{kind_of}
 use Rattle.vortex_scalars.specs.Scalar.{scalar_kind}
-use Rattle.vortex_cuts.specs.Answer.{answer_of}
+use Rattle.vortex_schema.specs.Answer.{answer_of}
 use Rattle.vortex_chunks.specs.Plan.{table_in, paths_in}
 use Rattle.vortex_chunks.specs.Progress.{no_answer}
 use Rattle.vortex_chunks.proofs.Run.{ahead}

@@ -1,4 +1,4 @@
-use Rattle.std.proofs.Common.{◌∙◌}
+use Rattle.std.proofs.Common.{rules, ◌<◌, ◌∙◌, sym, subst}
 use Rattle.vortex_model.specs.Kind.{nullability_of}
 use Rattle.vortex_array_model.specs.Layout.{len_of, kind_of, content_at}
 use Rattle.vortex_array_model.specs.Picks.{position_of}
@@ -7,4 +7,5 @@ use Rattle.vortex_layouts.proofs.Picked.{taken_by_array}
 use Rattle.vortex_layouts.proofs.array.Validity.array_at.Goals as goal
 
 pub returns : goal.returns
-returns c = taken_by_array (valid_of c.args.self.now) (nullability_of (kind_of c.args.indices.now)) (len_of c.args.indices.now) (λ i. position_of (content_at c.args.indices.now i)) c.in_ok-rows.rows c.in_ok-bits.bits c.requires.nullable c.in_ok-rows.ensures (c.in_ok-bits.ensures ∙ c.as_slice.ensures.value ∙ c.in_ok-truths.ensures)
+returns c = taken_by_array (valid_of c.args.self.now) (nullability_of (kind_of c.args.indices.now)) (len_of c.args.indices.now) (λ i. position_of (content_at c.args.indices.now i)) c.in_ok-rows.rows c.in_ok-bits.bits c.requires.nullable c.in_ok-rows.ensures (c.in_ok-bits.ensures.count ∙ c.len.ensures)
+    (λ i l. search (rules, c.in_ok-bits.ensures.bits i (subst (λ k. i < k) (sym c.len.ensures) l)))

@@ -1,4 +1,0 @@
-//! Arrays that are laid out plain from values.
-#![tactic(auto)]
-
-pub mod leaves;

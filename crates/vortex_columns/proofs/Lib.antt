@@ -1,4 +1,0 @@
-pub mod Constants
-pub mod Fields
-pub mod Pushes
-pub mod Steps

@@ -1,3 +1,0 @@
-pub mod ColumnFaults
-pub mod RawParts
-pub mod ZeroCodes

@@ -1,3 +1,0 @@
-pub mod Cuts
-pub mod Paths
-pub mod Projections

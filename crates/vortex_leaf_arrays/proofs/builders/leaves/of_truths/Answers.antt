@@ -1,0 +1,17 @@
+use Rattle.std.proofs.Common.{◌≡◌, ◌≤◌, length, map, sym, ap, subst, ◌∙◌, arith}
+use Rattle.std.proofs.lemmas.List.{take_all}
+use Rattle.vortex_model.specs.Kind.{boolean}
+use Rattle.vortex_kinds.specs.View.{nullability_of_flag}
+use Rattle.vortex_values.specs.View.{raw_at}
+use Rattle.vortex_layouts.specs.LayoutOf.{valid_of}
+use Rattle.vortex_leaf_arrays.specs.builders.Plain.{truth_or_false, IsPlain}
+use Rattle.vortex_leaf_arrays.proofs.builders.PlainLemmas.{plain_truths}
+use Rattle.vortex_leaf_arrays.proofs.builders.leaves.of_truths.Goals as goal
+
+pub returns : goal.returns
+returns c =
+    let all : length c.args.values.now ≤ c.loop-value.value-index = omega (arith, c.loop-value-test.false) in
+    let bits : c.in_ok-bits-2.bits ≡ map truth_or_false (map raw_at c.args.values.now) =
+    c.in_ok-bits-2.ensures ∙ c.as_slice.ensures.value ∙ c.loop-value.invariant ∙ ap (λ vs. map truth_or_false (map raw_at vs)) (take_all c.loop-value.value-index c.args.values.now all) in
+    subst (IsPlain (boolean (nullability_of_flag c.args.nullability)) (map raw_at c.args.values.now)) (sym c.in_ok-array.ensures)
+    (plain_truths (nullability_of_flag c.args.nullability) (map raw_at c.args.values.now) (valid_of c.in_ok-validity.validity) c.in_ok-bits-2.bits bits c.in_ok-validity.ensures)

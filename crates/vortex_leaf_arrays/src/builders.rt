@@ -1,0 +1,2 @@
+//! Arrays that are laid out plain from values.
+pub mod leaves;

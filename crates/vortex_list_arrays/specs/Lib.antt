@@ -1,3 +1,0 @@
-pub mod FixedLists
-pub mod ListViews
-pub mod Parts

@@ -1,0 +1,4 @@
+pub mod BoundsLemmas
+pub mod ListLemmas
+pub mod SliceLemmas
+pub mod CodeLemmas

@@ -1,0 +1,5 @@
+pub mod FixedLists
+pub mod ListViews
+pub mod Parts
+pub mod Shapes
+pub mod Faults

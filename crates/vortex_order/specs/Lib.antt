@@ -1,3 +1,0 @@
-pub mod Feeding
-pub mod Laws
-pub mod Same

@@ -1,4 +1,0 @@
-mod Compared
-mod Converted
-mod Steps
-pub mod Told

@@ -1,0 +1,46 @@
+//! The fields of one record that stands in each row.
+ghost use Rattle.std.specs.Prelude.{◌≡◌, ◌∷◌, [], ℕ, IfOk, IfErr};
+ghost use Rattle.vortex_array_model.specs.Layout.{constant};
+ghost use Rattle.vortex_array_model.specs.Column.{IsColumn};
+ghost use Rattle.vortex_scalars.specs.Scalar.{scalar_kind, scalar_raw};
+ghost use Rattle.vortex_values.specs.View.{raw_at};
+ghost use Rattle.vortex_struct_arrays.specs.ColumnFaults.{IsColumnFault};
+ghost use Rattle.vortex_struct_arrays.specs.RawParts.{raw_part};
+
+use vortex_array_errors::error::ArrayError;
+use vortex_kinds::field_names::FieldName;
+use vortex_scalars::scalar::Scalar;
+use vortex_values::clone::copy_value;
+use vortex_values::scalar_value::ScalarValue;
+
+/// The first field of this name in the record, null where the record is.
+#[tactic(auto, using(crate::proofs::Constants::picked))]
+pub(crate) fn field_of_constant(scalar: &Scalar, name: &FieldName) -> Result<Scalar, ArrayError>
+    ensures made { IfOk result (λ field. (n : ℕ) → IsColumn (constant (scalar_kind scalar.now) (scalar_raw scalar.now) n) (name.now ∷ []) (constant (scalar_kind field) (scalar_raw field) n)) }
+    ensures refused { IfErr result (λ e. (n : ℕ) → IsColumnFault e (constant (scalar_kind scalar.now) (scalar_raw scalar.now) n) (name.now ∷ [])) }
+{
+    let Some(fields) = scalar.dtype().as_struct_fields_opt() else {
+        return Err(ArrayError::NoSuchField);
+    };
+    let Some(place) = fields.find(name) else {
+        return Err(ArrayError::NoSuchField);
+    };
+    let Some(dtype) = fields.field_by_index(place) else {
+        return Err(ArrayError::NoSuchField);
+    };
+    let dtype = dtype.union_nullability(scalar.dtype().nullability())?;
+    let value = copy_value(value_at(scalar.value(), place))?;
+    Ok(Scalar::new_unchecked(dtype, value))
+}
+
+/// What a record has at a place, and null of null.
+#[tactic(auto, using(crate::proofs::Constants::parts))]
+fn value_at(value: Option<&ScalarValue>, place: usize) -> Option<&ScalarValue>
+    ensures { raw_at result ≡ raw_part (raw_at value.entry) place }
+{
+    let values = value?.as_list()?;
+    if place >= values.len() {
+        return None;
+    }
+    values[place].as_ref()
+}

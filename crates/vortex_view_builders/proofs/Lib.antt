@@ -1,3 +1,0 @@
-pub mod Cut
-pub mod Placed
-pub mod Counted

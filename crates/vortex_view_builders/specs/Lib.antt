@@ -1,3 +1,0 @@
-pub mod Cuttings
-pub mod Lengths
-pub mod Built
