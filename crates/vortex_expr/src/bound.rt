@@ -22,13 +22,25 @@ pub struct BoundExpression {
 }
 
 #[cycle(bound)]
-#[derive(Drop)]
 pub(crate) enum BoundNode {
     Literal(Option<ScalarValue>),
     Column(Vec<usize>),
     Compare(Comparison, Box<BoundExpression>, Box<BoundExpression>),
     And(Box<BoundExpression>, Box<BoundExpression>),
     Or(Box<BoundExpression>, Box<BoundExpression>),
+}
+
+impl Drop for BoundNode {
+    #[cycle(drop_bound_node)]
+    fn drop(self) {
+        match self {
+            BoundNode::Literal(_value) => {}
+            BoundNode::Column(_path) => {}
+            BoundNode::Compare(_, _left, _right) => {}
+            BoundNode::And(_left, _right) => {}
+            BoundNode::Or(_left, _right) => {}
+        }
+    }
 }
 
 impl Model for BoundExpression {

@@ -20,7 +20,6 @@ pub struct Expression {
 
 /// What stands at the top of an expression.
 #[cycle(expression)]
-#[derive(Drop)]
 pub enum Node {
     Literal(Scalar),
     Column(FieldNames),
@@ -28,6 +27,20 @@ pub enum Node {
     And(Box<Expression>, Box<Expression>),
     Or(Box<Expression>, Box<Expression>),
     Stat(AggregateFn, Box<Expression>),
+}
+
+impl Drop for Node {
+    #[cycle(drop_node)]
+    fn drop(self) {
+        match self {
+            Node::Literal(_value) => {}
+            Node::Column(_path) => {}
+            Node::Compare(_, _left, _right) => {}
+            Node::And(_left, _right) => {}
+            Node::Or(_left, _right) => {}
+            Node::Stat(_, _input) => {}
+        }
+    }
 }
 
 impl Model for Expression {

@@ -1,9 +1,7 @@
 -- The rows at positions.
-use Rattle.std.proofs.Common.{◌≡◌, ◌<◌, ℕ, ℤ, pos, Bool, false, List, [], ◌∷◌, length, get_or, map, drop, Option, Some, None, refl, sym, ap, subst, ◌∙◌, arith}
+use Rattle.std.proofs.Common.{◌≡◌, ◌<◌, ℕ, ℤ, pos, Bool, false, List, [], length, get_or, map, Some, refl, sym, ap, subst, ◌∙◌, arith}
 use Rattle.std.specs.List.{All, slice_get}
-use Rattle.std.specs.Option.{option_map}
 use Rattle.std.proofs.lemmas.List.{get_or-map, length-map}
-use Rattle.std.proofs.lemmas.Option.{get_or_from_slice_get, slice_get-map}
 use Rattle.vortex_model.specs.Kind.{Kind, IntKind, u64}
 use Rattle.vortex_model.specs.Content.{whole, Raw}
 use Rattle.vortex_model.specs.Valid.{InRange, IsValid}
@@ -11,35 +9,13 @@ use Rattle.vortex_array_model.specs.Layout.{Strings, Layout, bools, numbers, str
 use Rattle.vortex_array_model.specs.Picks.{Picks, PicksValid}
 use Rattle.vortex_array_model.proofs.PicksLemmas.{no_flag, picks_bools, picks_numbers, picks_strings, picks_constant, picks_dictionary, picks_list_views, picks_records, picks_required, picks_all_valid, picks_all_null}
 use Rattle.vortex_array_model.proofs.SomeLemmas.{same_type}
+use Rattle.vortex_numbers.proofs.NumberLemmas.{items_read}
 use Rattle.vortex_buffers.specs.Bits.{positions_of}
 use Rattle.vortex_buffers.proofs.Positions.{positions_within}
 
 -- the position at a place of the positions
 abbrev pub at_place : List ℕ → ℕ → ℕ
 at_place ps i = get_or ps i 0
-
--- items that were read one by one
-pub items_read : {X : Type 0} (xs ys : List X) (ps : List ℕ) (d : X) → map Some ys ≡ map (slice_get xs) ps → ys ≡ map (λ i. get_or xs i d) ps
-items_read xs [] [] d e = refl
-items_read xs [] (p ∷ ps) d e = absurd (cc (e))
-items_read xs (y ∷ ys) [] d e = absurd (cc (e))
-items_read {X} xs (y ∷ ys) (p ∷ ps) d e =
-    let first : slice_get xs p ≡ Some y = sym (ap (λ (l : List (Option X)). get_or l 0 None) e) in
-    let rest : map Some ys ≡ map (slice_get xs) ps = ap (drop 1) e in
-    (λ t. sym (get_or_from_slice_get xs p y d first) t ∷ items_read xs ys ps d rest t)
-
-pub integers_read : (xs ys : List ℤ) (ps : List ℕ) → map Some ys ≡ map (slice_get xs) ps → ys ≡ map (λ i. get_or xs i (pos 0)) ps
-integers_read xs ys ps e = items_read xs ys ps (pos 0) e
-
-pub naturals_read : (xs ys : List ℕ) (ps : List ℕ) → map Some ys ≡ map (slice_get xs) ps → map pos ys ≡ map (λ i. get_or (map pos xs) i (pos 0)) ps
-naturals_read xs [] [] e = refl
-naturals_read xs [] (p ∷ ps) e = absurd (cc (e))
-naturals_read xs (y ∷ ys) [] e = absurd (cc (e))
-naturals_read xs (y ∷ ys) (p ∷ ps) e =
-    let first : slice_get xs p ≡ Some y = sym (ap (λ (l : List (Option ℕ)). get_or l 0 None) e) in
-    let rest : map Some ys ≡ map (slice_get xs) ps = ap (drop 1) e in
-    let here : get_or (map pos xs) p (pos 0) ≡ pos y = get_or_from_slice_get (map pos xs) p (pos y) (pos 0) (slice_get-map pos xs p ∙ ap (option_map pos) first) in
-    (λ t. sym here t ∷ naturals_read xs ys ps rest t)
 
 pub gathers_bools : (xs ys : List Bool) (v w : Valid) (ps : List ℕ) → ys ≡ map (λ i. get_or xs i false) ps → PicksValid v w (length ps) (λ i. get_or ps i 0) → Picks (bools xs v) (bools ys w) (length ps) (λ i. get_or ps i 0)
 gathers_bools xs ys v w ps e p = picks_bools xs ys v w (length ps) (at_place ps) (ap length e ∙ length-map ps (λ i. get_or xs i false)) (λ i l. ap (λ zs. get_or zs i false) e ∙ get_or-map (λ j. get_or xs j false) ps i 0 false l) p

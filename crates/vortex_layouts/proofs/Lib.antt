@@ -3,3 +3,4 @@ pub mod Makers
 pub mod RawRowsLemmas
 pub mod Picked
 pub mod Reading
+pub mod Sizes

@@ -1,10 +1,11 @@
 -- What is read at a position.
-use Rattle.std.proofs.Common.{◌≡◌, ◌↔◌, ◌&&◌, ℕ, true, false, not, Bool, cond, IsTrue, List, refl}
+use Rattle.std.proofs.Common.{◌≡◌, ◌↔◌, ◌&&◌, ℕ, true, false, not, Bool, cond, IsTrue, List, Some, None, refl}
 use Rattle.vortex_model.specs.Kind.{Nullability, non_nullable, nullable, Kind, boolean, integer, with_nullability, nullability_of, is_nullable}
-use Rattle.vortex_model.specs.Content.{null, is_null, content_of, Raw, raw_null, raw_number}
+use Rattle.vortex_model.specs.Content.{null, is_null, content_of, Raw, raw_null, raw_truth, raw_number}
 use Rattle.vortex_model.specs.Valid.{IsValid}
 use Rattle.vortex_types.specs.Parts.{is_integer_kind, is_boolean_kind}
-use Rattle.vortex_values.specs.Parts.{whole_in}
+use Rattle.vortex_values.specs.Parts.{truth_in, as_number, whole_in}
+use Rattle.vortex_values.proofs.Views.{whole_in-number}
 use Rattle.vortex_array_model.specs.Layout.{Strings, texts, blobs, kind_of_strings, IsInteger, IsOffsets, string_content, is_truth}
 use Rattle.vortex_layouts.specs.LayoutOf.{integer_content}
 
@@ -25,6 +26,21 @@ constant_integer (integer i n) raw_null h v = refl
 constant_integer (integer i n) (raw_number j z) h v = refl
 constant_integer (integer i n) r h v = absurd v
 constant_integer k r h v = absurd h
+
+pub no_number : (r : Raw) → None ≡ as_number r → whole_in r ≡ None
+no_number (raw_number j z) e = absurd (cc (e))
+no_number r e = refl
+
+pub truth_held : (r : Raw) (b : Bool) → Some b ≡ truth_in r → is_truth (content_of r) ≡ b
+truth_held (raw_truth c) b e = cc (e)
+truth_held r b e = absurd (cc (e))
+
+pub no_truth_held : (r : Raw) → None ≡ truth_in r → is_truth (content_of r) ≡ false
+no_truth_held (raw_truth b) e = absurd (cc (e))
+no_truth_held r e = refl
+
+-- what a constant's value holds
+pub ruleset held = (whole_in-number, no_number, truth_held, no_truth_held)
 
 pub ruleset integers = (integer_kind, values_are_integers, strings_are_no_integers, constant_integer)
 

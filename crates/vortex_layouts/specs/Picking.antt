@@ -1,8 +1,9 @@
 -- When a slice and a take are refused.
-use Rattle.std.specs.Prelude.{◌<◌, ◌≤◌, ℕ, IsTrue}
+use Rattle.std.specs.Prelude.{◌≤◌, ℕ, IsTrue}
 use Rattle.vortex_model.specs.Kind.{Kind, integer}
 use Rattle.vortex_kinds.specs.Numbers.{is_natural}
-use Rattle.vortex_array_model.specs.Layout.{Layout, len_of, kind_of, content_at, IsCode}
+use Rattle.vortex_array_model.specs.Layout.{Layout, kind_of}
+use Rattle.vortex_array_model.specs.Parts.{AreWithin}
 use Rattle.vortex_array_errors.specs.declared.error.ArrayError.{ArrayError}
 use Rattle.vortex_array_errors.specs.declared.error.ArrayError.TheVariants.{Memory, OutOfRange, WrongType}
 
@@ -10,10 +11,6 @@ use Rattle.vortex_array_errors.specs.declared.error.ArrayError.TheVariants.{Memo
 abbrev pub IsUnsigned : Kind → Type 0
 IsUnsigned (integer k n) = IsTrue (is_natural k)
 IsUnsigned k = ⊥
-
--- each position that is not null is one of so many rows
-abbrev pub AreWithin : Layout → ℕ → Type 0
-AreWithin positions n = (i : ℕ) → i < len_of positions → IsCode n (content_at positions i)
 
 -- of so many rows, those from a start on and before an end
 abbrev pub IsSliceFault : ArrayError → ℕ → ℕ → ℕ → Type 0

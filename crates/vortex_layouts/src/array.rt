@@ -35,7 +35,6 @@ pub struct ArrayData {
 
 /// What stands for the values.
 #[cycle(array)]
-#[derive(Drop)]
 pub enum ArrayLayout {
     /// Truth values.
     Bool(BitBuffer, Validity),
@@ -56,9 +55,24 @@ pub enum ArrayLayout {
     Struct(Rc<FieldNames>, Vec<ArrayRef>, usize, Validity),
 }
 
+impl Drop for ArrayLayout {
+    #[cycle(drop_array)]
+    fn drop(self) {
+        match self {
+            ArrayLayout::Bool(_bits, _validity) => {}
+            ArrayLayout::Primitive(_items, _validity) => {}
+            ArrayLayout::VarBinView(_, _views, _buffers, _validity) => {}
+            ArrayLayout::Constant(_scalar, _) => {}
+            ArrayLayout::Dict(_codes, _values, _) => {}
+            ArrayLayout::FixedSizeList(_elements, _, _, _validity) => {}
+            ArrayLayout::ListView(_elements, _offsets, _sizes, _, _validity) => {}
+            ArrayLayout::Struct(_names, _fields, _, _validity) => {}
+        }
+    }
+}
+
 /// Which rows of an array are null, as Vortex's `Validity`. A clone shares the array.
 #[cycle(array)]
-#[derive(Drop)]
 pub enum Validity {
     /// No row can be null.
     NonNullable,
@@ -68,6 +82,18 @@ pub enum Validity {
     AllInvalid,
     /// The rows where the array is false.
     Array(ArrayRef),
+}
+
+impl Drop for Validity {
+    #[cycle(drop_array)]
+    fn drop(self) {
+        match self {
+            Validity::NonNullable => {}
+            Validity::AllValid => {}
+            Validity::AllInvalid => {}
+            Validity::Array(_valid) => {}
+        }
+    }
 }
 
 /// What views of sixteen bytes stand for.

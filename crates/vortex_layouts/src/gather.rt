@@ -132,28 +132,10 @@ fn gather_numbers(
     ensures { IfOk result (λ r. Picks (numbers (kind_of_numbers items.now) (integers_of items.now) (valid_of validity.now)) r
         (length positions.now) (λ i. slice_index_or positions.now i 0)) }
 {
-    let chosen = gather_items(alloc, items, positions)?;
+    let chosen = items.gather(alloc, positions)?;
     chosen.is_in_range();
     let validity = validity.gather(alloc, positions, items.len())?;
     ArrayRef::of_numbers(alloc, chosen, validity)
-}
-
-/// The integers at the positions, whichever of them are null.
-fn gather_items(alloc: Global, items: &Numbers, positions: &[usize]) -> Result<Numbers, AllocError>
-    requires { All (λ i. i < length (integers_of items.now)) positions.now }
-    ensures kind { IfOk result (λ chosen. kind_of_numbers chosen ≡ kind_of_numbers items.now) }
-    ensures items { IfOk result (λ chosen. integers_of chosen ≡ map (λ i. slice_index_or (integers_of items.now) i (pos 0)) positions.now) }
-{
-    match items {
-        Numbers::U8(items) => Ok(Numbers::U8(items.gather(alloc, positions)?)),
-        Numbers::U16(items) => Ok(Numbers::U16(items.gather(alloc, positions)?)),
-        Numbers::U32(items) => Ok(Numbers::U32(items.gather(alloc, positions)?)),
-        Numbers::U64(items) => Ok(Numbers::U64(items.gather(alloc, positions)?)),
-        Numbers::I8(items) => Ok(Numbers::I8(items.gather(alloc, positions)?)),
-        Numbers::I16(items) => Ok(Numbers::I16(items.gather(alloc, positions)?)),
-        Numbers::I32(items) => Ok(Numbers::I32(items.gather(alloc, positions)?)),
-        Numbers::I64(items) => Ok(Numbers::I64(items.gather(alloc, positions)?)),
-    }
 }
 
 /// The texts or bytes at the positions, which lie in the same buffers.

@@ -1,15 +1,13 @@
 //! What stands at a position.
 ghost use Rattle.std.specs.Prelude.{◌≡◌, ◌<◌, ◌↔◌, IsTrue, not};
-ghost use Rattle.vortex_model.specs.Content.{content_of, is_null};
+ghost use Rattle.vortex_model.specs.Content.{is_null};
 ghost use Rattle.vortex_array_model.specs.Layout.{len_of, kind_of, content_at, is_valid, is_truth, IsInteger, HasLength};
 ghost use Rattle.vortex_scalars.specs.Scalar.{scalar_raw, scalar_content};
 ghost use Rattle.vortex_values.specs.Parts.{whole_in};
-ghost use Rattle.vortex_values.specs.View.{raw_of};
 ghost use Rattle.vortex_layouts.specs.LayoutOf.{valid_of, integer_content};
 
 use crate::array::{ArrayLayout, ArrayRef, Validity};
 use vortex_scalars::scalar::Scalar;
-use vortex_values::scalar_value::ScalarValue;
 
 impl ArrayRef {
     /// Whether the values are integers.
@@ -141,45 +139,23 @@ impl Validity {
 }
 
 /// The constant's integer, and `None` for null.
+#[tactic(auto, using(crate::proofs::Reading::held))]
 fn integer_in(scalar: &Scalar) -> Option<i128>
     ensures { result ≡ whole_in (scalar_raw scalar.now) }
 {
-    match scalar.value() {
-        Some(value) => whole_number(value),
+    match scalar.value()?.as_primitive() {
+        Some(number) => Some(number.get()),
         None => None,
     }
 }
 
 /// Whether the constant is true.
+#[tactic(auto, using(crate::proofs::Reading::held))]
 fn truth_in(scalar: &Scalar) -> bool
     ensures { result ≡ is_truth (scalar_content scalar.now) }
 {
     match scalar.value() {
-        Some(value) => is_true(value),
+        Some(value) => value.as_bool().unwrap_or(false),
         None => false,
-    }
-}
-
-/// The integer, where the value is one.
-#[tactic(auto, using(vortex_values::proofs::Views::one_level))]
-fn whole_number(value: &ScalarValue) -> Option<i128>
-    ensures { result ≡ whole_in (raw_of value.now) }
-{
-    match value {
-        ScalarValue::Primitive(number) => Some(number.get()),
-        ScalarValue::Bool(_) | ScalarValue::Utf8(_) | ScalarValue::Binary(_) => None,
-        ScalarValue::Tuple(_) | ScalarValue::Union(_) | ScalarValue::Variant(_) => None,
-    }
-}
-
-/// Whether the value is true.
-#[tactic(auto, using(vortex_values::proofs::Views::one_level))]
-fn is_true(value: &ScalarValue) -> bool
-    ensures { result ≡ is_truth (content_of (raw_of value.now)) }
-{
-    match value {
-        ScalarValue::Bool(flag) => *flag,
-        ScalarValue::Primitive(_) | ScalarValue::Utf8(_) | ScalarValue::Binary(_) => false,
-        ScalarValue::Tuple(_) | ScalarValue::Union(_) | ScalarValue::Variant(_) => false,
     }
 }

@@ -1,7 +1,6 @@
 //! Values of rows.
 ghost use Rattle.std.specs.Prelude.{◌≡◌, ◌<◌, ◌≤◌, ◌+◌, ◌*◌, IfOk, IfErr, All, length, map};
 ghost use Rattle.vortex_array_model.specs.Layout.{bools, numbers, strings, len_of, kind_of, content_at, number_in, IsOffsets, IsView, IsString, IsSound};
-ghost use Rattle.vortex_binary_views.specs.Views.{value_of, HasValue};
 ghost use Rattle.vortex_numbers.specs.Numbers.{kind_of_numbers, integers_of};
 ghost use Rattle.vortex_scalars.specs.Scalar.{scalar_kind, scalar_content};
 ghost use Rattle.vortex_values.specs.View.{raw_of, raw_in, raws_in, raws_from};
@@ -142,7 +141,7 @@ fn string_value(
     ensures { IfOk result (λ value. raw_in value ≡ raw_row (strings (strings_of kind) views.now buffers.now (valid_of validity.now)) i) }
 {
     if validity.is_valid(i, views.len()) {
-        let bytes = viewed_bytes(alloc, &views.get(i), buffers)?;
+        let bytes = views.get(i).value(alloc, buffers)?;
         Ok(Some(of_bytes(kind, bytes)))
     } else {
         Ok(None)
@@ -161,20 +160,6 @@ fn of_bytes(kind: StringKind, bytes: Bytes) -> ScalarValue
     }
 }
 
-/// The bytes that a view stands for. Those of a long one are shared with its buffer.
-fn viewed_bytes(alloc: Global, view: &BinaryView, buffers: &[Bytes]) -> Result<Bytes, AllocError>
-    requires { HasValue view.now buffers.now }
-    ensures { IfOk result (λ bytes. bytes ≡ value_of view.now buffers.now) }
-{
-    if view.is_inlined() {
-        Bytes::copy_from_slice(alloc, view.bytes(buffers))
-    } else {
-        let reference = view.as_view();
-        let buffer = &buffers[reference.buffer_index as usize];
-        buffer.slice(reference.as_range())
-    }
-}
-
 /// Where the elements of a list of this size begin, of so many lists.
 #[tactic(auto, using(crate::proofs::RawRowsLemmas::fixed_within))]
 fn fixed_start(i: usize, size: u32, len: usize, count: usize) -> usize
@@ -188,7 +173,7 @@ fn fixed_start(i: usize, size: u32, len: usize, count: usize) -> usize
 
 /// Where the elements of a list begin, of so many elements, and how many they are.
 #[tactic(auto, using(crate::proofs::Reading::offsets_are_integers))]
-fn view_at(offsets: &ArrayRef, sizes: &ArrayRef, i: usize, count: usize) -> (usize, usize)
+pub fn view_at(offsets: &ArrayRef, sizes: &ArrayRef, i: usize, count: usize) -> (usize, usize)
     requires offset_within { i < len_of offsets.now }
     requires size_within { i < len_of sizes.now }
     requires offsets_kind { IsOffsets (kind_of offsets.now) }

@@ -1,6 +1,6 @@
 //! The rows of a range.
 ghost use Rattle.std.specs.Prelude.{◌≡◌, ◌≤◌, ◌+◌, ◌-◌, ◌*◌, IfOk, IfErr, false, length, slice_range};
-ghost use Rattle.vortex_array_model.specs.Layout.{len_of, IsSound, HasLength, HaveLength, bools, numbers, strings, dictionary, list_views, records};
+ghost use Rattle.vortex_array_model.specs.Layout.{len_of, IsSound, HasLength, HaveLength, bools, numbers, strings};
 ghost use Rattle.vortex_numbers.specs.Numbers.{kind_of_numbers, integers_of};
 ghost use Rattle.vortex_array_model.specs.Parts.{columns_of};
 ghost use Rattle.vortex_array_model.specs.Picks.{Picks, PicksValid, PicksColumns};
@@ -66,7 +66,7 @@ impl ArrayRef {
             }
             ArrayLayout::Dict(codes, values, _) => {
                 let codes = codes.rows_between(alloc, start, end)?;
-                with_values(alloc, codes, values)
+                ArrayRef::of_dict(alloc, codes, values.clone()?, false)
             }
             ArrayLayout::FixedSizeList(elements, size, len, validity) => {
                 let validity = validity.rows_between(alloc, start, end, *len)?;
@@ -78,12 +78,13 @@ impl ArrayRef {
                 let validity = validity.rows_between(alloc, start, end, offsets.len())?;
                 let offsets = offsets.rows_between(alloc, start, end)?;
                 let sizes = sizes.rows_between(alloc, start, end)?;
-                with_elements(alloc, elements, offsets, sizes, *follow, validity)
+                let elements = elements.clone()?;
+                ArrayRef::of_list_views(alloc, elements, offsets, sizes, *follow, validity)
             }
             ArrayLayout::Struct(names, fields, len, validity) => {
                 let validity = validity.rows_between(alloc, start, end, *len)?;
                 let fields = fields_between(alloc, names, fields, *len, start, end)?;
-                with_names(alloc, names, fields, end - start, validity)
+                ArrayRef::of_records(alloc, names.clone()?, fields, end - start, validity)
             }
         }
     }
@@ -190,44 +191,6 @@ fn strings_between(
     let buffers = buffers.clone()?;
     let views = views.slice(start..end)?;
     ArrayRef::of_strings(alloc, kind, views, buffers, validity)
-}
-
-/// A dictionary of these codes, which are some of another's, and of the values of that.
-fn with_values(alloc: Global, codes: ArrayRef, values: &ArrayRef) -> Result<ArrayRef, AllocError>
-    requires { IsSound (dictionary codes values.now false) }
-    ensures { IfOk result (λ r. r ≡ dictionary codes values.now false) }
-{
-    ArrayRef::of_dict(alloc, codes, values.clone()?, false)
-}
-
-/// Lists of these views of the elements.
-fn with_elements(
-    alloc: Global,
-    elements: &ArrayRef,
-    offsets: ArrayRef,
-    sizes: ArrayRef,
-    follow: bool,
-    validity: Validity,
-) -> Result<ArrayRef, AllocError>
-    requires { IsSound (list_views elements.now offsets sizes follow (valid_of validity)) }
-    ensures { IfOk result (λ r. r ≡ list_views elements.now offsets sizes follow (valid_of validity)) }
-{
-    ArrayRef::of_list_views(alloc, elements.clone()?, offsets, sizes, follow, validity)
-}
-
-/// Records of these fields.
-fn with_names(
-    alloc: Global,
-    names: &Rc<FieldNames>,
-    fields: Vec<ArrayRef>,
-    len: usize,
-    validity: Validity,
-) -> Result<ArrayRef, AllocError>
-    requires named { length names.now.value ≡ length fields.items }
-    requires sound { IsSound (records (columns_of names.now.value fields.items) len (valid_of validity)) }
-    ensures { IfOk result (λ r. r ≡ records (columns_of names.now.value fields.items) len (valid_of validity)) }
-{
-    ArrayRef::of_records(alloc, names.clone()?, fields, len, validity)
 }
 
 /// Where the elements lie of the lists of one size from `start` on and before `end`.

@@ -4,7 +4,8 @@ ghost use Rattle.vortex_model.specs.Kind.{nullable, nullability_of, either_nulla
 ghost use Rattle.vortex_array_model.specs.Layout.{len_of, kind_of, nullability_by, content_at, IsInteger, IsCode, HasLength};
 ghost use Rattle.vortex_array_model.specs.Picks.{PicksSome, PicksSomeValid, position_of, is_valid_some};
 ghost use Rattle.vortex_layouts.specs.LayoutOf.{valid_of, integer_content};
-ghost use Rattle.vortex_layouts.specs.Picking.{IsUnsigned, AreWithin, IsTakeFault};
+ghost use Rattle.vortex_layouts.specs.Picking.{IsUnsigned, IsTakeFault};
+ghost use Rattle.vortex_array_model.specs.Parts.{AreWithin};
 
 use crate::array::{ArrayRef, Validity};
 use std::alloc::{AllocError, Global};

@@ -5,7 +5,8 @@ use Rattle.std.proofs.lemmas.Bool.{cases_lt}
 use Rattle.std.proofs.lemmas.List.{get_or_read}
 use Rattle.vortex_binary_views.specs.Views.{value_of, HasValue}
 use Rattle.vortex_array_model.specs.Layout.{Layout, strings, len_of, Strings, texts, Valid, is_valid, IsString, IsSound}
-use Rattle.vortex_leaf_arrays.specs.Strings.{IsStrings, views_in, buffers_in, valid_in}
+use Rattle.vortex_leaf_arrays.specs.Strings.{IsStrings, views_in, buffers_in}
+use Rattle.vortex_array_model.specs.Parts.{valid_in}
 use Rattle.vortex_leaf_arrays.specs.ViewFaults.{HasBadView, HasNoText}
 
 pub bad_view : (views buffers : List (List ℕ)) (v : Valid) (i : ℕ) → i < length views → IsTrue (is_valid v i) → (HasValue (get_or views i []) buffers → ⊥) → HasBadView views buffers v

@@ -29,12 +29,6 @@ abbrev pub integers_in : Layout → List ℤ
 integers_in (numbers k zs v) = zs
 integers_in a = []
 
--- which of the truth values or integers are null
-abbrev pub valid_in : Layout → Valid
-valid_in (bools bs v) = v
-valid_in (numbers k zs v) = v
-valid_in a = required
-
 -- no row is null
 abbrev pub all_valid_by : Nullability → Valid
 all_valid_by non_nullable = required

@@ -2,7 +2,7 @@
 use Rattle.std.specs.Prelude.{◌≡◌, ◌<◌, ℕ, List, [], length, slice_index_or, IsTrue}
 use Rattle.vortex_model.specs.Kind.{Kind, utf8, binary}
 use Rattle.vortex_binary_views.specs.Views.{value_of, HasValue}
-use Rattle.vortex_array_model.specs.Layout.{Layout, strings, Strings, texts, blobs, Valid, required, nullability_by, is_valid, IsString}
+use Rattle.vortex_array_model.specs.Layout.{Layout, strings, Strings, texts, blobs, Valid, nullability_by, is_valid, IsString}
 
 abbrev pub IsStrings : Layout → Type 0
 IsStrings (strings s views buffers v) = Unit {0}
@@ -27,10 +27,6 @@ views_in a = []
 abbrev pub buffers_in : Layout → List (List ℕ)
 buffers_in (strings s views buffers v) = buffers
 buffers_in a = []
-
-abbrev pub valid_in : Layout → Valid
-valid_in (strings s views buffers v) = v
-valid_in a = required
 
 -- if the row is not null, its view has a value, and the value is a text where texts are held
 abbrev pub HasValueAt : List (List ℕ) → List (List ℕ) → Valid → ℕ → Type 0

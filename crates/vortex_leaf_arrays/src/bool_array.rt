@@ -8,7 +8,8 @@ ghost use Rattle.vortex_array_model.specs.Layout.{bools, len_of, kind_of, IsSoun
 ghost use Rattle.vortex_layouts.specs.Faults.{IsValidityFault};
 ghost use Rattle.vortex_layouts.specs.LayoutOf.{valid_of};
 ghost use Rattle.vortex_leaf_arrays.specs.Faults.{IsLeafFault};
-ghost use Rattle.vortex_leaf_arrays.specs.Shapes.{IsBools, bits_in, valid_in};
+ghost use Rattle.vortex_leaf_arrays.specs.Shapes.{IsBools, bits_in};
+ghost use Rattle.vortex_array_model.specs.Parts.{valid_in};
 
 use std::alloc::{AllocError, Global};
 use std::marker::Model;

@@ -9,7 +9,8 @@ ghost use Rattle.vortex_array_model.specs.Layout.{numbers, len_of, kind_of, IsSo
 ghost use Rattle.vortex_layouts.specs.Faults.{IsValidityFault};
 ghost use Rattle.vortex_layouts.specs.LayoutOf.{valid_of};
 ghost use Rattle.vortex_leaf_arrays.specs.Faults.{IsLeafFault};
-ghost use Rattle.vortex_leaf_arrays.specs.Shapes.{IsNumbers, kind_in, integers_in, valid_in, all_valid_by};
+ghost use Rattle.vortex_leaf_arrays.specs.Shapes.{IsNumbers, kind_in, integers_in, all_valid_by};
+ghost use Rattle.vortex_array_model.specs.Parts.{valid_in};
 
 use std::alloc::{AllocError, Global};
 use std::marker::Model;

@@ -1,11 +1,12 @@
 //! Texts and bytes by views of sixteen bytes.
-ghost use Rattle.std.specs.Prelude.{◌≡◌, ◌<◌, ◌==◌, ◌↔◌, [], length, slice_index_or, IsTrue, IfSome, IfNone, IfOk, IfErr, MatchResult};
+ghost use Rattle.std.specs.Prelude.{◌≡◌, ◌<◌, ◌==◌, ◌↔◌, [], length, slice_index_or, IsTrue, IfOk, IfErr, MatchResult};
 ghost use Rattle.vortex_binary_views.specs.Views.{value_of};
 ghost use Rattle.vortex_types.specs.View.{kind_of as type_of};
 ghost use Rattle.vortex_array_model.specs.Layout.{strings, len_of, kind_of, is_valid, IsSound};
 ghost use Rattle.vortex_layouts.specs.LayoutOf.{valid_of, strings_of};
 ghost use Rattle.vortex_leaf_arrays.specs.ViewFaults.{IsStringsFault};
-ghost use Rattle.vortex_leaf_arrays.specs.Strings.{IsStrings, IsStringType, strings_in, views_in, buffers_in, valid_in};
+ghost use Rattle.vortex_leaf_arrays.specs.Strings.{IsStrings, IsStringType, strings_in, views_in, buffers_in};
+ghost use Rattle.vortex_array_model.specs.Parts.{valid_in};
 
 use crate::check::{check_values, check_views};
 use bytes::Bytes;

@@ -87,17 +87,14 @@ fn read_create(alloc: Global, size: usize, value: &Value) -> Result<Command, Fau
         return Err(Fault::Bad);
     }
     let dtype = read_dtype(alloc, value.get("dtype").ok_or(Fault::Bad)?)?;
-    match value.get("length").and_then(Value::as_u64) {
-        Some(length) => Ok(Command::Create {
-            dtype,
-            length: length as usize,
-        }),
-        None => {
-            // (by a call, since in place each form of the type would be walked in the proof)
-            drop(dtype);
-            Err(Fault::Bad)
-        }
-    }
+    let length = value
+        .get("length")
+        .and_then(Value::as_u64)
+        .ok_or(Fault::Bad)?;
+    Ok(Command::Create {
+        dtype,
+        length: length as usize,
+    })
 }
 
 /// The rows of an append. Each is given up as soon as it was read, so that the JSON value and the rows are never both there in full.
@@ -125,18 +122,12 @@ fn read_append(alloc: Global, size: usize, value: &mut Value) -> Result<Command,
     }
     let layouts = read_layouts(alloc, value.get("layouts"))?;
     let dtype = read_dtype(alloc, value.get("dtype").ok_or(Fault::Bad)?)?;
-    match take_rows(alloc, value, &dtype) {
-        Ok(values) => Ok(Command::Append {
-            dtype,
-            values,
-            layouts,
-        }),
-        Err(fault) => {
-            // (by a call, since in place each form of the type would be walked in the proof)
-            drop(dtype);
-            Err(fault)
-        }
-    }
+    let values = take_rows(alloc, value, &dtype)?;
+    Ok(Command::Append {
+        dtype,
+        values,
+        layouts,
+    })
 }
 
 fn read_scan(alloc: Global, size: usize, value: &Value) -> Result<Command, Fault>

@@ -1,16 +1,9 @@
 //! Predicates of a scan from JSON.
-//!
-//! Where the second part of something can't be read, a call lets go of the first: by `?` it would be let go in place, and each
-//! form of its trees walked in the proof.
-ghost use Rattle.std.specs.Prelude.{◌≡◌, Some, None, if◌then◌else◌, option_map, option_and_then};
+ghost use Rattle.std.specs.Prelude.{◌≡◌, option_map, option_and_then};
 ghost use Rattle.serde_json.specs.Find.{at};
 ghost use Rattle.serde_json.specs.View.{view, items_view};
-ghost use Rattle.vortex_model.specs.Content.{content_of};
-ghost use Rattle.vortex_model.specs.Expression.{literal};
 ghost use Rattle.vortex_model.specs.Kept.{is_leaf};
-ghost use Rattle.vortex_model.specs.Valid.{valid};
 ghost use Rattle.vortex_types.specs.View.{kind_of};
-ghost use Rattle.vortex_values.specs.View.{raw_in};
 ghost use Rattle.vortex_expr.specs.Tree.{comparison_of};
 ghost use Rattle.vortex_lines.specs.Parsed.{Gives};
 ghost use Rattle.vortex_lines.specs.Where.{literal_at, literal_kind_in, literal_in, root_literal_in, column_in, operand_named, operand_in, comparison_named, comparison_in, root_named, predicate_in};
@@ -23,7 +16,6 @@ use vortex_expr::operator::Comparison;
 use vortex_kinds::field_names::FieldNames;
 use vortex_scalars::scalar::Scalar;
 use vortex_types::dtype::DType;
-use vortex_values::scalar_value::ScalarValue;
 
 /// Whether a type is a leaf of tables: of truth values, integers, texts or bytes.
 #[tactic(auto, using(crate::proofs::Literals::leaf_kinds))]
@@ -37,42 +29,13 @@ fn is_leaf(dtype: &DType) -> bool
 fn read_literal_at(alloc: Global, dtype: DType, value: &Value) -> Result<Expression, Fault>
     ensures { Gives (λ e. e) result (literal_at (kind_of dtype) (view value.now)) }
 {
-    match read_value(value, alloc, &dtype) {
-        Ok(content) => literal_of(dtype, content),
-        Err(fault) => {
-            drop(dtype);
-            Err(fault)
-        }
-    }
-}
-
-/// The literal of this content, where the type is a leaf and has it.
-fn literal_of(dtype: DType, content: Option<ScalarValue>) -> Result<Expression, Fault>
-    ensures { Gives (λ e. e) result (if is_leaf (kind_of dtype)
-        then (if valid (kind_of dtype) (raw_in content) then Some (literal (kind_of dtype) (content_of (raw_in content))) else None)
-        else None) }
-{
+    let content = read_value(value, alloc, &dtype)?;
     if !is_leaf(&dtype) {
-        drop(dtype);
-        drop(content);
         return Err(Fault::Bad);
     }
     match Scalar::try_new(dtype, content) {
         Ok(scalar) => Ok(lit(scalar)),
         Err(_) => Err(Fault::Bad),
-    }
-}
-
-/// The literal of this type whose content stands at the third place.
-fn read_third(alloc: Global, dtype: DType, value: &Value) -> Result<Expression, Fault>
-    ensures { Gives (λ e. e) result (option_and_then (literal_at (kind_of dtype)) (at 2 (view value.now))) }
-{
-    match value.get(2) {
-        Some(content) => read_literal_at(alloc, dtype, content),
-        None => {
-            drop(dtype);
-            Err(Fault::Bad)
-        }
     }
 }
 
@@ -91,7 +54,7 @@ fn read_literal(alloc: Global, count: usize, value: &Value) -> Result<Expression
     ensures { Gives (λ e. e) result (literal_in count (view value.now)) }
 {
     let dtype = read_literal_type(alloc, count, value)?;
-    read_third(alloc, dtype, value)
+    read_literal_at(alloc, dtype, value.get(2).ok_or(Fault::Bad)?)
 }
 
 /// The same as a predicate, which no literal truth value is so far.
@@ -100,10 +63,9 @@ fn read_root_literal(alloc: Global, count: usize, value: &Value) -> Result<Expre
 {
     let dtype = read_literal_type(alloc, count, value)?;
     if dtype.is_boolean() {
-        drop(dtype);
         return Err(Fault::Bad);
     }
-    read_third(alloc, dtype, value)
+    read_literal_at(alloc, dtype, value.get(2).ok_or(Fault::Bad)?)
 }
 
 /// `["col",name,..]`.
@@ -180,16 +142,9 @@ fn read_comparison(
         return Err(Fault::Bad);
     }
     let left = read_operand_at(alloc, value, 1)?;
-    match read_operand_at(alloc, value, 2) {
-        Ok(right) => {
-            let compared = compare(alloc, comparison, left, right)?;
-            Ok(compared)
-        }
-        Err(fault) => {
-            drop(left);
-            Err(fault)
-        }
-    }
+    let right = read_operand_at(alloc, value, 2)?;
+    let compared = compare(alloc, comparison, left, right)?;
+    Ok(compared)
 }
 
 /// A literal or a column as a predicate.

@@ -8,7 +8,8 @@ use Rattle.vortex_array_errors.specs.declared.error.ArrayError.TheVariants.{Memo
 use Rattle.vortex_array_model.specs.Layout.{Layout, dictionary, len_of, kind_of, content_at, IsInteger, IsCode, IsSound, AllNamed}
 use Rattle.vortex_array_model.specs.Referenced.{MarksNamed}
 use Rattle.vortex_array_model.proofs.ReferencedLemmas.{all_marked, all_named}
-use Rattle.vortex_nested_arrays.specs.Faults.{HasCodes, IsCodesFault, IsDictFault}
+use Rattle.vortex_nested_arrays.specs.Faults.{IsCodesFault, IsDictFault}
+use Rattle.vortex_array_model.specs.Parts.{AreWithin}
 use Rattle.vortex_nested_arrays.specs.Shapes.{codes_in, values_in}
 
 -- codes that make no dictionary are refused
@@ -31,16 +32,16 @@ codes_more c n m h k = record {
   ];
 }
 
-pub codes_all : (c : Layout) (n m : ℕ) → len_of c ≤ n → AreCodes c n m → HasCodes c m
+pub codes_all : (c : Layout) (n m : ℕ) → len_of c ≤ n → AreCodes c n m → AreWithin c m
 codes_all c n m e h = λ i l. h.code i (omega arith)
 
-pub codes_not : (c : Layout) (i m : ℕ) → i < len_of c → (IsCode m (content_at c i) → ⊥) → HasCodes c m → ⊥
+pub codes_not : (c : Layout) (i m : ℕ) → i < len_of c → (IsCode m (content_at c i) → ⊥) → AreWithin c m → ⊥
 codes_not c i m l other h = other (h i l)
 
 pub ruleset codes = (codes_none, codes_more, codes_all, codes_not)
 
 -- a dictionary whose flag is false says nothing of which values are named
-pub unflagged : (c v : Layout) → IsSound c → IsSound v → IsInteger (kind_of c) → HasCodes c (len_of v) → IsSound (dictionary c v false)
+pub unflagged : (c v : Layout) → IsSound c → IsSound v → IsInteger (kind_of c) → AreWithin c (len_of v) → IsSound (dictionary c v false)
 unflagged c v a b k h = (a, b, k, h, λ t. absurd (cc (t)))
 
 -- the same codes and values with a flag that is true of them

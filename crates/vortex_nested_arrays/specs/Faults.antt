@@ -1,17 +1,13 @@
 -- Why codes and values make no dictionary.
-use Rattle.std.specs.Prelude.{◌<◌, ℕ}
 use Rattle.vortex_array_errors.specs.declared.error.ArrayError.{ArrayError}
 use Rattle.vortex_array_errors.specs.declared.error.ArrayError.TheVariants.{Memory, CodeOutOfRange, WrongType}
-use Rattle.vortex_array_model.specs.Layout.{Layout, len_of, kind_of, content_at, IsInteger, IsCode}
-
--- each code that is not null names one of n values
-abbrev pub HasCodes : Layout → ℕ → Type 0
-HasCodes c n = (i : ℕ) → i < len_of c → IsCode n (content_at c i)
+use Rattle.vortex_array_model.specs.Layout.{Layout, len_of, kind_of, IsInteger}
+use Rattle.vortex_array_model.specs.Parts.{AreWithin}
 
 -- the codes are no integers, or one of them names no value
 abbrev pub IsCodesFault : ArrayError → Layout → Layout → Type 0
 IsCodesFault WrongType c v = IsInteger (kind_of c) → ⊥
-IsCodesFault CodeOutOfRange c v = IsInteger (kind_of c) × (HasCodes c (len_of v) → ⊥)
+IsCodesFault CodeOutOfRange c v = IsInteger (kind_of c) × (AreWithin c (len_of v) → ⊥)
 IsCodesFault e c v = ⊥
 
 -- or there is no memory

@@ -1,6 +1,6 @@
 -- The parts of an array of lists. An array of anything else has none: what is said of it here means nothing.
 use Rattle.std.specs.Prelude.{ℕ, Bool, false}
-use Rattle.vortex_array_model.specs.Layout.{Layout, fixed_lists, list_views, Valid, required}
+use Rattle.vortex_array_model.specs.Layout.{Layout, fixed_lists, list_views}
 
 -- the elements of all lists
 abbrev pub elements_of : Layout → Layout
@@ -27,9 +27,3 @@ size_of_each a = 0
 abbrev pub is_flagged : Layout → Bool
 is_flagged (list_views e o s f v) = f
 is_flagged a = false
-
--- which lists are null
-abbrev pub valid_in : Layout → Valid
-valid_in (fixed_lists e s n v) = v
-valid_in (list_views e o s f v) = v
-valid_in a = required

@@ -4,8 +4,8 @@ ghost use Rattle.vortex_array_model.specs.Layout.{len_of, kind_of, number_in, ro
 ghost use Rattle.vortex_array_model.specs.Trimmed.{AreBounds};
 ghost use Rattle.vortex_nested_arrays.specs.ListViews.{LieWithin};
 
-use crate::views::view_at;
 use vortex_layouts::array::ArrayRef;
+use vortex_layouts::scalar::view_at;
 
 /// The least offset and the greatest end of the lists, which lie within so many elements.
 #[tactic(auto, using(crate::proofs::BoundsLemmas::bounds))]

@@ -1,7 +1,7 @@
 //! Which codes name a value.
 ghost use Rattle.std.specs.Prelude.{◌<◌, ◌↔◌, IsTrue};
 ghost use Rattle.vortex_array_model.specs.Layout.{len_of, kind_of, content_at, IsInteger, IsCode};
-ghost use Rattle.vortex_nested_arrays.specs.Faults.{HasCodes};
+ghost use Rattle.vortex_array_model.specs.Parts.{AreWithin};
 
 use vortex_layouts::array::ArrayRef;
 
@@ -9,7 +9,7 @@ use vortex_layouts::array::ArrayRef;
 #[tactic(auto, using(crate::proofs::CodeLemmas::codes))]
 pub(crate) fn are_codes(codes: &ArrayRef, count: usize) -> bool
     requires { IsInteger (kind_of codes.now) }
-    ensures { IsTrue result ↔ HasCodes codes.now count }
+    ensures { IsTrue result ↔ AreWithin codes.now count }
 {
     for i in 0..codes.len() {
         if !is_code(codes, i, count) {

@@ -4,7 +4,8 @@ ghost use Rattle.vortex_model.specs.Kind.{nullability_of};
 ghost use Rattle.vortex_kinds.specs.View.{nullability_of_flag};
 ghost use Rattle.vortex_types.specs.View.{kind_of as type_of};
 ghost use Rattle.vortex_array_model.specs.Layout.{dictionary, len_of, kind_of, AllNamed, IsInteger, IsSound};
-ghost use Rattle.vortex_nested_arrays.specs.Faults.{HasCodes, IsCodesFault, IsDictFault};
+ghost use Rattle.vortex_nested_arrays.specs.Faults.{IsCodesFault, IsDictFault};
+ghost use Rattle.vortex_array_model.specs.Parts.{AreWithin};
 ghost use Rattle.vortex_nested_arrays.specs.Shapes.{IsDictionary, codes_in, values_in, flag_in};
 
 use crate::codes::are_codes;
@@ -72,7 +73,7 @@ impl DictArray {
     #[tactic(auto, using(crate::proofs::CodeLemmas::unflagged))]
     pub fn new(alloc: Global, codes: ArrayRef, values: ArrayRef) -> Result<DictArray, AllocError>
         requires kind { IsInteger (kind_of codes) }
-        requires named { HasCodes codes (len_of values) }
+        requires named { AreWithin codes (len_of values) }
         ensures { IfOk result (λ a. a ≡ dictionary codes values false) }
     {
         codes.is_sound();

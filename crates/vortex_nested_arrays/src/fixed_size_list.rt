@@ -8,7 +8,8 @@ ghost use Rattle.vortex_array_model.specs.Layout.{fixed_lists, len_of, kind_of, 
 ghost use Rattle.vortex_array_model.specs.Picks.{Picks};
 ghost use Rattle.vortex_layouts.specs.LayoutOf.{valid_of};
 ghost use Rattle.vortex_nested_arrays.specs.FixedLists.{IsFixedLists, IsFixedListFault};
-ghost use Rattle.vortex_nested_arrays.specs.Parts.{elements_of, size_of_each, valid_in};
+ghost use Rattle.vortex_nested_arrays.specs.Parts.{elements_of, size_of_each};
+ghost use Rattle.vortex_array_model.specs.Parts.{valid_in};
 
 use std::alloc::{AllocError, Global};
 use std::marker::Model;

@@ -29,16 +29,17 @@ ghost use Rattle.vortex_nested_arrays.specs.Parts.{
   offsets_of,
   sizes_of,
   is_flagged,
-  valid_in,
 };
+ghost use Rattle.vortex_array_model.specs.Parts.{valid_in};
 
 use crate::bounds::{element_bounds, total_size};
-use crate::views::{are_end_to_end, has_offsets, lie_within, view_at};
+use crate::views::{are_end_to_end, has_offsets, lie_within};
 use std::alloc::{AllocError, Global};
 use std::marker::Model;
 use vortex_array_errors::error::ArrayError;
 use vortex_kinds::nullability::Nullability;
 use vortex_layouts::array::{ArrayLayout, ArrayRef, Validity};
+use vortex_layouts::scalar::view_at;
 use vortex_types::dtype::DType;
 
 /// Lists by an offset and a size each, as Vortex's `ListViewArray`. A clone shares the array.

@@ -3,7 +3,7 @@ ghost use Rattle.std.specs.Prelude.{◌≡◌, ◌↔◌, length, true, IsTrue, 
 ghost use Rattle.std.specs.List.{All};
 ghost use Rattle.vortex_array_model.specs.Layout.{len_of, kind_of, AllNamed, IsInteger};
 ghost use Rattle.vortex_array_model.specs.Referenced.{MarksNamed};
-ghost use Rattle.vortex_nested_arrays.specs.Faults.{HasCodes};
+ghost use Rattle.vortex_array_model.specs.Parts.{AreWithin};
 ghost use Rattle.vortex_nested_arrays.specs.Shapes.{codes_in, values_in};
 
 use crate::dict_array::DictArray;
@@ -50,7 +50,7 @@ fn named_marks(
     mark: bool,
 ) -> Result<Vec<bool>, AllocError>
     requires kind { IsInteger (kind_of codes.now) }
-    requires named { HasCodes codes.now count }
+    requires named { AreWithin codes.now count }
     ensures count { IfOk result (λ marks. length marks.items ≡ count) }
     ensures marks { IfOk result (λ marks. MarksNamed codes.now (len_of codes.now) mark marks.items) }
 {

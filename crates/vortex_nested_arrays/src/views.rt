@@ -1,10 +1,8 @@
 //! Offsets with their sizes.
-ghost use Rattle.std.specs.Prelude.{◌≡◌, ◌<◌, ◌≤◌, ◌+◌, ◌↔◌, IsTrue};
+ghost use Rattle.std.specs.Prelude.{◌≡◌, ◌<◌, ◌+◌, ◌↔◌, IsTrue};
 ghost use Rattle.vortex_array_model.specs.Layout.{
   len_of,
   kind_of,
-  content_at,
-  number_in,
   IsOffsets,
   IsView,
   AreEndToEnd,
@@ -13,6 +11,7 @@ ghost use Rattle.vortex_layouts.specs.LayoutOf.{integer_content};
 ghost use Rattle.vortex_nested_arrays.specs.ListViews.{LieWithin};
 
 use vortex_layouts::array::ArrayRef;
+use vortex_layouts::scalar::view_at;
 
 /// Whether the values are integers and none of them can be null.
 #[tactic(auto, using(crate::proofs::ListLemmas::offsets))]
@@ -49,29 +48,6 @@ fn is_view(offset: Option<i128>, size: Option<i128>, count: usize) -> bool
             offset >= 0 && size >= 0 && offset <= count && size <= count - offset
         }
         _ => false,
-    }
-}
-
-/// The offset and the size at a position.
-#[tactic(auto, using(vortex_layouts::proofs::Reading::offsets_are_integers))]
-pub(crate) fn view_at(
-    offsets: &ArrayRef,
-    sizes: &ArrayRef,
-    i: usize,
-    count: usize,
-) -> (usize, usize)
-    requires offsets { IsOffsets (kind_of offsets.now) }
-    requires sizes { IsOffsets (kind_of sizes.now) }
-    requires offset_within { i < len_of offsets.now }
-    requires size_within { i < len_of sizes.now }
-    requires view { IsView count (content_at offsets.now i) (content_at sizes.now i) }
-    ensures offset { result.0 ≡ number_in (content_at offsets.now i) }
-    ensures size { result.1 ≡ number_in (content_at sizes.now i) }
-    ensures within { result.0 + result.1 ≤ count }
-{
-    match (offsets.integer(i), sizes.integer(i)) {
-        (Some(offset), Some(size)) => (offset as usize, size as usize),
-        _ => unreachable!(),
     }
 }
 

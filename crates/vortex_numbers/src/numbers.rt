@@ -7,7 +7,7 @@ ghost use Rattle.vortex_values.specs.Numbers.{kind_of_number, integer_of};
 ghost use Rattle.vortex_numbers.specs.Numbers.{kind_of_numbers, integers_of};
 
 use crate::element::Element;
-use std::alloc::AllocError;
+use std::alloc::{AllocError, Global};
 use std::ops::Range;
 use vortex_buffers::buffer::Buffer;
 use vortex_kinds::ptype::PType;
@@ -15,7 +15,6 @@ use vortex_natives::native::NativePType;
 use vortex_values::pvalue::PValue;
 
 /// A shared list of integers of one kind. A clone and a part share the items.
-#[derive(Drop)]
 pub enum Numbers {
     U8(Buffer<u8>),
     U16(Buffer<u16>),
@@ -25,6 +24,21 @@ pub enum Numbers {
     I16(Buffer<i16>),
     I32(Buffer<i32>),
     I64(Buffer<i64>),
+}
+
+impl Drop for Numbers {
+    fn drop(self) {
+        match self {
+            Numbers::U8(_items) => {}
+            Numbers::U16(_items) => {}
+            Numbers::U32(_items) => {}
+            Numbers::U64(_items) => {}
+            Numbers::I8(_items) => {}
+            Numbers::I16(_items) => {}
+            Numbers::I32(_items) => {}
+            Numbers::I64(_items) => {}
+        }
+    }
 }
 
 /// The kind of `T` holds each of the numbers. It changes nothing: what calls it is told so.
@@ -162,6 +176,24 @@ impl Numbers {
             Numbers::I16(items) => Ok(Numbers::I16(items.slice(range)?)),
             Numbers::I32(items) => Ok(Numbers::I32(items.slice(range)?)),
             Numbers::I64(items) => Ok(Numbers::I64(items.slice(range)?)),
+        }
+    }
+
+    /// The numbers at the places, in the order of the places.
+    pub fn gather(&self, alloc: Global, places: &[usize]) -> Result<Numbers, AllocError>
+        requires { All (λ i. i < length (integers_of self.now)) places.now }
+        ensures kind { IfOk result (λ n. kind_of_numbers n ≡ kind_of_numbers self.now) }
+        ensures numbers { IfOk result (λ n. integers_of n ≡ map (λ i. slice_index_or (integers_of self.now) i (pos 0)) places.now) }
+    {
+        match self {
+            Numbers::U8(items) => Ok(Numbers::U8(items.gather(alloc, places)?)),
+            Numbers::U16(items) => Ok(Numbers::U16(items.gather(alloc, places)?)),
+            Numbers::U32(items) => Ok(Numbers::U32(items.gather(alloc, places)?)),
+            Numbers::U64(items) => Ok(Numbers::U64(items.gather(alloc, places)?)),
+            Numbers::I8(items) => Ok(Numbers::I8(items.gather(alloc, places)?)),
+            Numbers::I16(items) => Ok(Numbers::I16(items.gather(alloc, places)?)),
+            Numbers::I32(items) => Ok(Numbers::I32(items.gather(alloc, places)?)),
+            Numbers::I64(items) => Ok(Numbers::I64(items.gather(alloc, places)?)),
         }
     }
 }

@@ -1,7 +1,4 @@
 //! Proofs over statistics: that no row satisfies a predicate, and that every row does.
-//!
-//! Where the second of two trees fails, a call lets go of the first: by `?` it would be let go in place, and each of its forms
-//! walked in the proof.
 ghost use Rattle.std.specs.Prelude.{◌≡◌, IfOk, Some, None, false, not};
 ghost use Rattle.std.specs.Option.{option_map_or};
 ghost use Rattle.vortex_model.specs.Expression.{compare, both, either, equal, not_equal, min, max, statistic};
@@ -63,13 +60,8 @@ fn falsify_both(
     ensures right { IfOk result (λ proofs. proofs.1 ≡ falsifier (kind_of dtype.now) y.now) }
 {
     let left = falsify(alloc, dtype, x)?;
-    match falsify(alloc, dtype, y) {
-        Ok(right) => Ok((left, right)),
-        Err(error) => {
-            drop(left);
-            Err(error)
-        }
-    }
+    let right = falsify(alloc, dtype, y)?;
+    Ok((left, right))
 }
 
 /// A proof, over statistics, that every row satisfies a predicate over rows of this type, as Vortex's `satisfy`. There may be none.
@@ -238,13 +230,8 @@ fn guarded_twice(
         (guarded no_nan_by_flag left right x.now y.now (comparison_falsifier (comparison_of comparison) x.now y.now))) }
 {
     let by_count = guarded(alloc, NanGuard::Count, comparison, left, right, x, y)?;
-    match guarded(alloc, NanGuard::Flag, comparison, left, right, x, y) {
-        Ok(by_flag) => or(alloc, by_count, by_flag),
-        Err(error) => {
-            drop(by_count);
-            Err(error)
-        }
-    }
+    let by_flag = guarded(alloc, NanGuard::Flag, comparison, left, right, x, y)?;
+    or(alloc, by_count, by_flag)
 }
 
 /// The proof by the bounds, where the flagged sides hold no NaN.
@@ -277,13 +264,8 @@ fn guarded_by(
 ) -> Result<Expression, AllocError>
     ensures { IfOk result (λ all. all ≡ both guard (comparison_falsifier (comparison_of comparison) x.now y.now)) }
 {
-    match compare_bounds(alloc, comparison, x, y) {
-        Ok(proof) => and(alloc, guard, proof),
-        Err(error) => {
-            drop(guard);
-            Err(error)
-        }
-    }
+    let proof = compare_bounds(alloc, comparison, x, y)?;
+    and(alloc, guard, proof)
 }
 
 /// The proof that no value of either expression is NaN.
@@ -296,13 +278,8 @@ fn no_nan_in_both(
     ensures { IfOk result (λ proof. proof ≡ both (guard_of guard x.now) (guard_of guard y.now)) }
 {
     let first = no_nan(alloc, guard, x)?;
-    match no_nan(alloc, guard, y) {
-        Ok(second) => and(alloc, first, second),
-        Err(error) => {
-            drop(first);
-            Err(error)
-        }
-    }
+    let second = no_nan(alloc, guard, y)?;
+    and(alloc, first, second)
 }
 
 /// The proof that no value of an expression is NaN.
@@ -353,13 +330,8 @@ fn never_equal(alloc: Global, x: &Expression, y: &Expression) -> Result<Expressi
     ensures { IfOk result (λ proof. proof ≡ comparison_falsifier equal x.now y.now) }
 {
     let above = compare_least(alloc, Comparison::Gt, x, y)?;
-    match compare_least(alloc, Comparison::Gt, y, x) {
-        Ok(below) => or(alloc, above, below),
-        Err(error) => {
-            drop(above);
-            Err(error)
-        }
-    }
+    let below = compare_least(alloc, Comparison::Gt, y, x)?;
+    or(alloc, above, below)
 }
 
 /// The proof that all values of both sides are one.
@@ -367,13 +339,8 @@ fn one_value(alloc: Global, x: &Expression, y: &Expression) -> Result<Expression
     ensures { IfOk result (λ proof. proof ≡ comparison_falsifier not_equal x.now y.now) }
 {
     let low = compare_least(alloc, Comparison::Eq, x, y)?;
-    match compare_greatest(alloc, Comparison::Eq, x, y) {
-        Ok(high) => and(alloc, low, high),
-        Err(error) => {
-            drop(low);
-            Err(error)
-        }
-    }
+    let high = compare_greatest(alloc, Comparison::Eq, x, y)?;
+    and(alloc, low, high)
 }
 
 /// A comparison of the least value of the left with the greatest of the right.
@@ -413,13 +380,8 @@ fn compare_by(
         ≡ compare (comparison_of comparison) (bound_of (aggregate_of first) x.now) (bound_of (aggregate_of second) y.now)) }
 {
     let left = bound(alloc, first, x)?;
-    match bound(alloc, second, y) {
-        Ok(right) => compare(alloc, comparison, left, right),
-        Err(error) => {
-            drop(left);
-            Err(error)
-        }
-    }
+    let right = bound(alloc, second, y)?;
+    compare(alloc, comparison, left, right)
 }
 
 /// The least or the greatest value of an expression: a literal is its own.

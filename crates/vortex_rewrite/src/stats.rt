@@ -73,14 +73,8 @@ fn bind_both<B: StatBinder>(
     ensures right { IfOk result (λ bound. IsBinding (B.meaning binder.now) y.now bound.1) }
 {
     let left = bind_stats(alloc, x, binder)?;
-    match bind_stats(alloc, y, binder) {
-        Ok(right) => Ok((left, right)),
-        Err(error) => {
-            // (by a call, since in place each form of the tree would be walked in the proof)
-            drop(left);
-            Err(error)
-        }
-    }
+    let right = bind_stats(alloc, y, binder)?;
+    Ok((left, right))
 }
 
 /// What a placeholder is replaced by.
@@ -126,10 +120,7 @@ pub fn prove_with<B: StatBinder>(
     ensures { IfOk result (λ proved. (rows : ℕ) → proved ≡ is_proved (B.meaning binder.now) rows proof.now) }
 {
     let bound = bind_stats(alloc, proof, binder)?;
-    let proved = is_true(value_of_proof(&bound));
-    // (by a call, since in place each form of the tree would be walked in the proof)
-    drop(bound);
-    Ok(proved)
+    Ok(is_true(value_of_proof(&bound)))
 }
 
 /// Whether an expression has a column outside a placeholder.

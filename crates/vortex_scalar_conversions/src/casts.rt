@@ -1,6 +1,4 @@
 //! Laws of casts that are made. Each function's clauses are a law.
-//!
-//! A call lets go of the value between two casts: in place, each form of its trees would be walked in the proof.
 ghost use Rattle.std.specs.Prelude.{◌≡◌, true, IfOk, IfErr};
 ghost use Rattle.vortex_model.specs.Convert.{converts};
 ghost use Rattle.vortex_types.specs.View.{kind_of};
@@ -20,9 +18,7 @@ pub fn there_and_back(alloc: Global, scalar: &Scalar, target: &DType) -> Result<
     ensures value { IfOk result (λ back. scalar_raw back ≡ scalar_raw scalar.now) }
 {
     let there = scalar.cast(alloc, target)?;
-    let cast = there.cast(alloc, scalar.dtype());
-    drop(there);
-    let back = cast?;
+    let back = there.cast(alloc, scalar.dtype())?;
     // Tells the proof that both are values of the type.
     let _ = scalar.value();
     let _ = back.value();
@@ -43,9 +39,7 @@ pub fn by_way_of(
     conversions_compose();
     tests_of_conversion_are_right();
     let there = scalar.cast(alloc, middle)?;
-    let cast = there.cast(alloc, target);
-    drop(there);
-    let last = cast?;
+    let last = there.cast(alloc, target)?;
     Ok(last)
 }
 
@@ -61,9 +55,7 @@ pub fn nullable_and_back(alloc: Global, scalar: &Scalar) -> Result<Scalar, Scala
     let _ = scalar.value();
     let copy = scalar.clone()?;
     let nullable = copy.into_nullable()?;
-    let cast = nullable.cast(alloc, scalar.dtype());
-    drop(nullable);
-    let back = cast?;
+    let back = nullable.cast(alloc, scalar.dtype())?;
     let _ = back.value();
     Ok(back)
 }

@@ -13,7 +13,8 @@ use Rattle.vortex_model.proofs.Contents.{said}
 use Rattle.vortex_model.proofs.Tests.{has_so}
 use Rattle.vortex_types.specs.View.{NamedKind, fields_from}
 use Rattle.vortex_types.specs.Parts.{fields_in_kind}
-use Rattle.vortex_schema.specs.Cut.{Tree, whole, parts, Parts, no_parts, part, KeptPart, parts_from, beyond, ask_for_all, lead_on, kept_by, kept_parts, cut_named, kept_list, content_cut, contents_cut, raw_nth, raw_cut, raws_cut}
+use Rattle.vortex_schema.specs.Cut.{Tree, whole, parts, Parts, no_parts, part, KeptPart, parts_from, beyond, ask_for_all, lead_on, kept_by, kept_parts, cut_named, kept_list, content_cut, contents_cut, raw_cut, raws_cut}
+use Rattle.vortex_values.specs.Parts.{raw_nth}
 
 -- ---- behind a name
 

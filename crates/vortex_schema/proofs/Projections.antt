@@ -7,7 +7,8 @@ use Rattle.vortex_values.specs.View.{raw_of, raws_in, raw_in, raw_at, raws_from}
 use Rattle.vortex_values.specs.declared.scalar_value.ScalarValue as value
 use Rattle.vortex_values.specs.declared.scalar_value.ScalarValue.{ScalarValue}
 use Rattle.vortex_values.proofs.Views.{raw_of-Tuple}
-use Rattle.vortex_schema.specs.Cut.{Tree, whole, parts, Parts, KeptPart, parts_from, tree_of, part_of_field, parts_of, raw_nth, raw_cut, raws_cut, cut_part}
+use Rattle.vortex_schema.specs.Cut.{Tree, whole, parts, Parts, KeptPart, parts_from, tree_of, part_of_field, parts_of, raw_cut, raws_cut, cut_part}
+use Rattle.vortex_values.specs.Parts.{raw_nth}
 use Rattle.vortex_schema.specs.declared.projection.Projection as projection
 use Rattle.vortex_schema.specs.declared.projection.KeptField as field
 use Rattle.vortex_schema.specs.declared.projection.KeptField.{KeptField}

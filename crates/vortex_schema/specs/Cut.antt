@@ -1,14 +1,15 @@
 -- What a cut keeps of a type and of its values.
-use Rattle.std.specs.Prelude.{ℕ, zero, suc, List, [], ◌∷◌, map, filter_map, Option, Some, None, Bool, true, false, if◌then◌else◌}
+use Rattle.std.specs.Prelude.{ℕ, suc, List, [], ◌∷◌, map, filter_map, Option, Some, None, Bool, true, false, if◌then◌else◌}
 use Rattle.std.specs.Str.{bytes_eq}
 use Rattle.std.specs.List.{list_any}
 use Rattle.std.specs.Borrow.{Bor}
 use Rattle.vortex_model.specs.Kind.{Kind, struct, Fields, no_fields, field}
-use Rattle.vortex_model.specs.Content.{Content, tuple, Contents, nothing, first, nth, Raw, raw_null, raw_tuple, Raws, no_raws, raw_first}
+use Rattle.vortex_model.specs.Content.{Content, tuple, Contents, nothing, first, nth, Raw, raw_tuple, Raws, no_raws, raw_first}
 use Rattle.vortex_model.specs.Path.{Names}
 use Rattle.vortex_model.specs.Cut.{cut_kind}
 use Rattle.vortex_model.specs.Command.{names_of}
 use Rattle.vortex_types.specs.View.{NamedKind}
+use Rattle.vortex_values.specs.Parts.{raw_nth}
 use Rattle.vortex_paths.specs.View.{step_of, steps_of}
 use Rattle.vortex_paths.specs.declared.field.Field.{Field}
 use Rattle.vortex_paths.specs.declared.path.FieldPath.{FieldPath}
@@ -118,11 +119,6 @@ abbrev mutual
   contents_cut (part i t ps) cs = first (content_cut t (nth cs i)) (contents_cut ps cs)
 
 -- the same of a value as it is stored
-abbrev pub raw_nth : Raws → ℕ → Raw
-raw_nth no_raws i = raw_null
-raw_nth (raw_first r rs) zero = r
-raw_nth (raw_first r rs) (suc i) = raw_nth rs i
-
 abbrev mutual
   pub raw_cut : Tree → Raw → Raw
   raw_cut (parts ps) (raw_tuple rs) = raw_tuple (raws_cut ps rs)

@@ -1,6 +1,7 @@
 //! What a cut keeps of a value.
 ghost use Rattle.std.specs.Prelude.{◌≡◌, IfOk, map};
-ghost use Rattle.vortex_schema.specs.Cut.{tree_of, part_of_field, cut_part, raw_nth, raw_cut};
+ghost use Rattle.vortex_schema.specs.Cut.{tree_of, part_of_field, cut_part, raw_cut};
+ghost use Rattle.vortex_values.specs.Parts.{raw_nth};
 ghost use Rattle.vortex_values.specs.View.{raw_of, raw_in, raw_at, raws_in};
 
 use std::alloc::{AllocError, Global};

@@ -19,7 +19,7 @@ use Rattle.vortex_array_model.proofs.PicksLemmas.{no_flag}
 use Rattle.vortex_array_model.proofs.SomeLemmas.{type_within}
 use Rattle.vortex_array_model.proofs.ColumnLemmas.{part_named}
 use Rattle.vortex_layouts.proofs.Makers.{valid_so}
-use Rattle.vortex_struct_arrays.specs.RawParts.{raw_nth, raw_part}
+use Rattle.vortex_values.specs.Parts.{raw_nth, raw_part}
 use Rattle.vortex_struct_arrays.specs.ZeroCodes.{zero_codes}
 
 -- Nulls pushed into a constant: codes 0 of one value.

@@ -5,7 +5,7 @@ ghost use Rattle.vortex_array_model.specs.Column.{IsColumn};
 ghost use Rattle.vortex_scalars.specs.Scalar.{scalar_kind, scalar_raw};
 ghost use Rattle.vortex_values.specs.View.{raw_at};
 ghost use Rattle.vortex_struct_arrays.specs.ColumnFaults.{IsColumnFault};
-ghost use Rattle.vortex_struct_arrays.specs.RawParts.{raw_part};
+ghost use Rattle.vortex_values.specs.Parts.{raw_part};
 
 use vortex_array_errors::error::ArrayError;
 use vortex_kinds::field_names::FieldName;

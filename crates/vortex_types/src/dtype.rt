@@ -1,9 +1,9 @@
 //! The types of columns.
-ghost use Rattle.std.specs.Prelude.{◌≡◌, IfOk, IsTrue};
+ghost use Rattle.std.specs.Prelude.{◌≡◌, IfOk, IsTrue, Some, option_map};
 ghost use Rattle.vortex_model.specs.Kind.{nullability_of, either_nullable, is_nullable, with_nullability, non_nullable, nullable};
 ghost use Rattle.vortex_kinds.specs.View.{nullability_of_flag};
-ghost use Rattle.vortex_types.specs.View.{kind_of};
-ghost use Rattle.vortex_types.specs.Parts.{can_be_nonnullable};
+ghost use Rattle.vortex_types.specs.View.{kind_of, extension_kind, fields_in};
+ghost use Rattle.vortex_types.specs.Parts.{can_be_nonnullable, fields_in_kind, extension_in_kind, is_struct_kind, is_extension_kind};
 
 use crate::extension::ExtDTypeRef;
 use crate::map_dtype::MapDType;
@@ -16,7 +16,6 @@ use vortex_kinds::nullability::Nullability;
 use vortex_kinds::ptype::PType;
 
 /// A column's type, as Vortex's `DType`. A clone shares what stands inside.
-#[derive(Drop)]
 #[cycle(dtype)]
 pub enum DType {
     /// Null alone.
@@ -45,6 +44,28 @@ pub enum DType {
     Variant(Nullability),
     /// A type of another's values, with a meaning of its own.
     Extension(ExtDTypeRef),
+}
+
+impl Drop for DType {
+    // Written out, since a derived drop is walked form by form wherever a type is let go.
+    #[cycle(drop_dtype)]
+    fn drop(self) {
+        match self {
+            DType::Null => {}
+            DType::Bool(_) => {}
+            DType::Primitive(_, _) => {}
+            DType::Decimal(_, _) => {}
+            DType::Utf8(_) => {}
+            DType::Binary(_) => {}
+            DType::List(_element, _) => {}
+            DType::FixedSizeList(_element, _, _) => {}
+            DType::Map(_map, _) => {}
+            DType::Struct(_fields, _) => {}
+            DType::Union(_variants, _) => {}
+            DType::Variant(_) => {}
+            DType::Extension(_extension) => {}
+        }
+    }
 }
 
 impl DType {
@@ -150,6 +171,54 @@ impl DType {
     {
         let dtype = self.with_nullability(Nullability::NonNullable)?;
         Ok(dtype)
+    }
+}
+
+impl DType {
+    /// The fields, where the values are records.
+    #[tactic(auto, using(crate::proofs::Others::records))]
+    pub fn into_struct_fields_opt(self) -> Option<StructFields>
+        ensures { option_map fields_in result ≡ fields_in_kind (kind_of self) }
+    {
+        match self {
+            DType::Struct(fields, _) => Some(fields),
+            DType::Null | DType::Bool(_) | DType::Primitive(_, _) | DType::Decimal(_, _) => None,
+            DType::Utf8(_) | DType::Binary(_) | DType::Variant(_) => None,
+            DType::List(_, _) | DType::FixedSizeList(_, _, _) | DType::Map(_, _) => None,
+            DType::Union(_, _) | DType::Extension(_) => None,
+        }
+    }
+
+    /// The extension, where the type is one.
+    #[tactic(auto, using(crate::proofs::Others::extensions))]
+    pub fn into_extension_opt(self) -> Option<ExtDTypeRef>
+        ensures { option_map extension_kind result ≡ extension_in_kind (kind_of self) }
+    {
+        match self {
+            DType::Extension(extension) => Some(extension),
+            DType::Null | DType::Bool(_) | DType::Primitive(_, _) | DType::Decimal(_, _) => None,
+            DType::Utf8(_) | DType::Binary(_) | DType::Variant(_) => None,
+            DType::List(_, _) | DType::FixedSizeList(_, _, _) | DType::Map(_, _) => None,
+            DType::Struct(_, _) | DType::Union(_, _) => None,
+        }
+    }
+
+    /// The fields of the record.
+    #[tactic(auto, using(crate::proofs::Others::is_there))]
+    pub fn into_struct_fields(self) -> StructFields
+        requires { IsTrue (is_struct_kind (kind_of self)) }
+        ensures { Some (fields_in result) ≡ fields_in_kind (kind_of self) }
+    {
+        self.into_struct_fields_opt().unwrap()
+    }
+
+    /// The extension that the type is.
+    #[tactic(auto, using(crate::proofs::Others::is_there))]
+    pub fn into_extension(self) -> ExtDTypeRef
+        requires { IsTrue (is_extension_kind (kind_of self)) }
+        ensures { Some (extension_kind result) ≡ extension_in_kind (kind_of self) }
+    {
+        self.into_extension_opt().unwrap()
     }
 }
 

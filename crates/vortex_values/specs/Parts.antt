@@ -1,7 +1,7 @@
 -- What stands in a raw value of one form, and none where it is of another.
-use Rattle.std.specs.Prelude.{◌≡◌, ℤ, pos, List, ℕ, Bool, false, Option, Some, None, Result, is_ok, IfOk, IfErr}
+use Rattle.std.specs.Prelude.{◌≡◌, ℤ, pos, List, ℕ, zero, suc, Bool, false, Option, Some, None, Result, is_ok, IfOk, IfErr}
 use Rattle.vortex_model.specs.Kind.{Kind, IntKind, null_only}
-use Rattle.vortex_model.specs.Content.{Raw, raw_null, raw_truth, raw_number, raw_text, raw_blob, raw_tuple, raw_tagged, raw_scalar, Raws}
+use Rattle.vortex_model.specs.Content.{Raw, raw_null, raw_truth, raw_number, raw_text, raw_blob, raw_tuple, raw_tagged, raw_scalar, Raws, no_raws, raw_first}
 use Rattle.vortex_model.specs.Valid.{in_range}
 use Rattle.vortex_scalar_errors.specs.declared.error.ScalarError.{ScalarError}
 use Rattle.vortex_scalar_errors.specs.declared.error.ScalarError.TheVariants.{Invalid}
@@ -66,3 +66,14 @@ GivesWhole i number v r = (is_ok r ≡ has_whole i v) × (IfOk r (λ n. whole_in
 -- what stands there, as `view` reads it, and a refusal where nothing does
 abbrev pub GivesPart : {A B : Type 0} → (A → B) → Option B → Result A ScalarError → Type 0
 GivesPart view part r = (IfOk r (λ a. part ≡ Some (view a))) × (IfErr r (λ e. (e ≡ Invalid) × (part ≡ None)))
+
+-- the raw value at this place, and null past the end
+abbrev pub raw_nth : Raws → ℕ → Raw
+raw_nth no_raws i = raw_null
+raw_nth (raw_first r rs) zero = r
+raw_nth (raw_first r rs) (suc i) = raw_nth rs i
+
+-- what a record has at a place, and null of anything else
+abbrev pub raw_part : Raw → ℕ → Raw
+raw_part (raw_tuple rs) i = raw_nth rs i
+raw_part r i = raw_null

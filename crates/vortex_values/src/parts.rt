@@ -59,31 +59,9 @@ impl ScalarValue {
         }
     }
 
-    /// The text.
-    pub fn into_utf8(self) -> Option<BufferString>
-        ensures { result ≡ text_in (raw_of self) }
-    {
-        match self {
-            ScalarValue::Utf8(text) => Some(text),
-            ScalarValue::Bool(_) | ScalarValue::Primitive(_) | ScalarValue::Binary(_) => None,
-            ScalarValue::Tuple(_) | ScalarValue::Union(_) | ScalarValue::Variant(_) => None,
-        }
-    }
-
     /// The bytes.
     pub fn as_binary(&self) -> Option<&ByteBuffer>
         ensures { option_copied result ≡ blob_in (raw_of self.now) }
-    {
-        match self {
-            ScalarValue::Binary(bytes) => Some(bytes),
-            ScalarValue::Bool(_) | ScalarValue::Primitive(_) | ScalarValue::Utf8(_) => None,
-            ScalarValue::Tuple(_) | ScalarValue::Union(_) | ScalarValue::Variant(_) => None,
-        }
-    }
-
-    /// The bytes.
-    pub fn into_binary(self) -> Option<ByteBuffer>
-        ensures { result ≡ blob_in (raw_of self) }
     {
         match self {
             ScalarValue::Binary(bytes) => Some(bytes),
@@ -103,31 +81,9 @@ impl ScalarValue {
         }
     }
 
-    /// A list's elements, a map's entries or a record's values.
-    pub fn into_list(self) -> Option<Vec<Option<ScalarValue>>>
-        ensures { option_map (λ items. raws_in items.items) result ≡ items_in (raw_of self) }
-    {
-        match self {
-            ScalarValue::Tuple(items) => Some(items),
-            ScalarValue::Bool(_) | ScalarValue::Primitive(_) | ScalarValue::Utf8(_) => None,
-            ScalarValue::Binary(_) | ScalarValue::Union(_) | ScalarValue::Variant(_) => None,
-        }
-    }
-
     /// A union's value.
     pub fn as_union(&self) -> Option<&UnionValue>
         ensures { option_map (λ union. raw_of_union union.now) result ≡ as_tagged (raw_of self.now) }
-    {
-        match self {
-            ScalarValue::Union(union) => Some(union),
-            ScalarValue::Bool(_) | ScalarValue::Primitive(_) | ScalarValue::Utf8(_) => None,
-            ScalarValue::Binary(_) | ScalarValue::Tuple(_) | ScalarValue::Variant(_) => None,
-        }
-    }
-
-    /// A union's value.
-    pub fn into_union(self) -> Option<UnionValue>
-        ensures { option_map raw_of_union result ≡ as_tagged (raw_of self) }
     {
         match self {
             ScalarValue::Union(union) => Some(union),
@@ -142,17 +98,6 @@ impl ScalarValue {
     {
         match self {
             ScalarValue::Variant(variant) => Some(variant),
-            ScalarValue::Bool(_) | ScalarValue::Primitive(_) | ScalarValue::Utf8(_) => None,
-            ScalarValue::Binary(_) | ScalarValue::Tuple(_) | ScalarValue::Union(_) => None,
-        }
-    }
-
-    /// A variant's value.
-    pub fn into_variant(self) -> Option<VariantValue>
-        ensures { option_map raw_of_variant result ≡ as_scalar (raw_of self) }
-    {
-        match self {
-            ScalarValue::Variant(variant) => Some(Box::into_inner(variant)),
             ScalarValue::Bool(_) | ScalarValue::Primitive(_) | ScalarValue::Utf8(_) => None,
             ScalarValue::Binary(_) | ScalarValue::Tuple(_) | ScalarValue::Union(_) => None,
         }

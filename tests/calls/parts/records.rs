@@ -44,7 +44,8 @@ fn made(alloc: Global, checks: &mut Checks<'_>) -> Result<(), DTypeError> {
     let byte = number(PType::U8);
     let one = FieldDType::from(&byte);
     checks.holds("a FieldDType's value", one.value()? == byte);
-    let dtypes = vec![in alloc; one, FieldDType::from(&DType::Null)]?;
+    let null = DType::Null;
+    let dtypes = vec![in alloc; one, FieldDType::from(&null)]?;
     let made: StructFields = StructFieldsExt::from_fields(names(alloc, &["x", "y"])?, dtypes)?;
     checks.holds(
         "from_fields",

@@ -1,7 +1,7 @@
 -- An array that is laid out plain from values.
-use Rattle.std.specs.Prelude.{◌≡◌, ◌<◌, ℕ, zero, suc, ℤ, pos, List, [], length, Bool, true, false, not, slice_index_or}
+use Rattle.std.specs.Prelude.{◌≡◌, ◌<◌, ℕ, ℤ, pos, List, [], length, Bool, true, false, not, slice_index_or}
 use Rattle.vortex_model.specs.Kind.{Kind, Nullability, non_nullable, nullable}
-use Rattle.vortex_model.specs.Content.{content_of, is_null, Raw, raw_null, raw_truth, raw_number, raw_text, raw_blob, raw_tuple, Raws, no_raws, raw_first}
+use Rattle.vortex_model.specs.Content.{content_of, is_null, Raw, raw_null, raw_truth, raw_number, raw_text, raw_blob}
 use Rattle.vortex_model.specs.Valid.{valid}
 use Rattle.vortex_array_model.specs.Layout.{Layout, Valid, len_of, kind_of, content_at, is_valid, nullability_by, IsSound, HasLength}
 
@@ -23,17 +23,6 @@ abbrev pub bytes_or_none : Raw → List ℕ
 bytes_or_none (raw_text bs) = bs
 bytes_or_none (raw_blob bs) = bs
 bytes_or_none r = []
-
--- the raw value at this place, and null past the end
-abbrev pub raw_nth : Raws → ℕ → Raw
-raw_nth no_raws i = raw_null
-raw_nth (raw_first r rs) zero = r
-raw_nth (raw_first r rs) (suc i) = raw_nth rs i
-
--- what a record has in a field, and null for a null record
-abbrev pub raw_part : ℕ → Raw → Raw
-raw_part i (raw_tuple rs) = raw_nth rs i
-raw_part i r = raw_null
 
 -- whether a row is not null, in a column that null can stand in or not
 abbrev pub is_there : Nullability → Raw → Bool

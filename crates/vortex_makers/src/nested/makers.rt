@@ -1,7 +1,4 @@
 //! Makers of nested values with their type.
-//!
-//! Where a maker fails, a call lets go of the types and values that it holds: in place, each of their forms would be walked in the
-//! proof.
 ghost use Rattle.std.specs.Prelude.{◌≡◌, ◌≢◌, ◌&&◌, true, false, IfOk, IfErr, IsTrue, map, length, nat_le};
 ghost use Rattle.vortex_model.specs.Kind.{Kind, list, fixed_list, mapping, union, extension};
 ghost use Rattle.vortex_model.specs.Content.{Raw, raw_tuple, raw_tagged};
@@ -174,16 +171,10 @@ impl NestedScalarMakers for Scalar {
             (is_record_of (kind_of dtype) (map scalar_kind children.items)) result }
     {
         if !is_record_of(&dtype, &children) {
-            drop(dtype);
             return Err(ScalarError::Invalid);
         }
-        match values_of(children) {
-            Ok(values) => Ok(Scalar::new_unchecked(dtype, Some(ScalarValue::Tuple(values)))),
-            Err(_) => {
-                drop(dtype);
-                Err(ScalarError::Memory)
-            }
-        }
+        let values = values_of(children)?;
+        Ok(Scalar::new_unchecked(dtype, Some(ScalarValue::Tuple(values))))
     }
 
     #[tactic(auto, using(crate::proofs::nested::Made::unchecked))]
@@ -232,7 +223,6 @@ impl NestedScalarMakers for Scalar {
         nullability: Nullability,
     ) -> Result<Scalar, ScalarError> {
         if !is_choice(variants.as_slice(), type_id, &child) {
-            drop(child);
             return Err(ScalarError::Invalid);
         }
         let value = UnionValue::try_new(alloc, type_id, into_value(child))?;
@@ -246,16 +236,9 @@ impl NestedScalarMakers for Scalar {
         metadata: V::Metadata,
         storage: Scalar,
     ) -> Result<Scalar, ScalarError> {
-        match extension_of::<V>(alloc, metadata, storage.dtype()) {
-            Ok(extension) => {
-                let dtype = DType::Extension(extension);
-                Ok(Scalar::new_unchecked(dtype, into_value(storage)))
-            }
-            Err(error) => {
-                drop(storage);
-                Err(error)
-            }
-        }
+        let extension = extension_of::<V>(alloc, metadata, storage.dtype())?;
+        let dtype = DType::Extension(extension);
+        Ok(Scalar::new_unchecked(dtype, into_value(storage)))
     }
 }
 
@@ -274,8 +257,6 @@ fn extension_of<V: ExtVTable + Default>(
     let Ok(extension) = ExtDType::<V>::try_new(metadata, storage) else {
         return Err(ScalarError::Invalid);
     };
-    let made = extension.erased(alloc);
-    drop(extension);
-    let made = made?;
+    let made = extension.erased(alloc)?;
     Ok(made)
 }

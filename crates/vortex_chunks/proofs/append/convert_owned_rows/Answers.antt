@@ -63,28 +63,3 @@ loop-value-preserved-in_ok-push_converted c =
       valid = made.valid at.invariant.valid;
       left = left_behind s t rows v behind here same more made.content (first_unconvertible 0 s t (said vs)) made.converts left;
     }
-
-pub loop-value-preserved-in_ok-push_converted-5 :
-    goal.loop-value-preserved-in_ok-push_converted-5
-loop-value-preserved-in_ok-push_converted-5 c =
-    let vs = c.args.values.items in
-    let at = c.loop-value in
-    let v = c.in-Some.value in
-    let rows = at.rows.items in
-    let more = c.push_converted.new.rows.items in
-    let made = c.in_ok-push_converted.ensures in
-    let behind = into_iter_items c.next.new.self in
-    let s = kind_of c.args.source.now in
-    let t = kind_of c.args.target.now in
-    let here = content_at c.as_ref.result in
-    let same : here ≡ content_in v = ap content_of (raw_copied c.as_ref.result ∙ ap raw_in c.as_ref.ensures.value) in
-    let next : into_iter_items at.value-iterator ≡ v ∷ behind = c.in-Some.ensures.steps.0 in
-    let content = rw next at at.invariant.content in
-    let left = rw next at at.invariant.left in
-    let sources = rw next at at.invariant.sources in
-    record {
-      sources = rest_valid s v behind sources;
-      content = row_moved s t rows v behind here same more made.content (said vs) content;
-      valid = made.valid at.invariant.valid;
-      left = left_behind s t rows v behind here same more made.content (first_unconvertible 0 s t (said vs)) made.converts left;
-    }

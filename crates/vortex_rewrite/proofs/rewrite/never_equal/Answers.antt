@@ -2,5 +2,5 @@
 use Rattle.std.proofs.Common.{rules}
 use Rattle.vortex_rewrite.proofs.rewrite.never_equal.Goals as goal
 
-pub returns-in-Ok : goal.returns-in-Ok
-returns-in-Ok c = search rules
+pub returns : goal.returns
+returns c = search rules

@@ -5,7 +5,7 @@ use Rattle.vortex_model.specs.Valid.{valid}
 use Rattle.vortex_types.specs.Parts.{fields_in_kind}
 use Rattle.vortex_types.specs.View.{kind_of, fields_in}
 use Rattle.vortex_scalars.specs.Scalar.{scalar_kind, scalar_raw}
-use Rattle.vortex_struct_arrays.specs.RawParts.{raw_part}
+use Rattle.vortex_values.specs.Parts.{raw_part}
 use Rattle.vortex_struct_arrays.proofs.Constants.{column_of_constant}
 use Rattle.vortex_struct_arrays.proofs.constant.field_of_constant.Goals as goal
 
