@@ -1,3 +1,5 @@
+use Rattle.std.below.core.proofs.iter.Serving.{as_err}
+use Rattle.std.proofs.lemmas.Grind.{common_steps}
 use Rattle.std.proofs.Common.{◌≡◌, ◌∙◌, ◌<◌, ◌+◌, ◌&&◌, ap, sym, true, false, drop, length, arith, rules}
 use Rattle.vortex_model.specs.Content.{contents_of, count, raw_count}
 use Rattle.vortex_model.specs.Valid.{valid, all_have, fields_have}
@@ -7,9 +9,10 @@ use Rattle.vortex_casts.specs.Converting.{takes_length}
 use Rattle.vortex_values.specs.View.{raw_in, raw_at, raws_in, content_in, content_at}
 use Rattle.vortex_scalar_errors.specs.declared.error.ScalarError.TheVariants.{NotConvertible, Invalid}
 use Rattle.vortex_casts.proofs.ListValues.{lists_convert, valid_list}
-use Rattle.vortex_casts.proofs.Casts.{content_at-copied, contents_all, contents_more, valid_more, fields_next, items_more, all_have-more, all_have-at, fields_have-at}
+use Rattle.vortex_casts.proofs.Casts.{content_at-copied, contents_all, contents_more, valid_more, fields_next, items_more, all_have-more, all_have-at, fields_have-at, records, tuples, values}
 use Rattle.vortex_values.proofs.Sizes.{raw_size, raws_size, raw_at-copied, item_smaller}
-use Rattle.vortex_values.proofs.Views.{raw_count-raws_in, count-contents_of}
+use Rattle.vortex_values.proofs.Views.{raw_count-raws_in, count-contents_of, one_level}
+use borrow.Author.Rules.{get_or_read}
 use Rattle.vortex_casts.proofs.cast.+cast.Goals as goal
 
 -- ---- records
@@ -153,3 +156,405 @@ cast_tuple-returns-in-Some-clause-valid t c =
     = sym (count-contents_of (raws_in all)) ∙ ap count c.in_ok-all.ensures.content ∙ count-contents_of (raws_in items) ∙ raw_count-raws_in items in
     let long : takes_length target (raw_count (raws_in all)) ≡ true = ap (takes_length target) as_many ∙ sym c.if-not-takes_length.ensures in
     valid_list target _ (raws_in all) (sym c.in-Some-list_element.ensures) long ∙ c.in_ok-all.ensures.valid
+
+pub cast_fields-returns-then-sources-items-clause-converts : goal.cast_fields-returns-then-sources-items-clause-converts
+cast_fields-returns-then-sources-items-clause-converts t c = grind (arith, records)
+
+pub cast_fields-returns-then-sources-items-clause-content : goal.cast_fields-returns-then-sources-items-clause-content
+cast_fields-returns-then-sources-items-clause-content t c = grind (arith, records)
+
+pub cast_fields-returns-then-sources-items-clause-valid : goal.cast_fields-returns-then-sources-items-clause-valid
+cast_fields-returns-then-sources-items-clause-valid t c = grind (arith, records)
+
+pub cast_fields-returns-then-sources-items-clause-refused : goal.cast_fields-returns-then-sources-items-clause-refused
+cast_fields-returns-then-sources-items-clause-refused t c = grind (arith, records)
+
+pub cast_fields-returns-then-sources-items-clause-invalid : goal.cast_fields-returns-then-sources-items-clause-invalid
+cast_fields-returns-then-sources-items-clause-invalid t c = grind (arith, records)
+
+pub cast_fields-returns-then-targets-items-clause-converts : goal.cast_fields-returns-then-targets-items-clause-converts
+cast_fields-returns-then-targets-items-clause-converts t c = grind (arith, records)
+
+pub cast_fields-returns-then-targets-items-clause-content : goal.cast_fields-returns-then-targets-items-clause-content
+cast_fields-returns-then-targets-items-clause-content t c = grind (arith, records)
+
+pub cast_fields-returns-then-targets-items-clause-valid : goal.cast_fields-returns-then-targets-items-clause-valid
+cast_fields-returns-then-targets-items-clause-valid t c = grind (arith, records)
+
+pub cast_fields-returns-then-targets-items-clause-refused : goal.cast_fields-returns-then-targets-items-clause-refused
+cast_fields-returns-then-targets-items-clause-refused t c = grind (arith, records)
+
+pub cast_fields-returns-then-targets-items-clause-invalid : goal.cast_fields-returns-then-targets-items-clause-invalid
+cast_fields-returns-then-targets-items-clause-invalid t c = grind (arith, records)
+
+pub cast_fields-returns-in_err-all-clause-converts : goal.cast_fields-returns-in_err-all-clause-converts
+cast_fields-returns-in_err-all-clause-converts t c = grind (arith, (as_err c.from_residual.ensures.0).1)
+
+pub cast_fields-returns-in_err-all-clause-content : goal.cast_fields-returns-in_err-all-clause-content
+cast_fields-returns-in_err-all-clause-content t c = grind (arith, (as_err c.from_residual.ensures.0).1)
+
+pub cast_fields-returns-in_err-all-clause-valid : goal.cast_fields-returns-in_err-all-clause-valid
+cast_fields-returns-in_err-all-clause-valid t c = grind (arith, (as_err c.from_residual.ensures.0).1)
+
+pub cast_fields-returns-in_err-all-clause-refused : goal.cast_fields-returns-in_err-all-clause-refused
+cast_fields-returns-in_err-all-clause-refused t c = grind (arith, (as_err c.from_residual.ensures.0).1)
+
+pub cast_fields-returns-in_err-all-clause-invalid : goal.cast_fields-returns-in_err-all-clause-invalid
+cast_fields-returns-in_err-all-clause-invalid t c = grind (arith, (as_err c.from_residual.ensures.0).1)
+
+pub cast_fields-loop-i-init : goal.cast_fields-loop-i-init
+cast_fields-loop-i-init t c = grind (arith, records)
+
+pub cast_fields-offset_bounds-items-i : goal.cast_fields-offset_bounds-items-i
+cast_fields-offset_bounds-items-i t c = grind (arith, records, c.well_formed)
+
+pub cast_fields-bounds-items-i : goal.cast_fields-bounds-items-i
+cast_fields-bounds-items-i t c = grind (arith, records, c.well_formed)
+
+pub cast_fields-offset_bounds-sources-i : goal.cast_fields-offset_bounds-sources-i
+cast_fields-offset_bounds-sources-i t c = grind (arith, records, c.well_formed)
+
+pub cast_fields-bounds-sources-i : goal.cast_fields-bounds-sources-i
+cast_fields-bounds-sources-i t c = grind (arith, records, get_or_read, c.well_formed)
+
+pub cast_fields-offset_bounds-targets-i : goal.cast_fields-offset_bounds-targets-i
+cast_fields-offset_bounds-targets-i t c = grind (arith, records, c.well_formed)
+
+pub cast_fields-bounds-targets-i : goal.cast_fields-bounds-targets-i
+cast_fields-bounds-targets-i t c = grind (arith, records, get_or_read, c.well_formed)
+
+pub cast_fields-returns-in_err-new-clause-converts : goal.cast_fields-returns-in_err-new-clause-converts
+cast_fields-returns-in_err-new-clause-converts t c = grind (arith, (as_err c.from_residual-in_err-new.ensures.0).1)
+
+pub cast_fields-returns-in_err-new-clause-content : goal.cast_fields-returns-in_err-new-clause-content
+cast_fields-returns-in_err-new-clause-content t c = grind (arith, (as_err c.from_residual-in_err-new.ensures.0).1)
+
+pub cast_fields-returns-in_err-new-clause-valid : goal.cast_fields-returns-in_err-new-clause-valid
+cast_fields-returns-in_err-new-clause-valid t c = grind (arith, (as_err c.from_residual-in_err-new.ensures.0).1)
+
+pub cast_fields-returns-in_err-push-clause-converts : goal.cast_fields-returns-in_err-push-clause-converts
+cast_fields-returns-in_err-push-clause-converts t c = grind (arith, (as_err c.from_residual-in_err-push.ensures.0).1)
+
+pub cast_fields-returns-in_err-push-clause-content : goal.cast_fields-returns-in_err-push-clause-content
+cast_fields-returns-in_err-push-clause-content t c = grind (arith, (as_err c.from_residual-in_err-push.ensures.0).1)
+
+pub cast_fields-returns-in_err-push-clause-valid : goal.cast_fields-returns-in_err-push-clause-valid
+cast_fields-returns-in_err-push-clause-valid t c = grind (arith, (as_err c.from_residual-in_err-push.ensures.0).1)
+
+pub cast_fields-returns-in_err-push-clause-refused : goal.cast_fields-returns-in_err-push-clause-refused
+cast_fields-returns-in_err-push-clause-refused t c = grind (arith, (as_err c.from_residual-in_err-push.ensures.0).1)
+
+pub cast_fields-returns-in_err-push-clause-invalid : goal.cast_fields-returns-in_err-push-clause-invalid
+cast_fields-returns-in_err-push-clause-invalid t c = grind (arith, (as_err c.from_residual-in_err-push.ensures.0).1)
+
+pub cast_fields-loop-i-smaller : goal.cast_fields-loop-i-smaller
+cast_fields-loop-i-smaller t c = grind (arith, records, get_or_read, c.well_formed, c.loop-i.invariant, c.loop-i.far-i, c.loop-i-test.true)
+
+pub cast_fields-returns-clause-converts : goal.cast_fields-returns-clause-converts
+cast_fields-returns-clause-converts t c = grind (arith, common_steps)
+
+pub cast_fields-returns-clause-valid : goal.cast_fields-returns-clause-valid
+cast_fields-returns-clause-valid t c = grind (arith, common_steps)
+
+pub cast_fields-returns-clause-refused : goal.cast_fields-returns-clause-refused
+cast_fields-returns-clause-refused t c = grind (arith, records, c.well_formed)
+
+pub cast_fields-returns-clause-invalid : goal.cast_fields-returns-clause-invalid
+cast_fields-returns-clause-invalid t c = grind (arith, records, c.well_formed)
+
+pub cast_items-returns-in_err-all-clause-converts : goal.cast_items-returns-in_err-all-clause-converts
+cast_items-returns-in_err-all-clause-converts t c = grind (arith, (as_err c.from_residual.ensures.0).1)
+
+pub cast_items-returns-in_err-all-clause-content : goal.cast_items-returns-in_err-all-clause-content
+cast_items-returns-in_err-all-clause-content t c = grind (arith, (as_err c.from_residual.ensures.0).1)
+
+pub cast_items-returns-in_err-all-clause-valid : goal.cast_items-returns-in_err-all-clause-valid
+cast_items-returns-in_err-all-clause-valid t c = grind (arith, (as_err c.from_residual.ensures.0).1)
+
+pub cast_items-returns-in_err-all-clause-refused : goal.cast_items-returns-in_err-all-clause-refused
+cast_items-returns-in_err-all-clause-refused t c = grind (arith, (as_err c.from_residual.ensures.0).1)
+
+pub cast_items-returns-in_err-all-clause-invalid : goal.cast_items-returns-in_err-all-clause-invalid
+cast_items-returns-in_err-all-clause-invalid t c = grind (arith, (as_err c.from_residual.ensures.0).1)
+
+pub cast_items-loop-item-init : goal.cast_items-loop-item-init
+cast_items-loop-item-init t c = grind (arith, one_level)
+
+pub cast_items-offset_bounds-items-item-index : goal.cast_items-offset_bounds-items-item-index
+cast_items-offset_bounds-items-item-index t c = grind (arith, one_level, c.well_formed)
+
+pub cast_items-returns-in_err-new-clause-converts : goal.cast_items-returns-in_err-new-clause-converts
+cast_items-returns-in_err-new-clause-converts t c = grind (arith, (as_err c.from_residual-in_err-new.ensures.0).1)
+
+pub cast_items-returns-in_err-new-clause-content : goal.cast_items-returns-in_err-new-clause-content
+cast_items-returns-in_err-new-clause-content t c = grind (arith, (as_err c.from_residual-in_err-new.ensures.0).1)
+
+pub cast_items-returns-in_err-new-clause-valid : goal.cast_items-returns-in_err-new-clause-valid
+cast_items-returns-in_err-new-clause-valid t c = grind (arith, (as_err c.from_residual-in_err-new.ensures.0).1)
+
+pub cast_items-returns-in_err-new-clause-refused : goal.cast_items-returns-in_err-new-clause-refused
+cast_items-returns-in_err-new-clause-refused t c = grind (arith, common_steps)
+
+pub cast_items-returns-in_err-push-clause-converts : goal.cast_items-returns-in_err-push-clause-converts
+cast_items-returns-in_err-push-clause-converts t c = grind (arith, (as_err c.from_residual-in_err-push.ensures.0).1)
+
+pub cast_items-returns-in_err-push-clause-content : goal.cast_items-returns-in_err-push-clause-content
+cast_items-returns-in_err-push-clause-content t c = grind (arith, (as_err c.from_residual-in_err-push.ensures.0).1)
+
+pub cast_items-returns-in_err-push-clause-valid : goal.cast_items-returns-in_err-push-clause-valid
+cast_items-returns-in_err-push-clause-valid t c = grind (arith, (as_err c.from_residual-in_err-push.ensures.0).1)
+
+pub cast_items-returns-in_err-push-clause-refused : goal.cast_items-returns-in_err-push-clause-refused
+cast_items-returns-in_err-push-clause-refused t c = grind (arith, (as_err c.from_residual-in_err-push.ensures.0).1)
+
+pub cast_items-returns-in_err-push-clause-invalid : goal.cast_items-returns-in_err-push-clause-invalid
+cast_items-returns-in_err-push-clause-invalid t c = grind (arith, (as_err c.from_residual-in_err-push.ensures.0).1)
+
+pub cast_items-loop-item-smaller : goal.cast_items-loop-item-smaller
+cast_items-loop-item-smaller t c = grind (arith, one_level, get_or_read, c.well_formed, c.loop-item.invariant, c.loop-item.far-item-index, c.loop-item-test.true)
+
+pub cast_items-returns-clause-converts : goal.cast_items-returns-clause-converts
+cast_items-returns-clause-converts t c = grind (arith, common_steps)
+
+pub cast_items-returns-clause-valid : goal.cast_items-returns-clause-valid
+cast_items-returns-clause-valid t c = grind (arith, one_level, c.well_formed)
+
+pub cast_items-returns-clause-refused : goal.cast_items-returns-clause-refused
+cast_items-returns-clause-refused t c = grind (arith, one_level, c.well_formed)
+
+pub cast_items-returns-clause-invalid : goal.cast_items-returns-clause-invalid
+cast_items-returns-clause-invalid t c = grind (arith, one_level, c.well_formed)
+
+pub cast_tuple-returns-then-not-takes_length-clause-converts : goal.cast_tuple-returns-then-not-takes_length-clause-converts
+cast_tuple-returns-then-not-takes_length-clause-converts t c = grind (arith, tuples, get_or_read)
+
+pub cast_tuple-returns-then-not-takes_length-clause-content : goal.cast_tuple-returns-then-not-takes_length-clause-content
+cast_tuple-returns-then-not-takes_length-clause-content t c = grind (arith, tuples, get_or_read)
+
+pub cast_tuple-returns-then-not-takes_length-clause-valid : goal.cast_tuple-returns-then-not-takes_length-clause-valid
+cast_tuple-returns-then-not-takes_length-clause-valid t c = grind (arith, tuples, get_or_read)
+
+pub cast_tuple-returns-then-not-takes_length-clause-refused : goal.cast_tuple-returns-then-not-takes_length-clause-refused
+cast_tuple-returns-then-not-takes_length-clause-refused t c = grind (arith, tuples, get_or_read)
+
+pub cast_tuple-returns-then-not-takes_length-clause-invalid : goal.cast_tuple-returns-then-not-takes_length-clause-invalid
+cast_tuple-returns-then-not-takes_length-clause-invalid t c = grind (arith, tuples, get_or_read)
+
+pub cast_tuple-returns-in_default-list_element-clause-converts : goal.cast_tuple-returns-in_default-list_element-clause-converts
+cast_tuple-returns-in_default-list_element-clause-converts t c = grind (arith, tuples, get_or_read)
+
+pub cast_tuple-returns-in_default-list_element-clause-content : goal.cast_tuple-returns-in_default-list_element-clause-content
+cast_tuple-returns-in_default-list_element-clause-content t c = grind (arith, tuples, get_or_read)
+
+pub cast_tuple-returns-in_default-list_element-clause-valid : goal.cast_tuple-returns-in_default-list_element-clause-valid
+cast_tuple-returns-in_default-list_element-clause-valid t c = grind (arith, tuples, get_or_read)
+
+pub cast_tuple-returns-in_default-list_element-clause-refused : goal.cast_tuple-returns-in_default-list_element-clause-refused
+cast_tuple-returns-in_default-list_element-clause-refused t c = grind (arith, tuples, get_or_read)
+
+pub cast_tuple-returns-in_default-list_element-clause-invalid : goal.cast_tuple-returns-in_default-list_element-clause-invalid
+cast_tuple-returns-in_default-list_element-clause-invalid t c = grind (arith, tuples, get_or_read)
+
+pub cast_tuple-returns-in_err-all-clause-converts : goal.cast_tuple-returns-in_err-all-clause-converts
+cast_tuple-returns-in_err-all-clause-converts t c = grind (arith, (as_err c.from_residual.ensures.0).1)
+
+pub cast_tuple-returns-in_err-all-clause-content : goal.cast_tuple-returns-in_err-all-clause-content
+cast_tuple-returns-in_err-all-clause-content t c = grind (arith, (as_err c.from_residual.ensures.0).1)
+
+pub cast_tuple-returns-in_err-all-clause-valid : goal.cast_tuple-returns-in_err-all-clause-valid
+cast_tuple-returns-in_err-all-clause-valid t c = grind (arith, (as_err c.from_residual.ensures.0).1)
+
+pub cast_tuple-returns-in_err-all-clause-refused : goal.cast_tuple-returns-in_err-all-clause-refused
+cast_tuple-returns-in_err-all-clause-refused t c = grind (arith, (as_err c.from_residual.ensures.0).1)
+
+pub cast_tuple-returns-in_err-all-clause-invalid : goal.cast_tuple-returns-in_err-all-clause-invalid
+cast_tuple-returns-in_err-all-clause-invalid t c = grind (arith, (as_err c.from_residual.ensures.0).1)
+
+pub cast_tuple-returns-in-Some-clause-content : goal.cast_tuple-returns-in-Some-clause-content
+cast_tuple-returns-in-Some-clause-content t c = grind (arith, tuples, get_or_read)
+
+pub cast_tuple-returns-in-Some-clause-refused : goal.cast_tuple-returns-in-Some-clause-refused
+cast_tuple-returns-in-Some-clause-refused t c = grind (arith, tuples, get_or_read)
+
+pub cast_tuple-returns-in-Some-clause-invalid : goal.cast_tuple-returns-in-Some-clause-invalid
+cast_tuple-returns-in-Some-clause-invalid t c = grind (arith, tuples, get_or_read)
+
+pub cast_tuple-returns-in_default-as_struct_fields_opt-clause-converts : goal.cast_tuple-returns-in_default-as_struct_fields_opt-clause-converts
+cast_tuple-returns-in_default-as_struct_fields_opt-clause-converts t c = grind (arith, tuples, get_or_read)
+
+pub cast_tuple-returns-in_default-as_struct_fields_opt-clause-content : goal.cast_tuple-returns-in_default-as_struct_fields_opt-clause-content
+cast_tuple-returns-in_default-as_struct_fields_opt-clause-content t c = grind (arith, tuples, get_or_read)
+
+pub cast_tuple-returns-in_default-as_struct_fields_opt-clause-valid : goal.cast_tuple-returns-in_default-as_struct_fields_opt-clause-valid
+cast_tuple-returns-in_default-as_struct_fields_opt-clause-valid t c = grind (arith, tuples, get_or_read)
+
+pub cast_tuple-returns-in_default-as_struct_fields_opt-clause-refused : goal.cast_tuple-returns-in_default-as_struct_fields_opt-clause-refused
+cast_tuple-returns-in_default-as_struct_fields_opt-clause-refused t c = grind (arith, tuples, get_or_read)
+
+pub cast_tuple-returns-in_default-as_struct_fields_opt-clause-invalid : goal.cast_tuple-returns-in_default-as_struct_fields_opt-clause-invalid
+cast_tuple-returns-in_default-as_struct_fields_opt-clause-invalid t c = grind (arith, tuples, get_or_read)
+
+pub cast_tuple-returns-in_default-as_struct_fields_opt-2-clause-converts : goal.cast_tuple-returns-in_default-as_struct_fields_opt-2-clause-converts
+cast_tuple-returns-in_default-as_struct_fields_opt-2-clause-converts t c = grind (arith, tuples, get_or_read)
+
+pub cast_tuple-returns-in_default-as_struct_fields_opt-2-clause-content : goal.cast_tuple-returns-in_default-as_struct_fields_opt-2-clause-content
+cast_tuple-returns-in_default-as_struct_fields_opt-2-clause-content t c = grind (arith, tuples, get_or_read)
+
+pub cast_tuple-returns-in_default-as_struct_fields_opt-2-clause-valid : goal.cast_tuple-returns-in_default-as_struct_fields_opt-2-clause-valid
+cast_tuple-returns-in_default-as_struct_fields_opt-2-clause-valid t c = grind (arith, tuples, get_or_read)
+
+pub cast_tuple-returns-in_default-as_struct_fields_opt-2-clause-refused : goal.cast_tuple-returns-in_default-as_struct_fields_opt-2-clause-refused
+cast_tuple-returns-in_default-as_struct_fields_opt-2-clause-refused t c = grind (arith, tuples, get_or_read)
+
+pub cast_tuple-returns-in_default-as_struct_fields_opt-2-clause-invalid : goal.cast_tuple-returns-in_default-as_struct_fields_opt-2-clause-invalid
+cast_tuple-returns-in_default-as_struct_fields_opt-2-clause-invalid t c = grind (arith, tuples, get_or_read)
+
+pub cast_tuple-returns-in_err-all-2-clause-converts : goal.cast_tuple-returns-in_err-all-2-clause-converts
+cast_tuple-returns-in_err-all-2-clause-converts t c = grind (arith, (as_err c.from_residual-in_err-all-2.ensures.0).1)
+
+pub cast_tuple-returns-in_err-all-2-clause-content : goal.cast_tuple-returns-in_err-all-2-clause-content
+cast_tuple-returns-in_err-all-2-clause-content t c = grind (arith, (as_err c.from_residual-in_err-all-2.ensures.0).1)
+
+pub cast_tuple-returns-in_err-all-2-clause-valid : goal.cast_tuple-returns-in_err-all-2-clause-valid
+cast_tuple-returns-in_err-all-2-clause-valid t c = grind (arith, (as_err c.from_residual-in_err-all-2.ensures.0).1)
+
+pub cast_tuple-returns-in_err-all-2-clause-refused : goal.cast_tuple-returns-in_err-all-2-clause-refused
+cast_tuple-returns-in_err-all-2-clause-refused t c = grind (arith, (as_err c.from_residual-in_err-all-2.ensures.0).1)
+
+pub cast_tuple-returns-in_err-all-2-clause-invalid : goal.cast_tuple-returns-in_err-all-2-clause-invalid
+cast_tuple-returns-in_err-all-2-clause-invalid t c = grind (arith, (as_err c.from_residual-in_err-all-2.ensures.0).1)
+
+pub cast_tuple-returns-clause-converts : goal.cast_tuple-returns-clause-converts
+cast_tuple-returns-clause-converts t c = grind (arith, tuples, get_or_read)
+
+pub cast_tuple-returns-clause-content : goal.cast_tuple-returns-clause-content
+cast_tuple-returns-clause-content t c = grind (arith, tuples, get_or_read)
+
+pub cast_tuple-returns-clause-valid : goal.cast_tuple-returns-clause-valid
+cast_tuple-returns-clause-valid t c = grind (arith, tuples, get_or_read)
+
+pub cast_tuple-returns-clause-refused : goal.cast_tuple-returns-clause-refused
+cast_tuple-returns-clause-refused t c = grind (arith, tuples, get_or_read)
+
+pub cast_tuple-returns-clause-invalid : goal.cast_tuple-returns-clause-invalid
+cast_tuple-returns-clause-invalid t c = grind (arith, tuples, get_or_read)
+
+pub cast_value-returns-then-is_nullable-clause-converts : goal.cast_value-returns-then-is_nullable-clause-converts
+cast_value-returns-then-is_nullable-clause-converts t c = grind (arith, values)
+
+pub cast_value-returns-then-is_nullable-clause-content : goal.cast_value-returns-then-is_nullable-clause-content
+cast_value-returns-then-is_nullable-clause-content t c = grind (arith, values)
+
+pub cast_value-returns-then-is_nullable-clause-valid : goal.cast_value-returns-then-is_nullable-clause-valid
+cast_value-returns-then-is_nullable-clause-valid t c = grind (arith, values)
+
+pub cast_value-returns-then-is_nullable-clause-refused : goal.cast_value-returns-then-is_nullable-clause-refused
+cast_value-returns-then-is_nullable-clause-refused t c = grind (arith, values)
+
+pub cast_value-returns-then-is_nullable-clause-invalid : goal.cast_value-returns-then-is_nullable-clause-invalid
+cast_value-returns-then-is_nullable-clause-invalid t c = grind (arith, values)
+
+pub cast_value-returns-in_default-clause-converts : goal.cast_value-returns-in_default-clause-converts
+cast_value-returns-in_default-clause-converts t c = grind (arith, values)
+
+pub cast_value-returns-in_default-clause-content : goal.cast_value-returns-in_default-clause-content
+cast_value-returns-in_default-clause-content t c = grind (arith, values)
+
+pub cast_value-returns-in_default-clause-valid : goal.cast_value-returns-in_default-clause-valid
+cast_value-returns-in_default-clause-valid t c = grind (arith, values)
+
+pub cast_value-returns-in_default-clause-refused : goal.cast_value-returns-in_default-clause-refused
+cast_value-returns-in_default-clause-refused t c = grind (arith, values)
+
+pub cast_value-returns-in_default-clause-invalid : goal.cast_value-returns-in_default-clause-invalid
+cast_value-returns-in_default-clause-invalid t c = grind (arith, values)
+
+pub cast_value-returns-in_err-kept-clause-converts : goal.cast_value-returns-in_err-kept-clause-converts
+cast_value-returns-in_err-kept-clause-converts t c = grind (arith, (as_err c.from_residual.ensures.0).1)
+
+pub cast_value-returns-in_err-kept-clause-content : goal.cast_value-returns-in_err-kept-clause-content
+cast_value-returns-in_err-kept-clause-content t c = grind (arith, (as_err c.from_residual.ensures.0).1)
+
+pub cast_value-returns-in_err-kept-clause-valid : goal.cast_value-returns-in_err-kept-clause-valid
+cast_value-returns-in_err-kept-clause-valid t c = grind (arith, (as_err c.from_residual.ensures.0).1)
+
+pub cast_value-returns-in_err-kept-clause-refused : goal.cast_value-returns-in_err-kept-clause-refused
+cast_value-returns-in_err-kept-clause-refused t c = grind (arith, (as_err c.from_residual.ensures.0).1)
+
+pub cast_value-returns-in_err-kept-clause-invalid : goal.cast_value-returns-in_err-kept-clause-invalid
+cast_value-returns-in_err-kept-clause-invalid t c = grind (arith, (as_err c.from_residual.ensures.0).1)
+
+pub cast_value-returns-then-is_kept-clause-converts : goal.cast_value-returns-then-is_kept-clause-converts
+cast_value-returns-then-is_kept-clause-converts t c = grind (arith, values)
+
+pub cast_value-returns-then-is_kept-clause-content : goal.cast_value-returns-then-is_kept-clause-content
+cast_value-returns-then-is_kept-clause-content t c = grind (arith, values)
+
+pub cast_value-returns-then-is_kept-clause-valid : goal.cast_value-returns-then-is_kept-clause-valid
+cast_value-returns-then-is_kept-clause-valid t c = grind (arith, values)
+
+pub cast_value-returns-then-is_kept-clause-refused : goal.cast_value-returns-then-is_kept-clause-refused
+cast_value-returns-then-is_kept-clause-refused t c = grind (arith, values)
+
+pub cast_value-returns-then-is_kept-clause-invalid : goal.cast_value-returns-then-is_kept-clause-invalid
+cast_value-returns-then-is_kept-clause-invalid t c = grind (arith, values)
+
+pub cast_value-returns-in_err-all-in-Some-as_list-clause-converts : goal.cast_value-returns-in_err-all-in-Some-as_list-clause-converts
+cast_value-returns-in_err-all-in-Some-as_list-clause-converts t c = grind (arith, (as_err c.from_residual-in_err-all-in-Some-as_list.ensures.0).1)
+
+pub cast_value-returns-in_err-all-in-Some-as_list-clause-content : goal.cast_value-returns-in_err-all-in-Some-as_list-clause-content
+cast_value-returns-in_err-all-in-Some-as_list-clause-content t c = grind (arith, (as_err c.from_residual-in_err-all-in-Some-as_list.ensures.0).1)
+
+pub cast_value-returns-in_err-all-in-Some-as_list-clause-valid : goal.cast_value-returns-in_err-all-in-Some-as_list-clause-valid
+cast_value-returns-in_err-all-in-Some-as_list-clause-valid t c = grind (arith, (as_err c.from_residual-in_err-all-in-Some-as_list.ensures.0).1)
+
+pub cast_value-returns-in_err-all-in-Some-as_list-clause-refused : goal.cast_value-returns-in_err-all-in-Some-as_list-clause-refused
+cast_value-returns-in_err-all-in-Some-as_list-clause-refused t c = grind (arith, (as_err c.from_residual-in_err-all-in-Some-as_list.ensures.0).1)
+
+pub cast_value-returns-in_err-all-in-Some-as_list-clause-invalid : goal.cast_value-returns-in_err-all-in-Some-as_list-clause-invalid
+cast_value-returns-in_err-all-in-Some-as_list-clause-invalid t c = grind (arith, (as_err c.from_residual-in_err-all-in-Some-as_list.ensures.0).1)
+
+pub cast_value-returns-in_err-leaf-in-None-clause-converts : goal.cast_value-returns-in_err-leaf-in-None-clause-converts
+cast_value-returns-in_err-leaf-in-None-clause-converts t c = grind (arith, (as_err c.from_residual-in_err-leaf-in-None.ensures.0).1)
+
+pub cast_value-returns-in_err-leaf-in-None-clause-content : goal.cast_value-returns-in_err-leaf-in-None-clause-content
+cast_value-returns-in_err-leaf-in-None-clause-content t c = grind (arith, (as_err c.from_residual-in_err-leaf-in-None.ensures.0).1)
+
+pub cast_value-returns-in_err-leaf-in-None-clause-valid : goal.cast_value-returns-in_err-leaf-in-None-clause-valid
+cast_value-returns-in_err-leaf-in-None-clause-valid t c = grind (arith, (as_err c.from_residual-in_err-leaf-in-None.ensures.0).1)
+
+pub cast_value-returns-in_err-leaf-in-None-clause-refused : goal.cast_value-returns-in_err-leaf-in-None-clause-refused
+cast_value-returns-in_err-leaf-in-None-clause-refused t c = grind (arith, (as_err c.from_residual-in_err-leaf-in-None.ensures.0).1)
+
+pub cast_value-returns-in_err-leaf-in-None-clause-invalid : goal.cast_value-returns-in_err-leaf-in-None-clause-invalid
+cast_value-returns-in_err-leaf-in-None-clause-invalid t c = grind (arith, (as_err c.from_residual-in_err-leaf-in-None.ensures.0).1)
+
+pub cast_value-returns-in_ok-all-in-Some-as_list-clause-converts : goal.cast_value-returns-in_ok-all-in-Some-as_list-clause-converts
+cast_value-returns-in_ok-all-in-Some-as_list-clause-converts t c = grind (arith, values, get_or_read)
+
+pub cast_value-returns-in_ok-all-in-Some-as_list-clause-content : goal.cast_value-returns-in_ok-all-in-Some-as_list-clause-content
+cast_value-returns-in_ok-all-in-Some-as_list-clause-content t c = grind (arith, values, get_or_read)
+
+pub cast_value-returns-in_ok-all-in-Some-as_list-clause-valid : goal.cast_value-returns-in_ok-all-in-Some-as_list-clause-valid
+cast_value-returns-in_ok-all-in-Some-as_list-clause-valid t c = grind (arith, values, get_or_read)
+
+pub cast_value-returns-in_ok-all-in-Some-as_list-clause-refused : goal.cast_value-returns-in_ok-all-in-Some-as_list-clause-refused
+cast_value-returns-in_ok-all-in-Some-as_list-clause-refused t c = grind (arith, values, get_or_read)
+
+pub cast_value-returns-in_ok-all-in-Some-as_list-clause-invalid : goal.cast_value-returns-in_ok-all-in-Some-as_list-clause-invalid
+cast_value-returns-in_ok-all-in-Some-as_list-clause-invalid t c = grind (arith, values, get_or_read)
+
+pub cast_value-returns-in_ok-leaf-in-None-clause-converts : goal.cast_value-returns-in_ok-leaf-in-None-clause-converts
+cast_value-returns-in_ok-leaf-in-None-clause-converts t c = grind (arith, values, get_or_read)
+
+pub cast_value-returns-in_ok-leaf-in-None-clause-content : goal.cast_value-returns-in_ok-leaf-in-None-clause-content
+cast_value-returns-in_ok-leaf-in-None-clause-content t c = grind (arith, values, get_or_read)
+
+pub cast_value-returns-in_ok-leaf-in-None-clause-valid : goal.cast_value-returns-in_ok-leaf-in-None-clause-valid
+cast_value-returns-in_ok-leaf-in-None-clause-valid t c = grind (arith, values, get_or_read)
+
+pub cast_value-returns-in_ok-leaf-in-None-clause-refused : goal.cast_value-returns-in_ok-leaf-in-None-clause-refused
+cast_value-returns-in_ok-leaf-in-None-clause-refused t c = grind (arith, values, get_or_read)
+
+pub cast_value-returns-in_ok-leaf-in-None-clause-invalid : goal.cast_value-returns-in_ok-leaf-in-None-clause-invalid
+cast_value-returns-in_ok-leaf-in-None-clause-invalid t c = grind (arith, values, get_or_read)

@@ -1,3 +1,5 @@
+use Rattle.std.below.core.proofs.iter.Serving.{as_err}
+use Rattle.std.proofs.lemmas.Grind.{common_steps}
 use Rattle.std.proofs.Common.{◌≡◌, ◌∙◌, ap, sym, arith, rules, ◌<◌, ◌+◌, ◌∷◌, ◌++◌, length, drop, map}
 use Rattle.vortex_model.specs.Content.{content_of}
 use Rattle.vortex_model.specs.Valid.{valid}
@@ -64,3 +66,42 @@ loop-value-preserved c =
       valid = made.valid old.valid;
       left = left_behind s t rows v behind here same more made.content (first_unconvertible 0 s t (said vs)) made.converts left;
     }
+
+pub returns-in_err-rows-clause-converts : goal.returns-in_err-rows-clause-converts
+returns-in_err-rows-clause-converts c = grind (arith, (as_err c.from_residual.ensures.0).1)
+
+pub returns-in_err-rows-clause-content : goal.returns-in_err-rows-clause-content
+returns-in_err-rows-clause-content c = grind (arith, (as_err c.from_residual.ensures.0).1)
+
+pub returns-in_err-rows-clause-valid : goal.returns-in_err-rows-clause-valid
+returns-in_err-rows-clause-valid c = grind (arith, (as_err c.from_residual.ensures.0).1)
+
+pub returns-in_err-rows-clause-refused : goal.returns-in_err-rows-clause-refused
+returns-in_err-rows-clause-refused c = grind (arith, (as_err c.from_residual.ensures.0).1)
+
+pub loop-value-init : goal.loop-value-init
+loop-value-init c = grind (arith, common_steps)
+
+pub offset_bounds-values-value-index : goal.offset_bounds-values-value-index
+offset_bounds-values-value-index c = grind (arith, common_steps)
+
+pub returns-in_err-push_converted-clause-converts : goal.returns-in_err-push_converted-clause-converts
+returns-in_err-push_converted-clause-converts c = grind (arith, (as_err c.from_residual-in_err-push_converted.ensures.0).1)
+
+pub returns-in_err-push_converted-clause-content : goal.returns-in_err-push_converted-clause-content
+returns-in_err-push_converted-clause-content c = grind (arith, (as_err c.from_residual-in_err-push_converted.ensures.0).1)
+
+pub returns-in_err-push_converted-clause-valid : goal.returns-in_err-push_converted-clause-valid
+returns-in_err-push_converted-clause-valid c = grind (arith, (as_err c.from_residual-in_err-push_converted.ensures.0).1)
+
+pub returns-clause-converts : goal.returns-clause-converts
+returns-clause-converts c = grind (arith, common_steps)
+
+pub returns-clause-content : goal.returns-clause-content
+returns-clause-content c = grind (arith, common_steps)
+
+pub returns-clause-valid : goal.returns-clause-valid
+returns-clause-valid c = grind (arith, common_steps)
+
+pub returns-clause-refused : goal.returns-clause-refused
+returns-clause-refused c = grind (arith, common_steps)

@@ -1,10 +1,12 @@
-use Rattle.std.proofs.Common.{[], get_or, cond, sym, ap, subst, ◌∙◌}
+use Rattle.std.below.core.proofs.iter.Serving.{as_err}
+use Rattle.std.proofs.Common.{[], get_or, cond, sym, ap, subst, ◌∙◌, arith}
 use Rattle.std.proofs.lemmas.Option.{get_or_from_slice_get}
 use Rattle.vortex_model.specs.Content.{raw_null}
 use Rattle.vortex_binary_views.specs.Views.{value_of}
 use Rattle.vortex_array_model.specs.Layout.{IsString}
 use Rattle.vortex_layouts.specs.LayoutOf.{strings_of}
 use Rattle.vortex_layouts.specs.RawRows.{raw_string}
+use Rattle.vortex_values.proofs.Views.{one_level}
 use Rattle.vortex_layouts.proofs.scalar.string_value.Goals as goal
 
 pub of_bytes-requires : goal.of_bytes-requires
@@ -20,3 +22,9 @@ returns-in_ok-bytes c =
     c.of_bytes.ensures
     ∙ ap (raw_string (strings_of c.args.kind)) (c.in_ok-bytes.ensures ∙ ap (λ b. value_of b c.args.buffers.now) (sym view))
     ∙ ap (λ b. cond b value raw_null) (sym c.if-is_valid.true ∙ c.is_valid.ensures)
+
+pub returns-in_err-bytes : goal.returns-in_err-bytes
+returns-in_err-bytes c = grind (arith, (as_err c.from_residual.ensures.0).1)
+
+pub returns-else-is_valid : goal.returns-else-is_valid
+returns-else-is_valid c = grind (arith, one_level)

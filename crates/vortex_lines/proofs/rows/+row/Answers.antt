@@ -1,3 +1,5 @@
+use Rattle.std.below.core.proofs.iter.Serving.{as_err}
+use Rattle.std.proofs.lemmas.Grind.{common_steps, elements}
 use Rattle.std.proofs.Common.{List, Some, map, option_map, sym, ap, ◌∙◌, arith}
 use Rattle.serde_json.specs.Data.{Data}
 use Rattle.serde_json.specs.View.{view, items_view}
@@ -30,3 +32,21 @@ take_value-returns-in-Some t c =
     ∙ ap (λ o. tuple_in o (items_view c.in-Array.items.items)) (sym c.in-Some.ensures ∙ ap Some (sym c.as_slice.ensures.fields))
     ∙ ap (option_map (λ (rs : List Raw). raw_tuple (raws_from rs))) c.in_ok-values-in-Some.ensures
     ∙ ap Some (sym (raw_of-Tuple c.in_ok-values-in-Some.values))
+
+pub take_fields-returns-in_err-values : goal.take_fields-returns-in_err-values
+take_fields-returns-in_err-values t c = grind (arith, (as_err c.from_residual.ensures.0).1)
+
+pub take_fields-loop-item-init-derived : goal.take_fields-loop-item-init-derived
+take_fields-loop-item-init-derived t c = grind (arith, common_steps)
+
+pub take_fields-loop-item-init : goal.take_fields-loop-item-init
+take_fields-loop-item-init t c = grind (arith, elements)
+
+pub take_fields-returns-in_default : goal.take_fields-returns-in_default
+take_fields-returns-in_default t c = grind (arith, common_steps)
+
+pub take_fields-returns-in_err-push : goal.take_fields-returns-in_err-push
+take_fields-returns-in_err-push t c = grind (arith, (as_err c.from_residual-in_err-push.ensures.0).1)
+
+pub take_fields-returns-then-is_empty : goal.take_fields-returns-then-is_empty
+take_fields-returns-then-is_empty t c = grind (arith, common_steps)

@@ -1,4 +1,6 @@
-use Rattle.std.proofs.Common.{◌≡◌, None, rules, subst, ◌+◌, ◌^◌, ◌≤◌, length, map}
+use Rattle.std.below.core.proofs.iter.Serving.{as_err}
+use Rattle.std.proofs.lemmas.Grind.{common_steps}
+use Rattle.std.proofs.Common.{◌≡◌, None, rules, subst, ◌+◌, ◌^◌, ◌≤◌, length, map, arith}
 use Rattle.vortex_model.specs.Content.{content_of}
 use Rattle.vortex_model.specs.Refusal.{or_else}
 use Rattle.vortex_model.specs.Kept.{kept_fault}
@@ -9,6 +11,7 @@ use Rattle.vortex_values.specs.View.{raw_in}
 use Rattle.vortex_chunks.specs.Error.{Explains}
 use Rattle.vortex_chunks.specs.TableView.{table_of}
 use Rattle.vortex_chunks.proofs.Explained.{none_so, explained_two}
+use Rattle.vortex_chunks.specs.contracts.table.Table.{the_row}
 use Rattle.vortex_chunks.proofs.table.Table.append_owned.Goals as goal
 
 pub convert_owned_rows-requires-clause-kept : goal.convert_owned_rows-requires-clause-kept
@@ -31,3 +34,60 @@ returns-in_err-check_batch-clause-refused c =
     (first_unconvertible 0 s t.kind (map content_of vs)) e refused in
     let gives = c.from_residual.ensures.1 in
     search (rules, why, gives)
+
+pub returns-in_err-check_batch-clause-appended : goal.returns-in_err-check_batch-clause-appended
+returns-in_err-check_batch-clause-appended c = grind (arith, (as_err c.from_residual.ensures.0).1)
+
+pub returns-in_err-check_batch-clause-accepted : goal.returns-in_err-check_batch-clause-accepted
+returns-in_err-check_batch-clause-accepted c = grind (arith, (as_err c.from_residual.ensures.0).1)
+
+pub returns-in_err-check_batch-clause-total : goal.returns-in_err-check_batch-clause-total
+returns-in_err-check_batch-clause-total c = grind (arith, (as_err c.from_residual.ensures.0).1)
+
+pub returns-in_err-check_batch-clause-unchanged : goal.returns-in_err-check_batch-clause-unchanged
+returns-in_err-check_batch-clause-unchanged c = grind (arith, (as_err c.from_residual.ensures.0).1)
+
+pub returns-in_err-rows-clause-appended : goal.returns-in_err-rows-clause-appended
+returns-in_err-rows-clause-appended c = grind (arith, (as_err c.from_residual-in_err-rows.ensures.0).1)
+
+pub returns-in_err-rows-clause-accepted : goal.returns-in_err-rows-clause-accepted
+returns-in_err-rows-clause-accepted c = grind (arith, (as_err c.from_residual-in_err-rows.ensures.0).1)
+
+pub returns-in_err-rows-clause-refused : goal.returns-in_err-rows-clause-refused
+returns-in_err-rows-clause-refused c = grind (arith, (as_err c.from_residual-in_err-rows.ensures.0).1)
+
+pub returns-in_err-rows-clause-total : goal.returns-in_err-rows-clause-total
+returns-in_err-rows-clause-total c = grind (arith, (as_err c.from_residual-in_err-rows.ensures.0).1)
+
+pub returns-in_err-rows-clause-unchanged : goal.returns-in_err-rows-clause-unchanged
+returns-in_err-rows-clause-unchanged c = grind (arith, (as_err c.from_residual-in_err-rows.ensures.0).1)
+
+pub returns-in_err-push_rows-clause-appended : goal.returns-in_err-push_rows-clause-appended
+returns-in_err-push_rows-clause-appended c = grind (arith, (as_err c.from_residual-in_err-push_rows.ensures.0).1)
+
+pub returns-in_err-push_rows-clause-accepted : goal.returns-in_err-push_rows-clause-accepted
+returns-in_err-push_rows-clause-accepted c = grind (arith, (as_err c.from_residual-in_err-push_rows.ensures.0).1)
+
+pub returns-in_err-push_rows-clause-refused : goal.returns-in_err-push_rows-clause-refused
+returns-in_err-push_rows-clause-refused c = grind (arith, common_steps, (the_row).coded.inj)
+
+pub returns-in_err-push_rows-clause-total : goal.returns-in_err-push_rows-clause-total
+returns-in_err-push_rows-clause-total c = grind (arith, (as_err c.from_residual-in_err-push_rows.ensures.0).1)
+
+pub returns-in_err-push_rows-clause-unchanged : goal.returns-in_err-push_rows-clause-unchanged
+returns-in_err-push_rows-clause-unchanged c = grind (arith, (as_err c.from_residual-in_err-push_rows.ensures.0).1)
+
+pub returns-clause-appended : goal.returns-clause-appended
+returns-clause-appended c = grind (arith, common_steps, (the_row).coded.inj)
+
+pub returns-clause-accepted : goal.returns-clause-accepted
+returns-clause-accepted c = grind (arith, common_steps, (the_row).coded.inj)
+
+pub returns-clause-refused : goal.returns-clause-refused
+returns-clause-refused c = grind (arith, common_steps, (the_row).coded.inj)
+
+pub returns-clause-total : goal.returns-clause-total
+returns-clause-total c = grind (arith, common_steps, (the_row).coded.inj)
+
+pub returns-clause-unchanged : goal.returns-clause-unchanged
+returns-clause-unchanged c = grind (arith, common_steps, (the_row).coded.inj)

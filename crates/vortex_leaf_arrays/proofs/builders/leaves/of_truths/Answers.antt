@@ -1,3 +1,4 @@
+use Rattle.std.proofs.lemmas.Grind.{common_steps}
 use Rattle.std.proofs.Common.{◌≡◌, ◌≤◌, length, map, sym, ap, subst, ◌∙◌, arith}
 use Rattle.std.proofs.lemmas.List.{take_all}
 use Rattle.vortex_model.specs.Kind.{boolean}
@@ -15,3 +16,6 @@ returns c =
     c.in_ok-bits-2.ensures ∙ c.as_slice.ensures.value ∙ c.loop-value.invariant ∙ ap (λ vs. map truth_or_false (map raw_at vs)) (take_all c.loop-value.value-index c.args.values.now all) in
     subst (IsPlain (boolean (nullability_of_flag c.args.nullability)) (map raw_at c.args.values.now)) (sym c.in_ok-array.ensures)
     (plain_truths (nullability_of_flag c.args.nullability) (map raw_at c.args.values.now) (valid_of c.in_ok-validity.validity) c.in_ok-bits-2.bits bits c.in_ok-validity.ensures)
+
+pub loop-value-preserved : goal.loop-value-preserved
+loop-value-preserved c = grind (arith, common_steps)

@@ -1,3 +1,4 @@
+use Rattle.std.below.core.proofs.iter.Serving.{as_err}
 use Rattle.std.proofs.Common.{◌≡◌, ◌<◌, [], ◌∷◌, ℕ, List, length, get_or, ap, ◌∙◌, arith, rules}
 use Rattle.std.proofs.lemmas.Grind.{common_steps}
 use Rattle.std.specs.Vec.Iter.{into_iter_items}
@@ -33,3 +34,18 @@ loop-dtype-preserved c =
       many = one_more_made c.loop-dtype.variants.items c.push.new.self.items _ c.in_ok-push.ensures.items c.in-Some.dtype left after _ e c.loop-dtype.invariant.many;
       all = one_more_choice c.loop-dtype.variants.items c.push.new.self.items _ c.in_ok-push.ensures.items names c.args.tags.now left after _ below below_tags is (first_of (search rules, grind (arith, common_steps))) e c.loop-dtype.invariant.all;
     }
+
+pub returns-in_err-variants : goal.returns-in_err-variants
+returns-in_err-variants c = grind (arith, (as_err c.from_residual.ensures.0).1)
+
+pub loop-dtype-init-derived : goal.loop-dtype-init-derived
+loop-dtype-init-derived c = grind (arith, common_steps)
+
+pub returns-in_err-name : goal.returns-in_err-name
+returns-in_err-name c = grind (arith, (as_err c.from_residual-in_err-name.ensures.0).1)
+
+pub returns-in_err-push : goal.returns-in_err-push
+returns-in_err-push c = grind (arith, (as_err c.from_residual-in_err-push.ensures.0).1)
+
+pub returns-in_err-variants-2 : goal.returns-in_err-variants-2
+returns-in_err-variants-2 c = grind (arith, (as_err c.from_residual-in_err-variants-2.ensures.0).1)
