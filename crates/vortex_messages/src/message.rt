@@ -16,7 +16,6 @@ pub struct Message {
 
 /// What a node says that it is, with the fields of its own. Any numbers and lists can be said; whether they make a type is for
 /// `from_proto` to tell.
-#[derive(Drop)]
 pub enum MessageKind {
     /// Null alone.
     Null,
@@ -68,4 +67,34 @@ pub enum MessageKind {
         /// What belongs to the meaning.
         metadata: Option<ByteBuffer>,
     },
+}
+
+impl Drop for MessageKind {
+    // Written out, since a derived drop is walked form by form wherever a message is let go.
+    fn drop(self) {
+        match self {
+            MessageKind::Null => {}
+            MessageKind::Bool => {}
+            MessageKind::Utf8 => {}
+            MessageKind::Binary => {}
+            MessageKind::Variant => {}
+            MessageKind::Primitive(_) => {}
+            MessageKind::Decimal {
+                precision: _,
+                scale: _,
+            } => {}
+            MessageKind::List => {}
+            MessageKind::FixedSizeList { size: _ } => {}
+            MessageKind::Map { sorted: _ } => {}
+            MessageKind::Struct { names: _names } => {}
+            MessageKind::Union {
+                names: _names,
+                tags: _tags,
+            } => {}
+            MessageKind::Extension {
+                id: _id,
+                metadata: _metadata,
+            } => {}
+        }
+    }
 }

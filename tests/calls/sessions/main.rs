@@ -9,7 +9,7 @@ mod faults;
 use crate::checks::Checks;
 use std::alloc::{AllocError, Global};
 use std::process::ExitCode;
-use vortex_table::dtype::DTypeError;
+use vortex_dtype::DTypeError;
 
 fn run_all(alloc: Global, checks: &mut Checks<'_>) -> Result<(), AllocError> {
     cut::each_line_is_answered(alloc, checks)?;

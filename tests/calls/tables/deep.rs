@@ -3,11 +3,11 @@
 use crate::checks::Checks;
 use crate::make::{cell, integers, number};
 use std::alloc::{AllocError, Global};
-use vortex_table::dtype::{
+use vortex_dtype::{
     DType, Field, FieldName, FieldNames, FieldPath, Nullability, StructField, StructFields,
 };
+use vortex_scalar::ScalarValue;
 use vortex_table::expr::{col, gt};
-use vortex_table::scalar::ScalarValue;
 use vortex_table::table::{Table, TableError};
 
 /// How many records stand around the number.

@@ -3,7 +3,7 @@
 use crate::checks::Checks;
 use crate::make::{column, constant, filled, number, record, row, scan, truth, two_columns};
 use std::alloc::Global;
-use vortex_table::dtype::{DType, Nullability, PType};
+use vortex_dtype::{DType, Nullability, PType};
 use vortex_table::expr::{AggregateFn, and, eq, stat};
 use vortex_table::table::{Table, TableError};
 

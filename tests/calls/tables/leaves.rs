@@ -3,9 +3,9 @@
 use crate::checks::Checks;
 use crate::make::{cell, column, constant, integers, record, scan, truth};
 use std::alloc::{AllocError, Global};
-use vortex_table::dtype::{BufferString, ByteBuffer, DType, Nullability};
+use vortex_dtype::{BufferString, ByteBuffer, DType, Nullability};
+use vortex_scalar::ScalarValue;
 use vortex_table::expr::{Expression, eq, lt};
-use vortex_table::scalar::ScalarValue;
 use vortex_table::table::{Table, TableError};
 
 fn texts() -> DType {

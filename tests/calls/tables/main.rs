@@ -11,7 +11,7 @@ mod scans;
 use crate::checks::Checks;
 use std::alloc::Global;
 use std::process::ExitCode;
-use vortex_table::dtype::DTypeError;
+use vortex_dtype::DTypeError;
 use vortex_table::table::TableError;
 
 fn run_all(alloc: Global, checks: &mut Checks<'_>) -> Result<(), TableError> {

@@ -1,11 +1,11 @@
 //! Types, rows, predicates and tables that calls are made on.
 
 use std::alloc::{AllocError, Global};
-use vortex_table::dtype::{
+use vortex_dtype::{
     DType, FieldName, FieldNames, FieldPath, Nullability, PType, StructField, StructFields,
 };
+use vortex_scalar::{PValue, Scalar, ScalarError, ScalarValue};
 use vortex_table::expr::{Expression, col, lit};
-use vortex_table::scalar::{PValue, Scalar, ScalarError, ScalarValue};
 use vortex_table::table::{ScanAnswer, Table, TableError};
 
 /// An i32 without null.

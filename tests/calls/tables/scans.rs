@@ -3,9 +3,9 @@
 use crate::checks::Checks;
 use crate::make::{cell, column, filled, integers, number, record, scan, truth};
 use std::alloc::{AllocError, Global};
-use vortex_table::dtype::{DType, FieldPath, Nullability};
+use vortex_dtype::{DType, FieldPath, Nullability};
+use vortex_scalar::{Scalar, ScalarValue};
 use vortex_table::expr::{and, eq, gt, lit, lt, or};
-use vortex_table::scalar::{Scalar, ScalarValue};
 use vortex_table::table::{Table, TableError};
 
 /// Connectives, and a predicate that is a constant.

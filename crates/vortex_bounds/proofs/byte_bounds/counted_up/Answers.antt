@@ -1,4 +1,4 @@
-use Rattle.std.proofs.Common.{◌≡◌, ◌∙◌, suc, ◌+◌, ◌-◌, ◌∷◌, ◌<◌, ◌++◌, sym, ap, subst, arith, get_or, take, length-take, replicate}
+use Rattle.std.proofs.Common.{◌≡◌, ◌∙◌, suc, ◌+◌, ◌-◌, ◌∷◌, ◌<◌, ◌++◌, sym, ap, subst, arith, get_or, take, length-take, replicate, rules}
 use Rattle.std.proofs.lemmas.List.Elements.{All-from_get_or, recursion_from_All}
 use Rattle.vortex_model.specs.Valid.{AreBytes}
 use Rattle.vortex_model.specs.Bounds.{IsLeastAbove}
@@ -22,3 +22,30 @@ returns c =
     (c.in_ok-extend_from_slice.ensures.items ∙ ap (λ xs. xs ++ take j v) c.in_ok-high.ensures.items) c.in_ok-push.ensures.items c.in_ok-resize.ensures.items
     (omega (arith, c.in_ok-push.ensures.len, c.in_ok-extend_from_slice.ensures.len, c.in_ok-high.ensures.len, length-take j v, c.counted_length-end.ensures.within, c.requires)) (omega (arith, length-take j v, c.counted_length-end.ensures.within, c.requires)) c.counted_length-end.ensures.within in
     subst (λ h. IsLeastAbove v n h) (sym built) (upper v j e n bytes c.requires (omega arith) c.counted_length-end.ensures.within c.counted_length-end.ensures.full (c.counted_length-end.ensures.room pos))
+
+pub overflow_sub-end : goal.overflow_sub-end
+overflow_sub-end c = search rules
+
+pub returns-in_err-push : goal.returns-in_err-push
+returns-in_err-push c = search rules
+
+pub returns-in_err-high : goal.returns-in_err-high
+returns-in_err-high c = search rules
+
+pub returns-in_err-resize : goal.returns-in_err-resize
+returns-in_err-resize c = search rules
+
+pub slice_bounds-extend_from_slice-count : goal.slice_bounds-extend_from_slice-count
+slice_bounds-extend_from_slice-count c = search rules
+
+pub overflow_add-bytes : goal.overflow_add-bytes
+overflow_add-bytes c = search rules
+
+pub bounds-bytes-end : goal.bounds-bytes-end
+bounds-bytes-end c = search rules
+
+pub returns-in_err-extend_from_slice : goal.returns-in_err-extend_from_slice
+returns-in_err-extend_from_slice c = search rules
+
+pub slice_bounds-extend_from_slice-length : goal.slice_bounds-extend_from_slice-length
+slice_bounds-extend_from_slice-length c = search rules

@@ -1,4 +1,4 @@
-use Rattle.std.proofs.Common.{◌++◌, ◌∙◌, sym, ap, length}
+use Rattle.std.proofs.Common.{◌++◌, ◌∙◌, sym, ap, length, rules}
 use Rattle.std.specs.Char.{encode_utf8}
 use Rattle.vortex_bounds.proofs.Beginnings.{chars_last, chars_none}
 use Rattle.vortex_bounds.proofs.raising.split_last.Goals as goal
@@ -10,3 +10,9 @@ pub returns-in-Some-clause-parts : goal.returns-in-Some-clause-parts
 returns-in-Some-clause-parts c =
     chars_last c.args.text.now c.as_str.result.now c.in-Some.last c.utf8.text c.as_str.utf8
     (sym c.chars-letters.ensures.rest ∙ c.in-Some.ensures.steps ∙ ap (λ t. t ++ encode_utf8 c.in-Some.last) (sym c.as_str.ensures))
+
+pub returns-in-Some-clause-utf8 : goal.returns-in-Some-clause-utf8
+returns-in-Some-clause-utf8 c = search rules
+
+pub returns-in-None-clause-utf8 : goal.returns-in-None-clause-utf8
+returns-in-None-clause-utf8 c = search rules
