@@ -1,0 +1,91 @@
+#!/usr/bin/env python3
+"""Tries wrong bodies function by function: those of the crates' must-fail/BY_FUNCTION.md. Each has to be refused.
+
+by_function.py [CRATE ..]    all crates that have such a file, where none is named; once `rt ci` has built their libraries
+
+`rt ci` proves a crate whole once more for its first edit, which in these crates costs far more than the functions that the edits are of. Here only those functions are checked, with what they call: first as they stand, where each has to be
+proved, and then each under its edit, where it must not be. Each `##` of the file names an edit, with the function that loses its proof below it, and then the edit's text, as `rt must-fail` reads it. The last line is 'N passed, M failed',
+counted in edits.
+"""
+import concurrent.futures
+import importlib.machinery
+import os
+import re
+import shutil
+import subprocess
+import sys
+import tempfile
+
+sys.dont_write_bytecode = True
+TOP = os.path.dirname(os.path.dirname(os.path.abspath(__file__)))
+EDIT = re.compile(r"^## (\w+)\n\nRefused at `([\w:]+)`\.\n\n```\n(.*?\n)```$", re.M | re.S)
+# The kit's own `rt`, whose words for a check and whose reading of an edit are used here.
+RT = importlib.machinery.SourceFileLoader("rt", os.path.realpath(shutil.which("rt"))).load_module()
+
+
+def edits_of(crate):
+    """The crate's edits: name, function and text."""
+    with open(os.path.join(crate.folder, "must-fail", "BY_FUNCTION.md")) as file:
+        text = file.read()
+    edits = EDIT.findall(text)
+    assert edits and len(edits) == text.count("\n## "), "an edit of %s is not as the others" % crate.name
+    return edits
+
+
+def check(crate, copy, kept, functions):
+    """What the check of these functions says, over what checks before it kept."""
+    only = [word for it in functions for word in ("--only", it)]
+    words = [*RT.rtlib.guarded(), RT.rtlib.RATTLE, "check", *crate.words(["--jobs", "1"], keeps=False), "--incremental", kept, *only]
+    return subprocess.run(words, cwd=copy, stdin=subprocess.DEVNULL, stdout=subprocess.PIPE, stderr=subprocess.STDOUT, errors="replace").stdout
+
+
+def judged(crate, copy, kept, function, text):
+    """Why the edit is not refused as it should be, or nothing where it is."""
+    texts, why = RT.edited(text, crate.folder)
+    if why:
+        return why
+    for path, changed in texts.items():
+        with open(os.path.join(copy, path), "w") as file:
+            file.write(changed)
+    said = check(crate, copy, kept, [function])
+    for path in texts:
+        shutil.copy(os.path.join(crate.folder, path), os.path.join(copy, path))
+    lines = said.rstrip("\n").split("\n")
+    unread = next((it for it in lines if RT.unread(it, texts)), "")
+    if unread:
+        return "the edited text cannot be read: " + unread
+    lost = re.search(r"^fn %s::%s: (not proved|no proof)" % (crate.name, function), said, re.M)
+    return "" if lost and re.fullmatch(r"only=\d+ proved=\d+", lines[-1]) else "NOT REFUSED: " + lines[-1]
+
+
+def tried(crate):
+    """Each of the crate's edits, with why it fails, or nothing."""
+    edits = edits_of(crate)
+    with tempfile.TemporaryDirectory() as room:
+        copy, kept = os.path.join(room, "crate"), os.path.join(room, "kept")
+        shutil.copytree(crate.folder, copy, ignore=shutil.ignore_patterns("out", "must-fail"))
+        functions = sorted({function for _, function, _ in edits})
+        said = check(crate, copy, kept, functions)
+        proved = re.search(r"^only=(\d+) proved=(\d+)$", said, re.M)
+        if not proved or proved[1] != proved[2]:
+            return [(name, "the function is not proved as it stands: " + said[-400:]) for name, _, _ in edits]
+        return [(name, judged(crate, copy, kept, function, text)) for name, function, text in edits]
+
+
+def main(names):
+    os.chdir(TOP)
+    RT.rtlib.guarded()
+    crates = [it for it in RT.rtlib.crates_below(TOP) if os.path.exists(os.path.join(it.folder, "must-fail", "BY_FUNCTION.md"))]
+    crates = [it for it in crates if it.name in names or not names]
+    passed, failed = 0, 0
+    with concurrent.futures.ThreadPoolExecutor(len(os.sched_getaffinity(0))) as lanes:
+        for crate, found in zip(crates, lanes.map(tried, crates)):
+            for name, why in found:
+                print("by function %s/%s: %s" % (crate.name, name, why or "refused, as it must be"), flush=True)
+                passed, failed = passed + (not why), failed + bool(why)
+    print("%d passed, %d failed" % (passed, failed))
+    return failed > 0 or passed == 0
+
+
+if __name__ == "__main__":
+    sys.exit(main(sys.argv[1:]))
