@@ -4,8 +4,8 @@
 by_function.py [CRATE ..]    all crates that have such a file, where none is named; once `rt ci` has built their libraries
 
 `rt ci` proves a crate whole once more for its first edit, which in these crates costs far more than the functions that the edits are of. Here only those functions are checked, with what they call: first as they stand, where each has to be
-proved, and then each under its edit, where it must not be. Each `##` of the file names an edit, with the function that loses its proof below it, and then the edit's text, as `rt must-fail` reads it. The last line is 'N passed, M failed',
-counted in edits.
+proved, and then each under its edit, where it must not be. A proof reads the contracts of what its function calls and no bodies, so edits of different files are tried by one check, and each of their functions has to lose its proof. Each
+`##` of the file names an edit, with the function that loses its proof below it, and then the edit's text, as `rt must-fail` reads it. The last line is 'N passed, M failed', counted in edits.
 """
 import concurrent.futures
 import importlib.machinery
@@ -39,23 +39,33 @@ def check(crate, copy, kept, functions):
     return subprocess.run(words, cwd=copy, stdin=subprocess.DEVNULL, stdout=subprocess.PIPE, stderr=subprocess.STDOUT, errors="replace").stdout
 
 
-def judged(crate, copy, kept, function, text):
-    """Why the edit is not refused as it should be, or nothing where it is."""
-    texts, why = RT.edited(text, crate.folder)
-    if why:
-        return why
-    for path, changed in texts.items():
+def in_groups(edits):
+    """The edits in groups of those that one check tries: no two of a group change one file."""
+    groups = []
+    for edit in edits:
+        group = next((it for it in groups if not any(edit[2].keys() & other[2].keys() for other in it)), None)
+        if group is None:
+            groups.append([edit])
+        else:
+            group.append(edit)
+    return groups
+
+
+def judged(crate, copy, kept, group):
+    """Each edit of the group, with why it is not refused as it should be, or nothing where it is."""
+    texts = {path: text for _, _, it in group for path, text in it.items()}
+    for path, text in texts.items():
         with open(os.path.join(copy, path), "w") as file:
-            file.write(changed)
-    said = check(crate, copy, kept, [function])
+            file.write(text)
+    said = check(crate, copy, kept, [function for _, function, _ in group])
     for path in texts:
         shutil.copy(os.path.join(crate.folder, path), os.path.join(copy, path))
     lines = said.rstrip("\n").split("\n")
     unread = next((it for it in lines if RT.unread(it, texts)), "")
-    if unread:
-        return "the edited text cannot be read: " + unread
-    lost = re.search(r"^fn %s::%s: (not proved|no proof)" % (crate.name, function), said, re.M)
-    return "" if lost and re.fullmatch(r"only=\d+ proved=\d+", lines[-1]) else "NOT REFUSED: " + lines[-1]
+    if unread or not re.fullmatch(r"only=\d+ proved=\d+", lines[-1]):
+        return [(name, "not judged: " + (unread or lines[-1])) for name, _, _ in group]
+    lost = set(re.findall(r"^fn %s::([\w:]+): (?:not proved|no proof)" % crate.name, said, re.M))
+    return [(name, "" if function in lost else "NOT REFUSED: " + lines[-1]) for name, function, _ in group]
 
 
 def tried(crate):
@@ -64,12 +74,15 @@ def tried(crate):
     with tempfile.TemporaryDirectory() as room:
         copy, kept = os.path.join(room, "crate"), os.path.join(room, "kept")
         shutil.copytree(crate.folder, copy, ignore=shutil.ignore_patterns("out", "must-fail"))
-        functions = sorted({function for _, function, _ in edits})
-        said = check(crate, copy, kept, functions)
+        said = check(crate, copy, kept, sorted({function for _, function, _ in edits}))
         proved = re.search(r"^only=(\d+) proved=(\d+)$", said, re.M)
         if not proved or proved[1] != proved[2]:
             return [(name, "the function is not proved as it stands: " + said[-400:]) for name, _, _ in edits]
-        return [(name, judged(crate, copy, kept, function, text)) for name, function, text in edits]
+        applied = [(name, function, *RT.edited(text, crate.folder)) for name, function, text in edits]
+        found = [(name, why) for name, _, _, why in applied if why]
+        for group in in_groups([it[:3] for it in applied if not it[3]]):
+            found += judged(crate, copy, kept, group)
+        return sorted(found)
 
 
 def main(names):
