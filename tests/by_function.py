@@ -4,8 +4,8 @@
 by_function.py [CRATE ..]    all crates that have such a file, where none is named; once `rt ci` has built their libraries
 
 `rt ci` proves a crate whole once more for its first edit, which in these crates costs far more than the functions that the edits are of. Here only those functions are checked, with what they call: first as they stand, where each has to be
-proved, and then each under its edit, where it must not be. A proof reads the contracts of what its function calls and no bodies, so edits of different files are tried by one check, and each of their functions has to lose its proof. Each
-`##` of the file names an edit, with the function that loses its proof below it, and then the edit's text, as `rt must-fail` reads it. The last line is 'N passed, M failed', counted in edits.
+proved, and then each under its edit, where it must not be. A proof reads the contracts of what its function calls and no bodies, so edits of different files are tried by one check, and each of their functions has to lose its own proof;
+one that only calls what lost it is tried alone. Each `##` of the file names an edit, with the function that loses its proof below it, and then the edit's text, as `rt must-fail` reads it. The last line is 'N passed, M failed', counted in edits.
 """
 import concurrent.futures
 import importlib.machinery
@@ -64,8 +64,12 @@ def judged(crate, copy, kept, group):
     unread = next((it for it in lines if RT.unread(it, texts)), "")
     if unread or not re.fullmatch(r"only=\d+ proved=\d+", lines[-1]):
         return [(name, "not judged: " + (unread or lines[-1])) for name, _, _ in group]
-    lost = set(re.findall(r"^fn %s::([\w:]+): (?:not proved|no proof)" % crate.name, said, re.M))
-    return [(name, "" if function in lost else "NOT REFUSED: " + lines[-1]) for name, function, _ in group]
+    lost = set(re.findall(r"^fn %s::([\w:]+): (?:not proved|no proof)(?!: it calls )" % crate.name, said, re.M))
+    unclear = [it for it in group if it[1] not in lost]
+    found = [(name, "") for name, function, _ in group if function in lost]
+    if len(group) == 1:
+        return found + [(name, "NOT REFUSED: " + lines[-1]) for name, _, _ in unclear]
+    return found + [it for edit in unclear for it in judged(crate, copy, kept, [edit])]
 
 
 def tried(crate):
