@@ -2,7 +2,8 @@
 #![tactic(auto)]
 
 use std::process::ExitCode;
-use vortex_table::run::{RunError, Tap, run};
+use vortex_table_io::{RunError, Tap};
+use vortex_table_run::commands::run;
 
 /// What is said on standard error of a run that failed.
 fn fault(error: RunError) -> &'static str {

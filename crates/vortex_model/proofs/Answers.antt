@@ -2,7 +2,7 @@
 use Rattle.std.proofs.Common.{◌≡◌, refl, ◌∙◌, ap, List, [], ◌∷◌, ◌++◌, map, ℕ, Bool, true, false, if◌then◌else◌}
 use Rattle.std.specs.Prelude.{filter}
 use Rattle.std.specs.List.{AllByRecursion}
-use Rattle.vortex_model.specs.Kind.{Kind, struct, Fields, no_fields, field, stored}
+use Rattle.vortex_model.specs.LogicalType.{LogicalType, struct, Fields, no_fields, field, stored}
 use Rattle.vortex_model.specs.Content.{Content, null, tuple, Contents, nothing, first}
 use Rattle.vortex_model.specs.Valid.{IsContent, Holds, FieldsHold}
 use Rattle.vortex_model.specs.Path.{Names}
@@ -13,11 +13,11 @@ use Rattle.vortex_model.specs.Expression.{Expression}
 use Rattle.vortex_model.specs.Laws.{truth_value}
 use Rattle.vortex_model.proofs.Steps.{flat}
 
-all_selected : (k : Kind) (rows : List Content) → filter (selects k (truth_value true)) rows ≡ rows
+all_selected : (k : LogicalType) (rows : List Content) → filter (selects k (truth_value true)) rows ≡ rows
 all_selected k [] = refl
 all_selected k (row ∷ rows) = ap (λ ys. row ∷ ys) (all_selected k rows)
 
-none_selected : (k : Kind) (rows : List Content) → filter (selects k (truth_value false)) rows ≡ []
+none_selected : (k : LogicalType) (rows : List Content) → filter (selects k (truth_value false)) rows ≡ []
 none_selected k [] = refl
 none_selected k (row ∷ rows) = none_selected k rows
 
@@ -32,7 +32,7 @@ abbrev pub KeepAll : List Names → Type 0
 KeepAll paths = (here : Names) → is_kept paths here ≡ true
 
 mutual
-  pub uncut : (paths : List Names) → KeepAll paths → (here : Names) (k : Kind) (c : Content) → Holds (stored k) c → cut_content paths here k c ≡ c
+  pub uncut : (paths : List Names) → KeepAll paths → (here : Names) (k : LogicalType) (c : Content) → Holds (stored k) c → cut_content paths here k c ≡ c
   uncut paths all here (struct fs n) (tuple cs) h = ap (λ ds. tuple ds) (all_uncut paths all here fs cs h)
   uncut paths all here k c h = refl
 
@@ -44,7 +44,7 @@ mutual
   all_uncut paths all here fs cs h = absurd h
 
 mutual
-  pub uncut_kind : (paths : List Names) → KeepAll paths → (here : Names) (k : Kind) → cut_kind paths here k ≡ k
+  pub uncut_kind : (paths : List Names) → KeepAll paths → (here : Names) (k : LogicalType) → cut_kind paths here k ≡ k
   uncut_kind paths all here (struct fs n) = ap (λ gs. struct gs n) (all_uncut_kinds paths all here fs)
   uncut_kind paths all here k = refl
 
@@ -60,13 +60,13 @@ root_keeps here = refl
 
 -- ---- the type of an answer
 
-kept_field : (b : Bool) (x : List ℕ) (k : Kind) (fs : Fields) (c : Content) (cs : Contents) → Holds (stored k) c → FieldsHold fs cs →
+kept_field : (b : Bool) (x : List ℕ) (k : LogicalType) (fs : Fields) (c : Content) (cs : Contents) → Holds (stored k) c → FieldsHold fs cs →
     FieldsHold (if b then field x k fs else fs) (if b then first c cs else cs)
 kept_field true x k fs c cs h g = (h, g)
 kept_field false x k fs c cs h g = g
 
 mutual
-  pub cut_held : (paths : List Names) (here : Names) (k : Kind) (c : Content) → Holds (stored k) c → Holds (stored (cut_kind paths here k)) (cut_content paths here k c)
+  pub cut_held : (paths : List Names) (here : Names) (k : LogicalType) (c : Content) → Holds (stored k) c → Holds (stored (cut_kind paths here k)) (cut_content paths here k c)
   cut_held paths here (struct fs n) null h = h
   cut_held paths here (struct fs n) (tuple cs) h = fields_cut paths here fs cs h
   cut_held paths here (struct fs n) c h = absurd h
@@ -86,7 +86,7 @@ filter_all : (P : Content → Type 0) (p : Content → Bool) (rows : List Conten
 filter_all P p [] h = tt
 filter_all P p (row ∷ rows) h = kept_row P (p row) row (filter p rows) h.0 (filter_all P p rows h.1)
 
-cut_all : (paths : List Names) (k : Kind) (rows : List Content) → AllByRecursion (IsContent k) rows → AllByRecursion (IsContent (cut_type paths k)) (map (cut_row paths k) rows)
+cut_all : (paths : List Names) (k : LogicalType) (rows : List Content) → AllByRecursion (IsContent k) rows → AllByRecursion (IsContent (cut_type paths k)) (map (cut_row paths k) rows)
 cut_all paths k [] h = tt
 cut_all paths k (row ∷ rows) h = (cut_held paths [] k row h.0, cut_all paths k rows h.1)
 

@@ -10,8 +10,8 @@ use Rattle.vortex_model.specs.Table.{Table, rows_of, answer}
 use Rattle.vortex_model.specs.Command.{appended}
 use Rattle.vortex_model.proofs.Outcomes.{selected_more}
 
-pub same_answers : (t u : Table) (paths : List Names) (e : Expression) → t.kind ≡ u.kind → rows_of t ≡ rows_of u → answer t paths e ≡ answer u paths e
-same_answers t u paths e k r = λ i. map (cut_row paths (k i)) (filter (selects (k i) e) (r i))
+pub eq_answers : (t u : Table) (paths : List Names) (e : Expression) → t.kind ≡ u.kind → rows_of t ≡ rows_of u → answer t paths e ≡ answer u paths e
+eq_answers t u paths e k r = λ i. map (cut_row paths (k i)) (filter (selects (k i) e) (r i))
 
 pub appended_answers : (t : Table) (rows : List Content) (paths : List Names) (e : Expression) →
     answer (appended t rows) paths e ≡ answer t paths e ++ map (cut_row paths t.kind) (filter (selects t.kind e) rows)

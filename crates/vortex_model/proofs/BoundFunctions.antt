@@ -6,7 +6,7 @@ use Rattle.std.proofs.Math.Utf8.{scalars}
 use Rattle.std.proofs.lemmas.Bool.{leb-true, leb-false}
 use Rattle.std.proofs.lemmas.Bool.Decides.{nat_tests}
 use Rattle.std.proofs.lemmas.Str.{encodes-append, encodes-chars, scalars-chars, length-encode, chars-append}
-use Rattle.vortex_model.specs.Content.{Content, text, blob}
+use Rattle.vortex_model.specs.Content.{Content, text, byte_string}
 use Rattle.vortex_model.specs.Bounds.{IsLongestBeginning, AnyBytes, IsHighest, IsRaised, IsRaise, CannotBeRaised, IsLow, IsHigh, IsHighText, IsNext, IsRaisedBeginning, IsWellFormed, bytes_of, is_longer, low, high, characters_within, text_within, next_character, raise_characters, raise, count_up}
 use Rattle.vortex_model.proofs.Beginnings.{take_longest, longest_same, scalars_left, begins_length}
 use Rattle.vortex_model.proofs.Raised.{raise_made}
@@ -71,7 +71,7 @@ low_of_text v L u =
 
 pub low_by_function : (v : Content) (L : ℕ) → IsWellFormed v → IsLow v L (low L v)
 low_by_function (text v) L u = low_of_text v L u
-low_by_function (blob v) L b = take_longest v L
+low_by_function (byte_string v) L b = take_longest v L
 low_by_function v L w = refl
 
 -- ---- raising
@@ -158,7 +158,7 @@ text_by v L false u e = let le = not_longer L (length v) e in (λ short. refl, �
 
 pub high_by_function : (v : Content) (L : ℕ) → IsWellFormed v → IsHigh v L (high L v)
 high_by_function (text v) L u = text_by v L (nat_lt L (length v)) u refl
-high_by_function (blob v) L b = high_of_bytes v L b
+high_by_function (byte_string v) L b = high_of_bytes v L b
 high_by_function v L w = refl
 
 -- ---- a value that isn't longer is its own low and high
@@ -168,21 +168,21 @@ whole_longest P v L p le = record { fits = le; begins = ([], sym (append-nil v))
 
 pub low_itself : (v : Content) (L : ℕ) → IsWellFormed v → length (bytes_of v) ≤ L → IsLow v L v
 low_itself (text v) L u le = whole_longest IsUtf8 v L u le
-low_itself (blob v) L b le = whole_longest AnyBytes v L tt le
+low_itself (byte_string v) L b le = whole_longest AnyBytes v L tt le
 low_itself v L w le = refl
 
 pub high_itself : (v : Content) (L : ℕ) → length (bytes_of v) ≤ L → IsHigh v L (Some v)
 high_itself (text v) L le = (λ short. refl, λ long. absurd (omega (arith, le, long)))
-high_itself (blob v) L le = (λ short. refl, λ long. absurd (omega (arith, le, long)))
+high_itself (byte_string v) L le = (λ short. refl, λ long. absurd (omega (arith, le, long)))
 high_itself v L le = refl
 
 -- so the functions give it back
 pub low_short : (v : Content) (L : ℕ) → IsWellFormed v → is_longer L v ≡ false → low L v ≡ v
 low_short (text v) L u e = let le = not_longer L (length v) e in ap text (longest_same IsUtf8 v (text_within L v) v L (low_of_text v L u) (whole_longest IsUtf8 v L u le))
-low_short (blob v) L b e = let le = not_longer L (length v) e in ap blob (take_all L v le)
+low_short (byte_string v) L b e = let le = not_longer L (length v) e in ap byte_string (take_all L v le)
 low_short v L w e = refl
 
 pub high_short : (v : Content) (L : ℕ) → is_longer L v ≡ false → high L v ≡ Some v
 high_short (text v) L e = ap (λ b. if b then option_map text (raise (text_within L v)) else Some (text v)) e
-high_short (blob v) L e = ap (λ b. if b then option_map blob (count_up (take L v)) else Some (blob v)) e
+high_short (byte_string v) L e = ap (λ b. if b then option_map byte_string (count_up (take L v)) else Some (byte_string v)) e
 high_short v L e = refl

@@ -37,11 +37,11 @@ under_cases x y xs ys h =
 pub under_head : (x y : ℕ) (xs ys : List ℕ) → x < y → IsUnder (x ∷ xs) (y ∷ ys)
 under_head x y xs ys h = ap (λ o. ordering_then o (slice_cmp nat_cmp xs ys)) (sym (nat_cmp_is x y Less h))
 
-pub same_head : (x : ℕ) (xs ys : List ℕ) → slice_cmp nat_cmp (x ∷ xs) (x ∷ ys) ≡ slice_cmp nat_cmp xs ys
-same_head x xs ys = ap (λ o. ordering_then o (slice_cmp nat_cmp xs ys)) (sym (nat_cmp_is x x Equal refl))
+pub eq_head : (x : ℕ) (xs ys : List ℕ) → slice_cmp nat_cmp (x ∷ xs) (x ∷ ys) ≡ slice_cmp nat_cmp xs ys
+eq_head x xs ys = ap (λ o. ordering_then o (slice_cmp nat_cmp xs ys)) (sym (nat_cmp_is x x Equal refl))
 
 pub under_tail : (x : ℕ) (xs ys : List ℕ) → IsUnder xs ys → IsUnder (x ∷ xs) (x ∷ ys)
-under_tail x xs ys h = same_head x xs ys ∙ h
+under_tail x xs ys h = eq_head x xs ys ∙ h
 
 -- not above at the head, and under behind it where the heads are the same
 pub under_step : (x y : ℕ) (xs ys : List ℕ) → x ≤ y → (x ≡ y → IsUnder xs ys) → IsUnder (x ∷ xs) (y ∷ ys)
@@ -51,9 +51,9 @@ under_step x y xs ys le h =
     (λ e eq. subst (λ z. IsUnder (x ∷ xs) (z ∷ ys)) eq (under_tail x xs ys (h eq)))
     (λ e gt. absurd (omega arith))
 
-pub same_front : (p r t : List ℕ) → slice_cmp nat_cmp (p ++ r) (p ++ t) ≡ slice_cmp nat_cmp r t
-same_front [] r t = refl
-same_front (x ∷ p) r t = same_head x (p ++ r) (p ++ t) ∙ same_front p r t
+pub eq_front : (p r t : List ℕ) → slice_cmp nat_cmp (p ++ r) (p ++ t) ≡ slice_cmp nat_cmp r t
+eq_front [] r t = refl
+eq_front (x ∷ p) r t = eq_head x (p ++ r) (p ++ t) ∙ eq_front p r t
 
 pub equal_same : (v w : List ℕ) → slice_cmp nat_cmp v w ≡ Equal → v ≡ w
 equal_same [] [] h = refl
@@ -95,4 +95,4 @@ upto_nil (x ∷ v) = refl
 -- a beginning is not above the whole
 pub upto_front : (p r : List ℕ) → IsAtMostBytes p (p ++ r)
 upto_front [] r = upto_nil r
-upto_front (x ∷ p) r = ap (λ o. is_le o) (same_head x p (p ++ r)) ∙ upto_front p r
+upto_front (x ∷ p) r = ap (λ o. is_le o) (eq_head x p (p ++ r)) ∙ upto_front p r

@@ -5,10 +5,11 @@ use Rattle.std.specs.declared.cmp.Ordering.TheVariants.{Less, Equal, Greater}
 use Rattle.std.specs.Ordering.{int_cmp, ordering_reverse, is_gt, is_le}
 use Rattle.std.specs.Cmp.{IsTotalOrder, bool_cmp_total}
 use Rattle.std.proofs.lemmas.Cmp.{upto, int_cmp_total, nat_list_cmp_total}
-use Rattle.vortex_model.specs.Content.{Content, null, truth, whole, text, blob, tuple, tagged, scalar, Contents, nothing, first, is_null}
+use Rattle.vortex_model.specs.Content.{Content, null, boolean, integer, text, byte_string, tuple, tagged, scalar, Contents, nothing, first, is_null}
 use Rattle.vortex_model.specs.Order.{content_cmp, contents_cmp, and_then, is_known, IsAtMost}
 use Rattle.vortex_model.specs.Expression.{Comparison, equal, not_equal, greater, at_least, less, at_most as at_most_test}
 use Rattle.vortex_model.specs.Truth.{test_of, compared}
+use Rattle.vortex_model.proofs.Chains.{not_above_chain}
 
 -- the values compare, and the first is not above the second
 abbrev pub le : Content → Content → Bool
@@ -24,10 +25,10 @@ then_reversed (Some Greater) q = refl
 
 mutual
   pub reversed : (c d : Content) → content_cmp d c ≡ option_map ordering_reverse (content_cmp c d)
-  reversed (truth a) (truth b) = ap (λ o. Some o) (bool_cmp_total.antisymm b a)
-  reversed (whole a) (whole b) = ap (λ o. Some o) (int_cmp_total.antisymm b a)
+  reversed (boolean a) (boolean b) = ap (λ o. Some o) (bool_cmp_total.antisymm b a)
+  reversed (integer a) (integer b) = ap (λ o. Some o) (int_cmp_total.antisymm b a)
   reversed (text a) (text b) = ap (λ o. Some o) (nat_list_cmp_total.antisymm b a)
-  reversed (blob a) (blob b) = ap (λ o. Some o) (nat_list_cmp_total.antisymm b a)
+  reversed (byte_string a) (byte_string b) = ap (λ o. Some o) (nat_list_cmp_total.antisymm b a)
   reversed (tuple cs) (tuple ds) = all_reversed cs ds
   reversed (tagged t c) (tagged u d) =
       (λ i. and_then (Some (int_cmp_total.antisymm u t i)) (reversed c d i)) ∙ sym (then_reversed (Some (int_cmp t u)) (content_cmp c d))
@@ -56,58 +57,32 @@ not_gt Greater h = absurd (cc (h))
 pub le_trans : {K : Type 0} {R : K → K → Ordering} (o : IsTotalOrder R) (x y z : K) → is_le (R x y) ≡ true → is_le (R y z) ≡ true → is_le (R x z) ≡ true
 le_trans {K} {R} o x y z h g = le_not_gt (R x z) ∙ ap not (upto o x y z (not_gt (R x y) h) (not_gt (R y z) g))
 
-after_bound : (a b c : Content) → IsAtMost a b → le b c ≡ true → le a c ≡ true
-after_bound (truth a) (truth b) (truth c) h g = le_trans bool_cmp_total a b c h g
-after_bound (whole a) (whole b) (whole c) h g = le_trans int_cmp_total a b c h g
-after_bound (text a) (text b) (text c) h g = le_trans nat_list_cmp_total a b c h g
-after_bound (blob a) (blob b) (blob c) h g = le_trans nat_list_cmp_total a b c h g
-after_bound (truth a) (truth b) c h g = absurd (cc (g))
-after_bound (whole a) (whole b) c h g = absurd (cc (g))
-after_bound (text a) (text b) c h g = absurd (cc (g))
-after_bound (blob a) (blob b) c h g = absurd (cc (g))
-after_bound a b c h g = absurd (cc (h))
-
-before_bound : (b c d : Content) → le b c ≡ true → IsAtMost c d → le b d ≡ true
-before_bound (truth b) (truth c) (truth d) h g = le_trans bool_cmp_total b c d h g
-before_bound (whole b) (whole c) (whole d) h g = le_trans int_cmp_total b c d h g
-before_bound (text b) (text c) (text d) h g = le_trans nat_list_cmp_total b c d h g
-before_bound (blob b) (blob c) (blob d) h g = le_trans nat_list_cmp_total b c d h g
-before_bound null (truth c) (truth d) h g = refl
-before_bound null (whole c) (whole d) h g = refl
-before_bound null (text c) (text d) h g = refl
-before_bound null (blob c) (blob d) h g = refl
-before_bound b (truth c) (truth d) h g = absurd (cc (h))
-before_bound b (whole c) (whole d) h g = absurd (cc (h))
-before_bound b (text c) (text d) h g = absurd (cc (h))
-before_bound b (blob c) (blob d) h g = absurd (cc (h))
-before_bound b c d h g = absurd (cc (g))
-
 -- two bounds, one after the other
 pub at_most_trans : (a b c : Content) → IsAtMost a b → IsAtMost b c → IsAtMost a c
-at_most_trans (truth a) (truth b) (truth c) h g = le_trans bool_cmp_total a b c h g
-at_most_trans (whole a) (whole b) (whole c) h g = le_trans int_cmp_total a b c h g
+at_most_trans (boolean a) (boolean b) (boolean c) h g = le_trans bool_cmp_total a b c h g
+at_most_trans (integer a) (integer b) (integer c) h g = le_trans int_cmp_total a b c h g
 at_most_trans (text a) (text b) (text c) h g = le_trans nat_list_cmp_total a b c h g
-at_most_trans (blob a) (blob b) (blob c) h g = le_trans nat_list_cmp_total a b c h g
-at_most_trans (truth a) (truth b) c h g = absurd (cc (g))
-at_most_trans (whole a) (whole b) c h g = absurd (cc (g))
+at_most_trans (byte_string a) (byte_string b) (byte_string c) h g = le_trans nat_list_cmp_total a b c h g
+at_most_trans (boolean a) (boolean b) c h g = absurd (cc (g))
+at_most_trans (integer a) (integer b) c h g = absurd (cc (g))
 at_most_trans (text a) (text b) c h g = absurd (cc (g))
-at_most_trans (blob a) (blob b) c h g = absurd (cc (g))
+at_most_trans (byte_string a) (byte_string b) c h g = absurd (cc (g))
 at_most_trans a b c h g = absurd (cc (h))
 
--- a is d, or is at most d
+-- a is b, or compares with b and is not above it
 abbrev pub Bounds : Content → Content → Type 0
-Bounds a b = (a ≡ b) ⊎ IsAtMost a b
+Bounds a b = (a ≡ b) ⊎ (le a b ≡ true)
 
 pub chain : (a b c d : Content) → Bounds a b → le b c ≡ true → Bounds c d → le a d ≡ true
 chain a b c d p h q = to_end q (from_start p h)
   where
     from_start : Bounds a b → le b c ≡ true → le a c ≡ true
     from_start (inl e) h = subst (λ x. le x c ≡ true) (sym e) h
-    from_start (inr g) h = after_bound a b c g h
+    from_start (inr g) h = not_above_chain a b c g h
 
     to_end : Bounds c d → le a c ≡ true → le a d ≡ true
     to_end (inl e) h = subst (λ x. le a x ≡ true) e h
-    to_end (inr g) h = before_bound a c d h g
+    to_end (inr g) h = not_above_chain a c d h g
 
 -- ---- comparisons by `le`
 
@@ -147,21 +122,21 @@ pub record Passes (op : Comparison) (c d : Content) : Type 0 where
   pub test : by_le op (le c d) (le d c) ≡ true
 
 tested_so : (op : Comparison) (c d : Content) (p : Option Ordering) → content_cmp c d ≡ p →
-    (elim p [ None ↦ null | Some o ↦ truth (test_of op o) ]) ≡ truth true → by_le op (le c d) (le d c) ≡ true
+    (elim p [ None ↦ null | Some o ↦ boolean (test_of op o) ]) ≡ boolean true → by_le op (le c d) (le d c) ≡ true
 tested_so op c d None e h = absurd (cc (h))
 tested_so op c d (Some o) e h =
     (λ i. by_le op (is_known is_le (e i)) (is_known is_le ((reversed c d ∙ ap (option_map ordering_reverse) e) i)))
     ∙ sym (test_by_le op o) ∙ true_so (test_of op o) h
   where
-    true_so : (b : Bool) → truth b ≡ truth true → b ≡ true
+    true_so : (b : Bool) → boolean b ≡ boolean true → b ≡ true
     true_so true h = refl
     true_so false h = absurd (cc (h))
 
-pub passing : (op : Comparison) (c d : Content) → compared op c d ≡ truth true → Passes op c d
+pub passing : (op : Comparison) (c d : Content) → compared op c d ≡ boolean true → Passes op c d
 passing op c d h = by_nulls (is_null c) (is_null d) refl refl h
   where
     by_nulls : (m n : Bool) → is_null c ≡ m → is_null d ≡ n →
-        (if m || n then null else (elim (content_cmp c d) [ None ↦ null | Some o ↦ truth (test_of op o) ])) ≡ truth true → Passes op c d
+        (if m || n then null else (elim (content_cmp c d) [ None ↦ null | Some o ↦ boolean (test_of op o) ])) ≡ boolean true → Passes op c d
     by_nulls false false e f g = record { left = e; right = f; test = tested_so op c d (content_cmp c d) refl g }
     by_nulls true n e f g = absurd (cc (g))
     by_nulls false true e f g = absurd (cc (g))

@@ -1,8 +1,8 @@
 -- Worked values at the edges of the definitions.
 use Rattle.std.proofs.Common.{◌≡◌, refl, ℤ, pos, negsuc, List, [], ◌∷◌, map, Option, Some, None, true, false, Bool}
 use Rattle.std.specs.Prelude.{codes}
-use Rattle.vortex_model.specs.Kind.{Kind, IntKind, boolean, integer, float, decimal, struct, no_fields, field, non_nullable, nullable, list, u8, u16, u32, u64, i8, i16, i32, i64, f32, f64}
-use Rattle.vortex_model.specs.Content.{null, truth, whole, text, tuple, nothing, Raw, raw_null, raw_number, raw_tuple, no_raws}
+use Rattle.vortex_model.specs.LogicalType.{LogicalType, IntKind, boolean_type, integer_type, float, decimal, struct, no_fields, field, non_nullable, nullable, list, u8, u16, u32, u64, i8, i16, i32, i64, f32, f64}
+use Rattle.vortex_model.specs.Content.{null, boolean, integer, text, tuple, nothing, Raw, raw_null, raw_number, raw_tuple, no_raws}
 use Rattle.vortex_model.specs.Valid.{in_range, valid}
 use Rattle.vortex_model.specs.Path.{name, element}
 use Rattle.vortex_model.specs.Expression.{Expression, literal, column, compare, both, either, negation, is_null, is_nan, statistic, equal, not_equal, greater, at_least, less, at_most, min, max, sum, min_max, nan_count, all_non_nan}
@@ -47,8 +47,8 @@ ends_i32 = refl
 ends_i64 : at_ends i64 (negsuc 9223372036854775808) (negsuc 9223372036854775807) (pos 9223372036854775807) (pos 9223372036854775808) ≡ inside
 ends_i64 = refl
 
-abbrev U64 : Kind
-U64 = one a (integer u64 non_nullable)
+abbrev U64 : LogicalType
+U64 = one a (integer_type u64 non_nullable)
 
 abbrev of_kind : IntKind → List ℤ → List Raw
 of_kind i zs = map (λ z. raw_row (raw_number i z)) zs
@@ -74,18 +74,18 @@ abbrev ends_of_i64 : List Command
 ends_of_i64 = create L64 16 [] ∷ append L64 (of_kind i64 (negsuc 9223372036854775807 ∷ [])) ∷ append L64 (of_kind i64 (pos 9223372036854775807 ∷ [])) ∷ []
 
 abbrev lit64 : ℤ → Expression
-lit64 z = literal (integer i64 non_nullable) (whole z)
+lit64 z = literal (integer_type i64 non_nullable) (integer z)
 
 below_the_least : answer_of (made ends_of_i64) (path a ∷ []) (compare less (col a) (lit64 (negsuc 9223372036854775807)))
     ≡ Some (record { rows = []; kind = L64; skipped = 0 ∷ 1 ∷ []; whole = []; rows_tested = 0; proofs = 2 })
 below_the_least = refl
 
 at_most_the_least : answer_of (made ends_of_i64) (path a ∷ []) (compare at_most (col a) (lit64 (negsuc 9223372036854775807)))
-    ≡ Some (record { rows = row (whole (negsuc 9223372036854775807)) ∷ []; kind = L64; skipped = 1 ∷ []; whole = []; rows_tested = 1; proofs = 2 })
+    ≡ Some (record { rows = row (integer (negsuc 9223372036854775807)) ∷ []; kind = L64; skipped = 1 ∷ []; whole = []; rows_tested = 1; proofs = 2 })
 at_most_the_least = refl
 
 greatest_or_more : answer_of (made ends_of_i64) (path a ∷ []) (compare less (lit64 (pos 9223372036854775806)) (col a))
-    ≡ Some (record { rows = row (whole (pos 9223372036854775807)) ∷ []; kind = L64; skipped = 0 ∷ []; whole = []; rows_tested = 1; proofs = 2 })
+    ≡ Some (record { rows = row (integer (pos 9223372036854775807)) ∷ []; kind = L64; skipped = 0 ∷ []; whole = []; rows_tested = 1; proofs = 2 })
 greatest_or_more = refl
 
 -- ---- nulls
@@ -128,21 +128,21 @@ nullable_converts = refl
 row_too_short : refused (create A 16 [] ∷ []) (append A (raw_tuple no_raws ∷ [])) ≡ Some (invalid_value 0)
 row_too_short = refl
 
-kleene_false : kleene_and null (truth false) ≡ truth false
+kleene_false : kleene_and null (boolean false) ≡ boolean false
 kleene_false = refl
 
-kleene_null : kleene_and null (truth true) ≡ null
+kleene_null : kleene_and null (boolean true) ≡ null
 kleene_null = refl
 
-kleene_true : kleene_or null (truth true) ≡ truth true
+kleene_true : kleene_or null (boolean true) ≡ boolean true
 kleene_true = refl
 
-kleene_unknown : kleene_or null (truth false) ≡ null
+kleene_unknown : kleene_or null (boolean false) ≡ null
 kleene_unknown = refl
 
 -- ---- batches of another shape
 
-abbrev XY : Kind
+abbrev XY : LogicalType
 XY = struct (field (codes "x") (number non_nullable) (field (codes "y") (number non_nullable) no_fields)) non_nullable
 
 too_many_parts : refused (create A 16 [] ∷ []) (append XY (raw_record (n32 1 ∷ n32 2 ∷ []) ∷ [])) ≡ Some (not_convertible 0)
@@ -196,7 +196,7 @@ no_chunks : answer_of (made (create XY 16 [] ∷ [])) ([] ∷ []) (compare equal
     ≡ Some (record { rows = []; kind = XY; skipped = []; whole = []; rows_tested = 0; proofs = 0 })
 no_chunks = refl
 
-abbrev E : Kind
+abbrev E : LogicalType
 E = struct no_fields non_nullable
 
 empty_rows : answer_of (made (create E 16 [] ∷ append E (raw_tuple no_raws ∷ raw_tuple no_raws ∷ []) ∷ [])) ([] ∷ []) (compare equal (lit32 1) (lit32 1))
@@ -209,7 +209,7 @@ by_no_path = refl
 
 -- the order is the type's, not that of the paths
 by_two_paths : answer_of (made (create XY 16 [] ∷ append XY (raw_record (n32 1 ∷ n32 2 ∷ []) ∷ []) ∷ [])) (path (codes "y") ∷ path (codes "x") ∷ path (codes "y") ∷ []) (compare less (col (codes "x")) (col (codes "y")))
-    ≡ Some (record { rows = record_of (whole (pos 1) ∷ whole (pos 2) ∷ []) ∷ []; kind = XY; skipped = []; whole = []; rows_tested = 1; proofs = 1 })
+    ≡ Some (record { rows = record_of (integer (pos 1) ∷ integer (pos 2) ∷ []) ∷ []; kind = XY; skipped = []; whole = []; rows_tested = 1; proofs = 1 })
 by_two_paths = refl
 
 by_second_path : answer_of (made (create XY 16 [] ∷ append XY (raw_record (n32 1 ∷ n32 2 ∷ []) ∷ []) ∷ [])) (path (codes "y") ∷ []) (compare less (col (codes "x")) (col (codes "y")))
@@ -246,7 +246,7 @@ path_first = refl
 -- ---- faults of predicates
 
 abbrev fault : Expression → Option Refusal
-fault e = predicate_fault (struct (field a (number nullable) (field b (boolean nullable) (field p A no_fields))) non_nullable) e
+fault e = predicate_fault (struct (field a (number nullable) (field b (boolean_type nullable) (field p A no_fields))) non_nullable) e
 
 abbrev unknown : Expression
 unknown = col (codes "z")
@@ -272,7 +272,7 @@ right_child_last = refl
 not_truths : fault (either (compare equal (col a) (lit32 1)) (col a)) ≡ Some not_boolean
 not_truths = refl
 
-truths : fault (both (col b) (negation (compare equal (col b) (literal (boolean non_nullable) (truth true))))) ≡ None
+truths : fault (both (col b) (negation (compare equal (col b) (literal (boolean_type non_nullable) (boolean true))))) ≡ None
 truths = refl
 
 up_to_nullability : fault (compare equal (col a) (lit32 1)) ≡ None
@@ -317,7 +317,7 @@ no_bounds_of_records : falsifier XY (compare equal (column []) (column [])) ≡ 
 no_bounds_of_records = refl
 
 nan_of_literal : falsifier A (is_nan (literal (float f32 nullable) null))
-    ≡ Some (either (compare equal (literal (integer u64 non_nullable) (whole (pos 0))) (literal (integer u64 non_nullable) (whole (pos 0)))) (statistic (literal (float f32 nullable) null) all_non_nan))
+    ≡ Some (either (compare equal (literal (integer_type u64 non_nullable) (integer (pos 0))) (literal (integer_type u64 non_nullable) (integer (pos 0)))) (statistic (literal (float f32 nullable) null) all_non_nan))
 nan_of_literal = refl
 
 nan_of_number : satisfier A (is_nan (col a)) ≡ None
@@ -333,7 +333,7 @@ no_bounds_of_lists = refl
 no_sum_of_decimals : type_of_aggregate sum (decimal 3 (pos 1) nullable) ≡ None
 no_sum_of_decimals = refl
 
-nans_of_floats : type_of_aggregate nan_count (float f64 non_nullable) ≡ Some (integer u64 nullable)
+nans_of_floats : type_of_aggregate nan_count (float f64 non_nullable) ≡ Some (integer_type u64 nullable)
 nans_of_floats = refl
 
 -- a backslash at the end stands for nothing, also behind a %

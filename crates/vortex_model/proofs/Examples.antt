@@ -2,8 +2,8 @@
 use Rattle.std.proofs.Common.{◌≡◌, refl, ℕ, pos, List, [], ◌∷◌, map, Option, Some, None, true, false, option_map}
 use Rattle.std.specs.Prelude.{codes}
 use Rattle.std.specs.Str.{chars, is_utf8}
-use Rattle.vortex_model.specs.Kind.{Kind, boolean, integer, float, utf8, binary, list, struct, no_fields, field, Nullability, non_nullable, nullable, u8, i32, i64, f32, f64}
-use Rattle.vortex_model.specs.Content.{Content, null, truth, whole, text, blob, tuple, nothing, first, Raw, raw_null, raw_truth, raw_number, raw_text, raw_blob, raw_tuple, Raws, no_raws, raw_first, contents_from}
+use Rattle.vortex_model.specs.LogicalType.{LogicalType, boolean_type, integer_type, float, utf8, binary, list, struct, no_fields, field, Nullability, non_nullable, nullable, u8, i32, i64, f32, f64}
+use Rattle.vortex_model.specs.Content.{Content, null, boolean, integer, text, byte_string, tuple, nothing, first, Raw, raw_null, raw_boolean, raw_number, raw_text, raw_byte_string, raw_tuple, Raws, no_raws, raw_first, contents_from}
 use Rattle.vortex_model.specs.Bounds.{low, high}
 use Rattle.vortex_model.specs.Path.{Step, name}
 use Rattle.vortex_model.specs.Expression.{Expression, literal, column, compare, both, is_null, between, like, statistic, equal, not_equal, greater, at_least, less, min}
@@ -15,11 +15,11 @@ use Rattle.vortex_model.specs.Scan.{ScanAnswer, scanned}
 use Rattle.vortex_model.specs.Command.{Command, create, append, join, retype, scan, steps, refusal_in, after_in, create_fault, first_unconvertible, names_of}
 use Rattle.vortex_model.specs.Reply.{zone_at}
 
-abbrev pub number : Nullability → Kind
-number n = integer i32 n
+abbrev pub number : Nullability → LogicalType
+number n = integer_type i32 n
 
 -- {a=KIND}
-abbrev pub one : List ℕ → Kind → Kind
+abbrev pub one : List ℕ → LogicalType → LogicalType
 one x k = struct (field x k no_fields) non_nullable
 
 abbrev pub raw_row : Raw → Raw
@@ -47,7 +47,7 @@ rows32 ns = map (λ n. raw_row (n32 n)) ns
 abbrev pub a : List ℕ
 a = codes "a"
 
-abbrev pub A : Kind
+abbrev pub A : LogicalType
 A = one a (number non_nullable)
 
 abbrev pub path : List ℕ → List Step
@@ -57,7 +57,7 @@ abbrev pub col : List ℕ → Expression
 col x = column (x ∷ [])
 
 abbrev pub lit32 : ℕ → Expression
-lit32 n = literal (number non_nullable) (whole (pos n))
+lit32 n = literal (number non_nullable) (integer (pos n))
 
 -- the table that the commands leave, beginning without one
 abbrev pub made : List Command → Option Table
@@ -83,7 +83,7 @@ abbrev pub refused_there : List Command → Command → Option Refusal
 refused_there cs c = refusal_in (filled cs) c
 
 abbrev pub numbers : List ℕ → List Content
-numbers ns = map (λ n. row (whole (pos n))) ns
+numbers ns = map (λ n. row (integer (pos n))) ns
 
 -- ---- bounds
 
@@ -95,13 +95,13 @@ high_of_char : high 5 (text (0x63 ∷ 0x68 ∷ 0x61 ∷ 0x72 ∷ 0xf0 ∷ 0x9f �
 unfolding chars lib.Utf8.encode
 high_of_char = refl
 
-counted : high 3 (blob (0x61 ∷ 0xff ∷ 0xff ∷ 0xff ∷ [])) ≡ Some (blob (0x62 ∷ 0 ∷ 0 ∷ []))
+counted : high 3 (byte_string (0x61 ∷ 0xff ∷ 0xff ∷ 0xff ∷ [])) ≡ Some (byte_string (0x62 ∷ 0 ∷ 0 ∷ []))
 counted = refl
 
-carried : high 3 (blob (0 ∷ 5 ∷ 0xff ∷ 0xea ∷ 0x17 ∷ [])) ≡ Some (blob (0 ∷ 6 ∷ 0 ∷ []))
+carried : high 3 (byte_string (0 ∷ 5 ∷ 0xff ∷ 0xea ∷ 0x17 ∷ [])) ≡ Some (byte_string (0 ∷ 6 ∷ 0 ∷ []))
 carried = refl
 
-no_higher : high 2 (blob (0xff ∷ 0xff ∷ 0xff ∷ [])) ≡ None
+no_higher : high 2 (byte_string (0xff ∷ 0xff ∷ 0xff ∷ [])) ≡ None
 no_higher = refl
 
 earlier_raised : high 2 (text (0x61 ∷ 0x7f ∷ 0x62 ∷ [])) ≡ Some (text (codes "b"))
@@ -198,7 +198,7 @@ told_names : told (create_fault (struct (field a (float f32 nullable) (field a (
 told_names = refl
 
 -- the names of a record inside
-abbrev pub twice : Kind
+abbrev pub twice : LogicalType
 twice = struct (field a (number nullable) (field a (number nullable) no_fields)) nullable
 
 told_record : told (create_fault (one a twice) []) ≡ Some (4, None)
@@ -220,12 +220,12 @@ told_float = refl
 told_list : told (create_fault (one a (list (number nullable) nullable)) []) ≡ Some (3, None)
 told_list = refl
 
-kept_leaves : create_fault (struct (field a (boolean nullable) (field s (utf8 nullable) (field (codes "b") (binary non_nullable) no_fields))) non_nullable) [] ≡ None
+kept_leaves : create_fault (struct (field a (boolean_type nullable) (field s (utf8 nullable) (field (codes "b") (binary non_nullable) no_fields))) non_nullable) [] ≡ None
 kept_leaves = refl
 
 -- ---- shortened bounds
 
-abbrev pub S : Kind
+abbrev pub S : LogicalType
 S = one s (utf8 non_nullable)
 
 abbrev pub lit_text : List ℕ → Expression
@@ -263,23 +263,23 @@ char_at = refl
 abbrev pub b : List ℕ
 b = codes "b"
 
-abbrev pub B : Kind
+abbrev pub B : LogicalType
 B = one b (binary non_nullable)
 
 abbrev pub blobs : List (List ℕ) → List Raw
-blobs bs = map (λ x. raw_row (raw_blob x)) bs
+blobs bs = map (λ x. raw_row (raw_byte_string x)) bs
 
 abbrev pub lit_blob : List ℕ → Expression
-lit_blob x = literal (binary non_nullable) (blob x)
+lit_blob x = literal (binary non_nullable) (byte_string x)
 
 abbrev pub tops : List Command
 tops = create B 2 [] ∷ append B (blobs ((0xff ∷ 0xff ∷ 0xff ∷ []) ∷ [])) ∷ []
 
-tops_bounds : bounds_in (made tops) (0 ∷ []) 0 ≡ Some (inexact (blob (0xff ∷ 0xff ∷ [])), absent)
+tops_bounds : bounds_in (made tops) (0 ∷ []) 0 ≡ Some (inexact (byte_string (0xff ∷ 0xff ∷ [])), absent)
 tops_bounds = refl
 
 tops_scan : answer_of (made tops) ([] ∷ []) (compare greater (col b) (lit_blob (0xff ∷ 0xff ∷ [])))
-    ≡ Some (record { rows = row (blob (0xff ∷ 0xff ∷ 0xff ∷ [])) ∷ []; kind = B; skipped = []; whole = []; rows_tested = 1; proofs = 1 })
+    ≡ Some (record { rows = row (byte_string (0xff ∷ 0xff ∷ 0xff ∷ [])) ∷ []; kind = B; skipped = []; whole = []; rows_tested = 1; proofs = 1 })
 tops_scan = refl
 
 abbrev pub and_more : List Command → List Command → List Command
@@ -287,14 +287,14 @@ and_more [] ds = ds
 and_more (c ∷ cs) ds = c ∷ and_more cs ds
 
 tops_joined : zone_in (made (and_more tops (append B (blobs ((0 ∷ []) ∷ [])) ∷ join 0 ∷ []))) (0 ∷ []) 0
-    ≡ Some (record { low = exact (blob (0 ∷ [])); high = absent; nulls = 0; rows = 2; total = absent; constant = absent })
+    ≡ Some (record { low = exact (byte_string (0 ∷ [])); high = absent; nulls = 0; rows = 2; total = absent; constant = absent })
 tops_joined = refl
 
 abbrev pub carries : List Command
 carries = create B 3 [] ∷ append B (blobs ((0x61 ∷ 0xff ∷ 0xff ∷ 0xff ∷ []) ∷ [])) ∷ append B (blobs ((0x62 ∷ []) ∷ [])) ∷ []
 
 carries_bounds : bounds_in (made (and_more carries (join 0 ∷ []))) (0 ∷ []) 0
-    ≡ Some (inexact (blob (0x61 ∷ 0xff ∷ 0xff ∷ [])), inexact (blob (0x62 ∷ 0 ∷ 0 ∷ [])))
+    ≡ Some (inexact (byte_string (0x61 ∷ 0xff ∷ 0xff ∷ [])), inexact (byte_string (0x62 ∷ 0 ∷ 0 ∷ [])))
 carries_bounds = refl
 
 carries_scan : answer_of (made (and_more carries (join 0 ∷ []))) ([] ∷ []) (compare greater (col b) (lit_blob (0x62 ∷ [])))
@@ -307,11 +307,11 @@ carries_apart = refl
 
 -- ---- conversion
 
-abbrev pub U8 : Kind
-U8 = one a (integer u8 non_nullable)
+abbrev pub U8 : LogicalType
+U8 = one a (integer_type u8 non_nullable)
 
-abbrev pub X64 : Kind
-X64 = one (codes "x") (integer i64 non_nullable)
+abbrev pub X64 : LogicalType
+X64 = one (codes "x") (integer_type i64 non_nullable)
 
 abbrev pub rows64 : List ℕ → List Raw
 rows64 ns = map (λ n. raw_row (raw_number i64 (pos n))) ns
@@ -331,14 +331,14 @@ none_kept = refl
 accepted_behind : refused (create U8 16 [] ∷ append X64 (rows64 (1 ∷ 300 ∷ [])) ∷ []) (append X64 (rows64 (1 ∷ 2 ∷ []))) ≡ None
 accepted_behind = refl
 
-converted_scan : answer_of (made bytes_table) (path a ∷ []) (compare at_least (col a) (literal (integer u8 non_nullable) (whole (pos 1))))
+converted_scan : answer_of (made bytes_table) (path a ∷ []) (compare at_least (col a) (literal (integer_type u8 non_nullable) (integer (pos 1))))
     ≡ Some (record { rows = numbers (1 ∷ 2 ∷ []); kind = U8; skipped = []; whole = []; rows_tested = 2; proofs = 1 })
 converted_scan = refl
 
-literal_of_another_type : refused bytes_table (scan (path a ∷ []) (compare at_least (col a) (literal (integer i64 non_nullable) (whole (pos 1))))) ≡ Some unequal_types
+literal_of_another_type : refused bytes_table (scan (path a ∷ []) (compare at_least (col a) (literal (integer_type i64 non_nullable) (integer (pos 1))))) ≡ Some unequal_types
 literal_of_another_type = refl
 
-told_unequal : told (refused bytes_table (scan (path a ∷ []) (compare at_least (col a) (literal (integer i64 non_nullable) (whole (pos 1)))))) ≡ Some (14, None)
+told_unequal : told (refused bytes_table (scan (path a ∷ []) (compare at_least (col a) (literal (integer_type i64 non_nullable) (integer (pos 1)))))) ≡ Some (14, None)
 told_unequal = refl
 
 abbrev pub p : List ℕ
@@ -347,7 +347,7 @@ p = codes "p"
 abbrev pub q : List ℕ
 q = codes "q"
 
-abbrev pub P : Kind
+abbrev pub P : LogicalType
 P = one p (struct (field q (number non_nullable) no_fields) nullable)
 
 abbrev pub nested : List Command
@@ -363,27 +363,27 @@ c = codes "c"
 abbrev pub d : List ℕ
 d = codes "d"
 
-abbrev pub BC : Kind
+abbrev pub BC : LogicalType
 BC = struct (field b (number non_nullable) (field c (number non_nullable) no_fields)) non_nullable
 
-abbrev pub ABCD : Kind
+abbrev pub ABCD : LogicalType
 ABCD = struct (field a BC (field d (number non_nullable) no_fields)) non_nullable
 
 abbrev pub cutting : List Command
 cutting = create ABCD 16 [] ∷ append ABCD (raw_record (raw_record (n32 1 ∷ n32 2 ∷ []) ∷ n32 3 ∷ []) ∷ []) ∷ []
 
 abbrev pub lit_true : Expression
-lit_true = literal (boolean non_nullable) (truth true)
+lit_true = literal (boolean_type non_nullable) (boolean true)
 
 abbrev pub two_steps : List ℕ → List ℕ → List Step
 two_steps x y = name x ∷ name y ∷ []
 
 cut_by_both : answer_of (made cutting) (two_steps a b ∷ path a ∷ []) lit_true
-    ≡ Some (record { rows = row (record_of (whole (pos 1) ∷ whole (pos 2) ∷ [])) ∷ []; kind = one a BC; skipped = []; whole = 0 ∷ []; rows_tested = 0; proofs = 2 })
+    ≡ Some (record { rows = row (record_of (integer (pos 1) ∷ integer (pos 2) ∷ [])) ∷ []; kind = one a BC; skipped = []; whole = 0 ∷ []; rows_tested = 0; proofs = 2 })
 cut_by_both = refl
 
 cut_by_one : answer_of (made cutting) (two_steps a b ∷ []) lit_true
-    ≡ Some (record { rows = row (row (whole (pos 1))) ∷ []; kind = one a (one b (number non_nullable)); skipped = []; whole = 0 ∷ []; rows_tested = 0; proofs = 2 })
+    ≡ Some (record { rows = row (row (integer (pos 1))) ∷ []; kind = one a (one b (number non_nullable)); skipped = []; whole = 0 ∷ []; rows_tested = 0; proofs = 2 })
 cut_by_one = refl
 
 cut_by_none : answer_of (made cutting) [] lit_true
@@ -397,7 +397,7 @@ abbrev pub lists : List Command
 lists = create (one (codes "l") (list (number non_nullable) non_nullable)) 16 []
     ∷ append (one (codes "l") (list (number non_nullable) non_nullable)) (raw_row (raw_tuple no_raws) ∷ []) ∷ []
 
-abbrev pub M : Kind
+abbrev pub M : LogicalType
 M = one (codes "m") (list (utf8 non_nullable) non_nullable)
 
 empty_list_converts : first_unconvertible 0 (one (codes "l") (list (number non_nullable) non_nullable)) M (row (tuple nothing) ∷ []) ≡ None
@@ -406,17 +406,17 @@ empty_list_converts = refl
 old_name : refused_there (and_more lists (retype M ∷ [])) (scan (path (codes "l") ∷ []) lit_true) ≡ Some (unknown_path 0)
 old_name = refl
 
-abbrev pub L64 : Kind
-L64 = one a (integer i64 non_nullable)
+abbrev pub L64 : LogicalType
+L64 = one a (integer_type i64 non_nullable)
 
 total_too_large : zone_in (made (create L64 16 [] ∷ append L64 (rows64 (9223372036854775807 ∷ [])) ∷ append L64 (rows64 (1 ∷ [])) ∷ join 0 ∷ [])) (0 ∷ []) 0
-    ≡ Some (record { low = exact (whole (pos 1)); high = exact (whole (pos 9223372036854775807)); nulls = 0; rows = 2; total = absent; constant = exact false })
+    ≡ Some (record { low = exact (integer (pos 1)); high = exact (integer (pos 9223372036854775807)); nulls = 0; rows = 2; total = absent; constant = exact false })
 total_too_large = refl
 
-abbrev pub N : Kind
+abbrev pub N : LogicalType
 N = one a (number nullable)
 
-abbrev pub deep : Kind
+abbrev pub deep : LogicalType
 deep = one a (struct (field b (utf8 non_nullable) no_fields) nullable)
 
 nulls_retyped : answer_of (made (create N 16 [] ∷ append N (raw_row raw_null ∷ raw_row raw_null ∷ []) ∷ retype deep ∷ [])) (path a ∷ []) (is_null (column (a ∷ b ∷ [])))
@@ -459,11 +459,11 @@ too_large_retype = refl
 retype_refused : made (and_more wide (retype U8 ∷ [])) ≡ made wide
 retype_refused = refl
 
-abbrev pub T : Kind
-T = one a (boolean non_nullable)
+abbrev pub T : LogicalType
+T = one a (boolean_type non_nullable)
 
-truth_values : zone_in (made (create T 16 [] ∷ append T (raw_row (raw_truth true) ∷ raw_row (raw_truth false) ∷ raw_row (raw_truth true) ∷ []) ∷ [])) (0 ∷ []) 0
-    ≡ Some (record { low = exact (truth false); high = exact (truth true); nulls = 0; rows = 3; total = exact (pos 2); constant = exact false })
+truth_values : zone_in (made (create T 16 [] ∷ append T (raw_row (raw_boolean true) ∷ raw_row (raw_boolean false) ∷ raw_row (raw_boolean true) ∷ []) ∷ [])) (0 ∷ []) 0
+    ≡ Some (record { low = exact (boolean false); high = exact (boolean true); nulls = 0; rows = 3; total = exact (pos 2); constant = exact false })
 truth_values = refl
 
 abbrev pub empty_length : List Command

@@ -2,8 +2,8 @@
 use Rattle.std.proofs.Common.{◌≡◌, refl, ℕ, pos, List, [], ◌∷◌, Option, Some, None, true, false}
 use Rattle.std.specs.Prelude.{codes}
 use Rattle.std.specs.Str.{chars, is_utf8}
-use Rattle.vortex_model.specs.Kind.{Kind, boolean, utf8, list, struct, no_fields, field, non_nullable, nullable}
-use Rattle.vortex_model.specs.Content.{Content, truth, whole, text, blob, tuple, nothing, raw_null, raw_text}
+use Rattle.vortex_model.specs.LogicalType.{LogicalType, boolean_type, utf8, list, struct, no_fields, field, non_nullable, nullable}
+use Rattle.vortex_model.specs.Content.{Content, boolean, integer, text, byte_string, tuple, nothing, raw_null, raw_text}
 use Rattle.vortex_model.specs.Bounds.{low, high}
 use Rattle.vortex_model.specs.Path.{name, element}
 use Rattle.vortex_model.specs.Expression.{literal, column, compare, both, either, negation, is_null, is_not_null, between, like, statistic, equal, greater, at_least, less, min}
@@ -11,7 +11,7 @@ use Rattle.vortex_model.specs.Refusal.{unknown_path, no_such_group}
 use Rattle.vortex_model.specs.Statistics.{exact, inexact, absent}
 use Rattle.vortex_model.specs.ZoneMap.{ZoneMap}
 use Rattle.vortex_model.specs.Command.{Command, create, append, join, retype, compact, scan, describe}
-use Rattle.vortex_model.specs.Kind.{float, f32}
+use Rattle.vortex_model.specs.LogicalType.{float, f32}
 use Rattle.vortex_model.specs.Command.{append_array, entries_fault}
 use Rattle.vortex_model.specs.Refusal.{repeated_name, unkept_type, unknown_column, not_a_leaf, repeated_path, element_step, not_boolean, unsupported_like, not_a_record, invalid_value, unsupported_predicate}
 use Rattle.vortex_model.specs.Expression.{row_count}
@@ -30,10 +30,10 @@ accented_high : high 1 (text (0xc3 ∷ 0xa9 ∷ [])) ≡ None
 unfolding chars lib.Utf8.encode
 accented_high = refl
 
-not_shortened : high 2 (blob (0xff ∷ 0xff ∷ [])) ≡ Some (blob (0xff ∷ 0xff ∷ []))
+not_shortened : high 2 (byte_string (0xff ∷ 0xff ∷ [])) ≡ Some (byte_string (0xff ∷ 0xff ∷ []))
 not_shortened = refl
 
-carry : high 2 (blob (0 ∷ 0xff ∷ 0xff ∷ [])) ≡ Some (blob (1 ∷ 0 ∷ []))
+carry : high 2 (byte_string (0 ∷ 0xff ∷ 0xff ∷ [])) ≡ Some (byte_string (1 ∷ 0 ∷ []))
 carry = refl
 
 raised_earlier : high 6 (text (0x61 ∷ 0x62 ∷ 0xf4 ∷ 0x8f ∷ 0xbf ∷ 0xbf ∷ 0x78 ∷ [])) ≡ Some (text (codes "ac"))
@@ -70,7 +70,7 @@ abbrev three : List Command
 three = create A 16 [] ∷ append A (rows32 (1 ∷ [])) ∷ append A (rows32 (2 ∷ [])) ∷ append A (rows32 (3 ∷ [])) ∷ []
 
 abbrev of_three : Option ZoneMap
-of_three = Some (record { low = exact (whole (pos 1)); high = exact (whole (pos 3)); nulls = 0; rows = 3; total = exact (pos 6); constant = exact false })
+of_three = Some (record { low = exact (integer (pos 1)); high = exact (integer (pos 3)); nulls = 0; rows = 3; total = exact (pos 6); constant = exact false })
 
 joined_left : zone_in (made (and_more three (join 0 ∷ join 0 ∷ []))) (0 ∷ []) 0 ≡ of_three
 joined_left = refl
@@ -98,7 +98,7 @@ group_opened : answer_of (made grouped) (path a ∷ []) (compare greater (col a)
     ≡ Some (record { rows = numbers (4 ∷ 10 ∷ []); kind = A; skipped = 0 ∷ []; whole = []; rows_tested = 3; proofs = 4 })
 group_opened = refl
 
-abbrev AB : Kind
+abbrev AB : LogicalType
 AB = struct (field a (number non_nullable) (field b (number non_nullable) no_fields)) non_nullable
 
 abbrev two_columns : List Command
@@ -116,7 +116,7 @@ below_tested : answer_of (made two_columns) (path a ∷ []) (compare less (col a
     ≡ Some (record { rows = numbers (1 ∷ 3 ∷ []); kind = A; skipped = []; whole = []; rows_tested = 2; proofs = 1 })
 below_tested = refl
 
-abbrev NB : Kind
+abbrev NB : LogicalType
 NB = struct (field a (number nullable) (field b (number non_nullable) no_fields)) non_nullable
 
 null_and_above : answer_of (made (create NB 16 [] ∷ append NB (raw_record (raw_null ∷ n32 1 ∷ []) ∷ raw_record (raw_null ∷ n32 9 ∷ []) ∷ []) ∷ append NB (raw_record (n32 3 ∷ n32 1 ∷ []) ∷ []) ∷ []))
@@ -126,7 +126,7 @@ null_and_above = refl
 
 -- ---- literals and refusals
 
-literal_false : answer_of (made (create A 16 [] ∷ append A (rows32 (1 ∷ [])) ∷ [])) (path a ∷ []) (literal (boolean non_nullable) (truth false))
+literal_false : answer_of (made (create A 16 [] ∷ append A (rows32 (1 ∷ [])) ∷ [])) (path a ∷ []) (literal (boolean_type non_nullable) (boolean false))
     ≡ Some (record { rows = []; kind = A; skipped = 0 ∷ []; whole = []; rows_tested = 0; proofs = 1 })
 literal_false = refl
 
@@ -160,7 +160,7 @@ invalid = refl
 
 -- ---- retyping, bound lengths by position
 
-abbrev BA : Kind
+abbrev BA : LogicalType
 BA = struct (field b (number non_nullable) (field a (number non_nullable) no_fields)) non_nullable
 
 abbrev swapped : List Command
@@ -171,16 +171,16 @@ by_position_skipped : answer_of (made swapped) ([] ∷ []) (compare greater (col
 by_position_skipped = refl
 
 by_position_found : answer_of (made swapped) ([] ∷ []) (compare greater (col a) (lit32 50))
-    ≡ Some (record { rows = record_of (whole (pos 1) ∷ whole (pos 100) ∷ []) ∷ []; kind = BA; skipped = []; whole = []; rows_tested = 1; proofs = 1 })
+    ≡ Some (record { rows = record_of (integer (pos 1) ∷ integer (pos 100) ∷ []) ∷ []; kind = BA; skipped = []; whole = []; rows_tested = 1; proofs = 1 })
 by_position_found = refl
 
 abbrev t : List ℕ
 t = codes "t"
 
-abbrev ST : Kind
+abbrev ST : LogicalType
 ST = struct (field s (utf8 non_nullable) (field t (utf8 non_nullable) no_fields)) non_nullable
 
-abbrev XY : Kind
+abbrev XY : LogicalType
 XY = struct (field (codes "x") (utf8 non_nullable) (field (codes "y") (utf8 non_nullable) no_fields)) non_nullable
 
 abbrev two_lengths : List Command
@@ -240,11 +240,11 @@ high_raised = refl
 
 -- ---- lists, by their rows
 
-abbrev L : Kind
+abbrev L : LogicalType
 L = one (codes "l") (list (number non_nullable) non_nullable)
 
 abbrev list_rows : List Content
-list_rows = row (record_of (whole (pos 1) ∷ whole (pos 2) ∷ whole (pos 3) ∷ [])) ∷ row (record_of (whole (pos 2) ∷ whole (pos 3) ∷ [])) ∷ []
+list_rows = row (record_of (integer (pos 1) ∷ integer (pos 2) ∷ integer (pos 3) ∷ [])) ∷ row (record_of (integer (pos 2) ∷ integer (pos 3) ∷ [])) ∷ []
 
 lists_compacted : answer_of (filled (create L 16 [] ∷ append_array L list_rows ∷ compact ∷ [])) ([] ∷ []) (compare equal (lit32 1) (lit32 1))
     ≡ Some (record { rows = list_rows; kind = L; skipped = []; whole = []; rows_tested = 2; proofs = 1 })
@@ -286,10 +286,10 @@ unfolding chars is_utf8 lib.Utf8.encode
 highest_first = refl
 
 middle_counted : bounds_in (made (create B 2 [] ∷ append B (blobs ((0xff ∷ 0 ∷ 0xff ∷ []) ∷ [])) ∷ [])) (0 ∷ []) 0
-    ≡ Some (inexact (blob (0xff ∷ 0 ∷ [])), inexact (blob (0xff ∷ 1 ∷ [])))
+    ≡ Some (inexact (byte_string (0xff ∷ 0 ∷ [])), inexact (byte_string (0xff ∷ 1 ∷ [])))
 middle_counted = refl
 
-abbrev T : Kind
+abbrev T : LogicalType
 T = one t (utf8 nullable)
 
 abbrev retyped : List Command

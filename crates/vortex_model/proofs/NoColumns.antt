@@ -2,12 +2,13 @@
 use Rattle.std.proofs.Common.{◌≡◌, refl, ℕ, zero, suc, List, [], ◌∷◌, length, Bool, true, false, not, ◌&&◌, ◌||◌, Option, Some, None, if◌then◌else◌, IfSome}
 use Rattle.std.specs.Prelude.{chars, encode_utf8_all, option_map}
 use Rattle.std.specs.List.{AllByRecursion}
-use Rattle.vortex_model.specs.Kind.{Kind}
-use Rattle.vortex_model.specs.Content.{truth, text}
+use Rattle.vortex_model.specs.LogicalType.{LogicalType}
+use Rattle.vortex_model.specs.Content.{boolean, text}
 use Rattle.vortex_model.specs.Bounds.{raise}
-use Rattle.vortex_model.specs.Expression.{Expression, literal, compare, both, either, is_null, is_not_null, is_nan, between, like, reads_columns, Comparison, equal, not_equal, greater, at_least, less, at_most, Aggregate, min, max}
+use Rattle.vortex_model.specs.Expression.{Expression, literal, compare, both, either, is_null, is_not_null, is_nan, between, like, row_count, statistic, reads_columns, Comparison, equal, not_equal, greater, at_least, less, at_most, Aggregate, min, max, all_nan, all_non_nan}
 use Rattle.vortex_model.specs.Truth.{end_of}
-use Rattle.vortex_model.specs.Rewrite.{bound_of, nulls_of, nans_of, is_bounded, is_of_floats, is_float_placeholder, comparison_falsifier, no_nan_by_count, no_nan_by_flag, guarded, comparison_falsifiers, Shape, exact_text, beginning, no_shape, shape_of, outside, shape_falsifier, like_falsifier, paired, rounds, first_of_list, joined_proofs, either_there, both_there, falsifier, satisfier}
+use Rattle.vortex_model.specs.Typing.{is_of_floats}
+use Rattle.vortex_model.specs.Rewrite.{bound_expression, null_count_expression, nan_count_expression, is_comparable, is_float_placeholder, comparison_falsifier, no_nan_by_count, no_nan_by_flag, guarded, comparison_falsifiers, Shape, exact_text, beginning, no_shape, shape_of, outside, shape_falsifier, like_falsifier, paired, rounds, first_of_list, joined_proofs, either_there, both_there, as_list, count_literal, falsifier, satisfier}
 
 abbrev ReadsNone : Expression → Type 0
 ReadsNone e = reads_columns e ≡ false
@@ -19,19 +20,19 @@ neither : (c d : Bool) → c ≡ false → d ≡ false → c || d ≡ false
 neither true d p q = p
 neither false d p q = q
 
-bound_none : (a : Aggregate) (x : Expression) → ReadsNone (bound_of a x)
+bound_none : (a : Aggregate) (x : Expression) → ReadsNone (bound_expression a x)
 bound_none a (literal k c) = refl
 bound_none a x = refl
 
-nulls_none : (x : Expression) → ReadsNone (nulls_of x)
+nulls_none : (x : Expression) → ReadsNone (null_count_expression x)
 nulls_none (literal k c) = refl
 nulls_none x = refl
 
-nans_none : (x : Expression) → ReadsNone (nans_of x)
+nans_none : (x : Expression) → ReadsNone (nan_count_expression x)
 nans_none (literal k c) = refl
 nans_none x = refl
 
-two_bounds : (a b : Aggregate) (x y : Expression) → reads_columns (bound_of a x) || reads_columns (bound_of b y) ≡ false
+two_bounds : (a b : Aggregate) (x y : Expression) → reads_columns (bound_expression a x) || reads_columns (bound_expression b y) ≡ false
 two_bounds a b x y = neither _ _ (bound_none a x) (bound_none b y)
 
 comparison_none : (op : Comparison) (l r : Expression) → ReadsNone (comparison_falsifier op l r)
@@ -87,8 +88,8 @@ first_none (e ∷ es) h = h.0
 joined_none : (es : List Expression) → AllReadNone es → IfSome (joined_proofs es) ReadsNone
 joined_none es h = first_none (rounds (length es) es) (rounds_none (length es) es h)
 
-compared_none : (k : Kind) (op : Comparison) (l r : Expression) → IfSome (joined_proofs (comparison_falsifiers k op l r)) ReadsNone
-compared_none k op l r = joined_none (comparison_falsifiers k op l r) (proofs_none (not (is_bounded k l && is_bounded k r)) (is_float_placeholder k l) (is_float_placeholder k r) op l r)
+compared_none : (k : LogicalType) (op : Comparison) (l r : Expression) → IfSome (joined_proofs (comparison_falsifiers k op l r)) ReadsNone
+compared_none k op l r = joined_none (comparison_falsifiers k op l r) (proofs_none (not (is_comparable k l && is_comparable k r)) (is_float_placeholder k l) (is_float_placeholder k r) op l r)
 
 either_none : (p q : Option Expression) → IfSome p ReadsNone → IfSome q ReadsNone → IfSome (either_there p q) ReadsNone
 either_none (Some x) (Some y) h g = neither _ _ h g
@@ -116,12 +117,16 @@ like_none : (x form : Expression) (negated ignores_case : Bool) → IfSome (like
 like_none x (literal k (text form)) false false = shape_none x (shape_of (chars form))
 like_none x form negated ignores_case = tt
 
-if_none : (b : Bool) (proof : Expression) → ReadsNone proof → IfSome (if b then Some proof else None) ReadsNone
-if_none true proof h = h
-if_none false proof h = tt
+nan_none : (b : Bool) (p q : Expression) → ReadsNone p → ReadsNone q → IfSome (joined_proofs (if b then p ∷ q ∷ [] else [])) ReadsNone
+nan_none true p q h g = neither _ _ h g
+nan_none false p q h g = tt
 
-pub falsifier_none : (k : Kind) (e : Expression) → IfSome (falsifier k e) ReadsNone
-falsifier_none k (literal l (truth b)) = refl
+listed_none : (o : Option Expression) → IfSome o ReadsNone → IfSome (joined_proofs (as_list o)) ReadsNone
+listed_none None h = tt
+listed_none (Some p) h = h
+
+pub falsifier_none : (k : LogicalType) (e : Expression) → IfSome (falsifier k e) ReadsNone
+falsifier_none k (literal l (boolean b)) = refl
 falsifier_none k (compare op l r) = compared_none k op l r
 falsifier_none k (both x y) = either_none (falsifier k x) (falsifier k y) (falsifier_none k x) (falsifier_none k y)
 falsifier_none k (either x y) = both_none (falsifier k x) (falsifier k y) (falsifier_none k x) (falsifier_none k y)
@@ -129,13 +134,13 @@ falsifier_none k (between x lo hi s t) =
     either_none (joined_proofs (comparison_falsifiers k (end_of s) lo x)) (joined_proofs (comparison_falsifiers k (end_of t) x hi)) (compared_none k (end_of s) lo x) (compared_none k (end_of t) x hi)
 falsifier_none k (is_null x) = neither _ _ (neither _ _ (nulls_none x) refl) refl
 falsifier_none k (is_not_null x) = neither _ _ (neither _ _ (nulls_none x) refl) refl
-falsifier_none k (is_nan x) = if_none (is_of_floats k x) _ (neither _ _ (neither _ _ (nans_none x) refl) refl)
-falsifier_none k (like x form n i) = like_none x form n i
+falsifier_none k (is_nan x) = nan_none (is_of_floats k x) (compare equal (nan_count_expression x) (count_literal 0)) (statistic x all_non_nan) (neither _ _ (nans_none x) refl) refl
+falsifier_none k (like x form n i) = listed_none (like_falsifier x form n i) (like_none x form n i)
 falsifier_none k e = tt
 
-pub satisfier_none : (k : Kind) (e : Expression) → IfSome (satisfier k e) ReadsNone
-satisfier_none k (literal l (truth b)) = refl
+pub satisfier_none : (k : LogicalType) (e : Expression) → IfSome (satisfier k e) ReadsNone
+satisfier_none k (literal l (boolean b)) = refl
 satisfier_none k (is_null x) = neither _ _ (neither _ _ (nulls_none x) refl) refl
 satisfier_none k (is_not_null x) = neither _ _ (neither _ _ (nulls_none x) refl) refl
-satisfier_none k (is_nan x) = if_none (is_of_floats k x) _ (neither _ _ (neither _ _ (nans_none x) refl) refl)
+satisfier_none k (is_nan x) = nan_none (is_of_floats k x) (compare equal (nan_count_expression x) row_count) (statistic x all_nan) (neither _ _ (nans_none x) refl) refl
 satisfier_none k e = tt

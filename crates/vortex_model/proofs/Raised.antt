@@ -6,7 +6,7 @@ use Rattle.std.proofs.Math.Utf8.{scalars}
 use Rattle.std.proofs.lemmas.Bool.Decides.{nat_tests}
 use Rattle.std.proofs.lemmas.Str.{encodes-append, encodes-chars, scalars-chars, chars-encodes}
 use Rattle.vortex_model.specs.Bounds.{IsRaised, IsRaise}
-use Rattle.vortex_model.proofs.ByteOrder.{IsUnder, same_front}
+use Rattle.vortex_model.proofs.ByteOrder.{IsUnder, eq_front}
 use Rattle.vortex_model.proofs.Encoded.{encode_under}
 
 front_scalars : (xs : List ℕ) (c d : ℕ) (ys : List ℕ) → scalars (xs ++ c ∷ ys) ≡ true → IsScalar d → scalars (xs ++ d ∷ []) ≡ true
@@ -35,4 +35,4 @@ raised_over p s rest u raise =
     ∙ append_assoc f (encode_utf8 r.char ++ encode_utf8_all r.after) rest ∙ ap (λ x. f ++ x) (append_assoc (encode_utf8 r.char) (encode_utf8_all r.after) rest) in
     let made : s ≡ f ++ (encode_utf8 r.raised ++ []) = sym (encodes-chars s raise.0) ∙ ap encode_utf8_all r.answer ∙ encodes-append r.before (r.raised ∷ []) in
     subst₂ IsUnder (sym parts) (sym made)
-    (same_front f (encode_utf8 r.char ++ (encode_utf8_all r.after ++ rest)) (encode_utf8 r.raised ++ []) ∙ encode_under r.char r.raised (encode_utf8_all r.after ++ rest) [] r.higher.1)
+    (eq_front f (encode_utf8 r.char ++ (encode_utf8_all r.after ++ rest)) (encode_utf8 r.raised ++ []) ∙ encode_under r.char r.raised (encode_utf8_all r.after ++ rest) [] r.higher.1)

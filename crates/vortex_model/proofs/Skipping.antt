@@ -1,134 +1,89 @@
--- Chunks that a scan skips hold no selected row, and those that it takes whole hold no other.
-use Rattle.std.proofs.Common.{◌≡◌, refl, ◌∙◌, ap, ℕ, zero, suc, ◌+◌, ◌<◌, take, get_or, arith, List, [], ◌∷◌, ◌++◌, length, map, flat_map, filter, Bool, true, false, ◌&&◌, if◌then◌else◌, Option, Some, None, option_and_then, inl, inr}
+-- What a table tells of its leaf columns is honest. So chunks that a scan skips hold no selected row, and those that it takes whole hold no other.
+use Rattle.std.proofs.Common.{◌≡◌, refl, sym, ◌∙◌, ap, subst, ℕ, zero, suc, ◌+◌, ◌<◌, take, get_or, arith, List, [], ◌∷◌, ◌++◌, length, map, flat_map, filter, Bool, true, false, if◌then◌else◌, Option, Some, None, option_map, option_and_then, ◌⊎◌, inl, inr, IfSome}
 use Rattle.std.specs.List.{AllByRecursion}
-use Rattle.vortex_model.specs.Kind.{Kind}
-use Rattle.vortex_model.specs.Content.{Content, null, truth}
+use Rattle.vortex_model.specs.LogicalType.{LogicalType}
+use Rattle.vortex_model.specs.Content.{Content, null, boolean}
 use Rattle.vortex_model.specs.Valid.{IsContent}
-use Rattle.vortex_model.specs.Path.{Names, Positions, positions, type_at, type_of_column, at}
+use Rattle.vortex_model.specs.Path.{Names, Positions, positions, type_at, at}
 use Rattle.vortex_model.specs.Kept.{is_leaf}
-use Rattle.vortex_model.specs.Refusal.{Refusal, not_a_leaf, unequal_types, not_boolean, unsupported_predicate, or_else}
-use Rattle.vortex_model.specs.Expression.{Expression, column, compare, both, either, is_null as is_null_test, is_not_null as is_not_null_test, is_nan as is_nan_test, between, min, max, null_count, all_null, all_non_null}
-use Rattle.vortex_model.specs.Truth.{evaluate, value_at, is_true, selects}
-use Rattle.vortex_model.specs.Typing.{type_of}
-use Rattle.vortex_model.specs.Statistics.{IsHonest}
-use Rattle.vortex_model.specs.ZoneMap.{ZoneMap, statistics_of}
+use Rattle.vortex_model.specs.Expression.{Expression, column, Aggregate, reads_columns}
+use Rattle.vortex_model.specs.Truth.{evaluate, value_at, is_true, selects, Satisfies}
+use Rattle.vortex_model.specs.Statistics.{IsHonest, placeholder_value}
+use Rattle.vortex_model.specs.ZoneMap.{ZoneMap, values_at, statistics_of}
 use Rattle.vortex_model.specs.Rewrite.{falsifier, satisfier}
-use Rattle.vortex_model.specs.Sound.{of_proof}
+use Rattle.vortex_model.specs.Sound.{Placeholders, AreHonest, IsSoundFalsifier, of_proof}
 use Rattle.vortex_model.specs.Table.{Table, bound_length}
-use Rattle.vortex_model.specs.Scan.{chunk_zone, chunk_zone_at, kind_at, known, proves, skipped, whole as taken_whole, tested, chunk_outcome}
-use Rattle.vortex_model.specs.Command.{expression_fault, column_fault, unless, is_boolean, same_type}
-use Rattle.vortex_model.specs.Pruning.{has_no_like, found_in, IsAsked}
+use Rattle.vortex_model.specs.Scan.{chunk_zone, chunk_zone_at, if_leaf, leaf_at, is_bound, told, known, proves, skipped, whole as taken_whole, tested, chunk_outcome}
+use Rattle.vortex_model.specs.Pruning.{found_in, IsAsked}
 use Rattle.std.proofs.lemmas.List.Elements.{filter-append}
 use Rattle.vortex_model.proofs.Outcomes.{selected_next}
 use Rattle.vortex_model.proofs.Columns.{all_at_type}
 use Rattle.vortex_model.proofs.Zones.{honest_zone}
-use Rattle.vortex_model.proofs.Pruning.{IsTold, AreTold, falsified, satisfied}
-use Rattle.vortex_model.proofs.Honesty.{Among, AreHonestOf, told}
+use Rattle.vortex_model.proofs.NoColumns.{falsifier_none, satisfier_none}
+use Rattle.vortex_model.proofs.Accepted.{accepted_truth}
+use Rattle.vortex_model.proofs.Honesty.{Among, all_among, sound_falsifier, sound_satisfier_of_any}
 
--- ---- no fault of the whole is none of the parts
-
-first_none : (p q : Option Refusal) → or_else p q ≡ None → p ≡ None
-first_none None q e = refl
-first_none (Some r) q e = absurd (cc (e))
-
-second_none : (p q : Option Refusal) → or_else p q ≡ None → q ≡ None
-second_none None q e = e
-second_none (Some r) q e = absurd (cc (e))
-
-unless_none : (b : Bool) (r : Refusal) → unless b r ≡ None → b ≡ true
-unless_none true r e = refl
-unless_none false r e = absurd (cc (e))
-
-leaf_of : (o : Option Kind) → column_fault o ≡ None → (t : Kind) × (o ≡ Some t) × (is_leaf t ≡ true)
-leaf_of None e = absurd (cc (e))
-leaf_of (Some t) e = (t, refl, unless_none (is_leaf t) not_a_leaf e)
-
-truly : (c : Content) → is_true c ≡ true → c ≡ truth true
-truly (truth b) e = ap (λ x. truth x) e
+pub truly : (c : Content) → is_true c ≡ true → c ≡ boolean true
+truly (boolean b) e = ap (λ x. boolean x) e
 truly null e = absurd (cc (e))
 truly c e = absurd (cc (e))
 
-never_true : (c : Content) → ¬ (c ≡ truth true) → is_true c ≡ false
-never_true (truth true) h = absurd (h refl)
-never_true (truth false) h = refl
+pub never_true : (c : Content) → ¬ (c ≡ boolean true) → is_true c ≡ false
+never_true (boolean true) h = absurd (h refl)
+never_true (boolean false) h = refl
 never_true c h = refl
 
--- ---- what a table knows of its columns is honest
+-- ---- the leaf that a path leads to
 
-module _ (t : Table) (chunk : List Content) (rows : AllByRecursion (IsContent t.kind) chunk) where
-  abbrev zone_by : Option Positions → ZoneMap
-  zone_by p = let is : Positions = elim p [ None ↦ [] | Some is ↦ is ] in chunk_zone_at t chunk is (kind_at t.kind is)
+record LeadsTo (k : LogicalType) (o : Option Positions) (leaf : Positions × LogicalType) : Type 0 where
+  place : o ≡ Some leaf.0
+  type : type_at k leaf.0 ≡ Some leaf.1
+  kept : is_leaf leaf.1 ≡ true
 
-  abbrev value_by : Option Positions → Content → Content
-  value_by p row = elim p [ None ↦ null | Some is ↦ at row is ]
+leads_at : (k : LogicalType) (is : Positions) (o : Option LogicalType) (leaf : Positions × LogicalType) → type_at k is ≡ o → if_leaf is o ≡ Some leaf → LeadsTo k (Some is) leaf
+leads_at k is None leaf e f = absurd (cc (f))
+leads_at k is (Some u) leaf e f = by_test (is_leaf u) refl f
+  where
+    by_test : (b : Bool) → is_leaf u ≡ b → (if b then Some (is, u) else None) ≡ Some leaf → LeadsTo k (Some is) leaf
+    by_test true w g = let same : (is, u) ≡ leaf = cc (g) in subst (LeadsTo k (Some is)) same (record { place = refl; type = e; kept = w })
+    by_test false w g = absurd (cc (g))
 
-  honest_by : (p : Option Positions) (u : Kind) → option_and_then (type_at t.kind) p ≡ Some u → is_leaf u ≡ true → IsHonest (statistics_of (zone_by p)) (map (value_by p) chunk)
-  honest_by None u e w = absurd (cc (e))
-  honest_by (Some is) u e w = honest_zone u (kind_at t.kind is) (bound_length t is) (map (λ row. at row is) chunk) w (all_at_type t.kind is u chunk e rows)
+leads_to : (k : LogicalType) (o : Option Positions) (leaf : Positions × LogicalType) → option_and_then (λ is. if_leaf is (type_at k is)) o ≡ Some leaf → LeadsTo k o leaf
+leads_to k None leaf e = absurd (cc (e))
+leads_to k (Some is) leaf e = leads_at k is (type_at k is) leaf refl e
 
-  column_honest : (xs : Names) (u : Kind) → type_of_column t.kind xs ≡ Some u → is_leaf u ≡ true →
-      IsHonest (statistics_of (chunk_zone t chunk xs)) (map (value_at t.kind (column xs)) chunk)
-  column_honest xs u e w = honest_by (positions t.kind xs) u e w
+-- ---- what a table tells of its leaf columns is honest
 
-  known_honest : (xs : Names) → IsHonest (statistics_of (chunk_zone t chunk xs)) (map (value_at t.kind (column xs)) chunk) →
-      AreHonestOf t.kind chunk (known (chunk_zone t chunk) (length chunk)) (column xs)
-  known_honest xs h min = inr (statistics_of (chunk_zone t chunk xs), h, refl)
-  known_honest xs h max = inr (statistics_of (chunk_zone t chunk xs), h, refl)
-  known_honest xs h null_count = inr (statistics_of (chunk_zone t chunk xs), h, refl)
-  known_honest xs h all_null = inr (statistics_of (chunk_zone t chunk xs), h, refl)
-  known_honest xs h all_non_null = inr (statistics_of (chunk_zone t chunk xs), h, refl)
-  known_honest xs h a = inl refl
+-- zone maps of leaves, of these rows
+module _ (k : LogicalType) (zone : Positions → LogicalType → ZoneMap) (rows : List Content)
+    (honest : (is : Positions) (u : LogicalType) → type_at k is ≡ Some u → is_leaf u ≡ true → IsHonest (statistics_of (zone is u)) (values_at is rows)) where
+  abbrev zones : Names → Option ZoneMap
+  zones xs = option_map (λ leaf. zone leaf.0 leaf.1) (leaf_at k xs)
 
-  operand_honest : (x : Expression) → expression_fault t.kind x ≡ None → AreHonestOf t.kind chunk (known (chunk_zone t chunk) (length chunk)) x
-  operand_honest (column xs) e = let u = leaf_of (type_of_column t.kind xs) e in known_honest xs (column_honest xs u.0 u.1 u.2)
-  operand_honest x e = λ a. inl refl
+  abbrev IsNullOrHonest : Names → Content → Aggregate → Type 0
+  IsNullOrHonest xs c a = (c ≡ null) ⊎ ((s : _) × IsHonest s (map (value_at k (column xs)) rows) × (c ≡ placeholder_value a s (length rows)))
 
-  -- ---- at one row
+  zone_honest : (xs : Names) (leaf : Positions × LogicalType) → LeadsTo k (positions k xs) leaf → IsHonest (statistics_of (zone leaf.0 leaf.1)) (map (value_at k (column xs)) rows)
+  zone_honest xs leaf h =
+      subst (λ o. IsHonest (statistics_of (zone leaf.0 leaf.1)) (map (λ row. elim o [ None ↦ null | Some is ↦ at row is ]) rows)) (sym h.place) (honest leaf.0 leaf.1 h.type h.kept)
 
-  module _ (row : Content) (here : Among row chunk) where
-    operand_told : (x : Expression) → expression_fault t.kind x ≡ None → IsTold t.kind (of_proof (known (chunk_zone t chunk) (length chunk)) chunk) row x
-    operand_told x e = told t.kind chunk (known (chunk_zone t chunk) (length chunk)) x (operand_honest x e) row here
+  told_honest : (xs : Names) (a : Aggregate) (o : Option (Positions × LogicalType)) → leaf_at k xs ≡ o → IsNullOrHonest xs (told (option_map (λ leaf. zone leaf.0 leaf.1) o) (length rows) a) a
+  told_honest xs a None e = inl refl
+  told_honest xs a (Some leaf) e = by_test (is_bound a)
+    where
+      by_test : (b : Bool) → IsNullOrHonest xs (if b then placeholder_value a (statistics_of (zone leaf.0 leaf.1)) (length rows) else null) a
+      by_test true = inr (statistics_of (zone leaf.0 leaf.1), zone_honest xs leaf (leads_to k (positions k xs) leaf e), refl)
+      by_test false = inl refl
 
-    two_none : (x y : Expression) (r : Option Refusal) → or_else (expression_fault t.kind x) (or_else (expression_fault t.kind y) r) ≡ None →
-        (expression_fault t.kind x ≡ None) × (expression_fault t.kind y ≡ None)
-    two_none x y r e = (
-      first_none (expression_fault t.kind x) (or_else (expression_fault t.kind y) r) e,
-      first_none (expression_fault t.kind y) r (second_none (expression_fault t.kind x) (or_else (expression_fault t.kind y) r) e),
-    )
+  pub binder_honest : AreHonest k rows (known zones (length rows))
+  binder_honest (column xs) a = told_honest xs a (leaf_at k xs) refl
+  binder_honest x a = inl refl
 
-    all_told : (e : Expression) → expression_fault t.kind e ≡ None → AreTold t.kind (of_proof (known (chunk_zone t chunk) (length chunk)) chunk) row e
-    all_told (compare op x y) e =
-        let f = two_none x y (unless (same_type (type_of t.kind x) (type_of t.kind y)) unequal_types) e in (operand_told x f.0, operand_told y f.1)
-    all_told (both x y) e =
-        let f = two_none x y (unless (is_boolean (type_of t.kind x) && is_boolean (type_of t.kind y)) not_boolean) e in (all_told x f.0, all_told y f.1)
-    all_told (either x y) e =
-        let f = two_none x y (unless (is_boolean (type_of t.kind x) && is_boolean (type_of t.kind y)) not_boolean) e in (all_told x f.0, all_told y f.1)
-    all_told (is_null_test x) e = operand_told x e
-    all_told (is_not_null_test x) e = operand_told x e
-    all_told (is_nan_test x) e = operand_told x (first_none (expression_fault t.kind x) (Some unsupported_predicate) e)
-    all_told (between x lo hi s u) e =
-        let r = unless (same_type (type_of t.kind x) (type_of t.kind lo) && same_type (type_of t.kind x) (type_of t.kind hi)) unequal_types in
-        let f = two_none x lo (or_else (expression_fault t.kind hi) r) e in
-        let g = second_none (expression_fault t.kind lo) (or_else (expression_fault t.kind hi) r) (second_none (expression_fault t.kind x) (or_else (expression_fault t.kind lo) (or_else (expression_fault t.kind hi) r)) e) in
-        (operand_told x f.0, operand_told lo f.1, operand_told hi (first_none (expression_fault t.kind hi) r g))
-    all_told e h = tt
+pub chunk_honest : (t : Table) (chunk : List Content) → AllByRecursion (IsContent t.kind) chunk → AreHonest t.kind chunk (known (chunk_zone t chunk) (length chunk))
+chunk_honest t chunk rows =
+    binder_honest t.kind (λ is u. chunk_zone_at t chunk is u) chunk (λ is u e w. honest_zone u u (bound_length t is) (values_at is chunk) w (all_at_type t.kind is u chunk e rows))
 
-    not_selected : (e : Expression) (o : Option Expression) → expression_fault t.kind e ≡ None → has_no_like e ≡ true → falsifier t.kind e ≡ o →
-        proves (chunk_zone t chunk) (length chunk) o ≡ true → selects t.kind e row ≡ false
-    not_selected e None f w is h = absurd (cc (h))
-    not_selected e (Some proof) f w is h =
-        never_true (value_at t.kind e row)
-        (falsified t.kind (of_proof (known (chunk_zone t chunk) (length chunk)) chunk) row e proof w (all_told e f) is
-        (truly (evaluate (of_proof (known (chunk_zone t chunk) (length chunk)) chunk) proof) h))
-
-    is_selected : (e : Expression) (o : Option Expression) → expression_fault t.kind e ≡ None → satisfier t.kind e ≡ o →
-        proves (chunk_zone t chunk) (length chunk) o ≡ true → selects t.kind e row ≡ true
-    is_selected e None f is h = absurd (cc (h))
-    is_selected e (Some proof) f is h =
-        ap is_true (satisfied t.kind (of_proof (known (chunk_zone t chunk) (length chunk)) chunk) row e proof (all_told e f) is
-        (truly (evaluate (of_proof (known (chunk_zone t chunk) (length chunk)) chunk) proof) h))
-
--- ---- a chunk
+-- ---- rows that all pass, or none
 
 pub kept_none : {X : Type 0} (p : X → Bool) (xs : List X) → ((x : X) → Among x xs → p x ≡ false) → filter p xs ≡ []
 kept_none p [] h = refl
@@ -143,21 +98,50 @@ all_at P [] i d h g = absurd (omega (arith, h))
 all_at P (x ∷ xs) zero d h g = g.0
 all_at P (x ∷ xs) (suc i) d h g = all_at P xs i d (omega (arith, h)) g.1
 
-module _ (t : Table) (e : Expression) (asked : IsAsked t e) where
-  no_fault : expression_fault t.kind e ≡ None
-  no_fault = first_none (expression_fault t.kind e) (unless (is_boolean (type_of t.kind e)) not_boolean) asked.faultless
+-- ---- rows of which an honest binder proves something
 
+-- where the built-in falsifier of the predicate is there, it is sound
+abbrev pub FalsifiesRightly : LogicalType → Expression → Type 0
+FalsifiesRightly k e = (proof : Expression) → falsifier k e ≡ Some proof → IsSoundFalsifier k e proof
+
+pub asked_sound : (t : Table) (e : Expression) → IsAsked t e → FalsifiesRightly t.kind e
+asked_sound t e asked proof is = sound_falsifier t.kind e proof (accepted_truth t.kind e asked.faultless) asked.formed is
+
+module _ (t : Table) (rows : List Content) (typed : AllByRecursion (IsContent t.kind) rows) (zones : Names → Option ZoneMap)
+    (honest : AreHonest t.kind rows (known zones (length rows))) where
+  abbrev given : Placeholders
+  given = known zones (length rows)
+
+  -- where the predicate is falsified, none is selected
+  pub none_selected : (e : Expression) → FalsifiesRightly t.kind e → (o : Option Expression) → falsifier t.kind e ≡ o → IfSome o (λ proof. reads_columns proof ≡ false) →
+      proves zones (length rows) o ≡ true → filter (selects t.kind e) rows ≡ []
+  none_selected e sound None is r h = absurd (cc (h))
+  none_selected e sound (Some proof) is r h =
+      let none = sound proof is rows given typed honest (r, truly (evaluate (of_proof given rows) proof) h) in
+      kept_none (selects t.kind e) rows (λ row here. never_true (value_at t.kind e row) (all_among (λ x. ¬ (Satisfies t.kind e x)) row rows none here))
+
+  -- where it is satisfied, all are
+  pub all_selected : (e : Expression) (o : Option Expression) → satisfier t.kind e ≡ o → IfSome o (λ proof. reads_columns proof ≡ false) →
+      proves zones (length rows) o ≡ true → filter (selects t.kind e) rows ≡ rows
+  all_selected e None is r h = absurd (cc (h))
+  all_selected e (Some proof) is r h =
+      let all = sound_satisfier_of_any t.kind e proof is rows given typed honest (r, truly (evaluate (of_proof given rows) proof) h) in
+      kept_all (selects t.kind e) rows (λ row here. ap is_true (all_among (λ x. Satisfies t.kind e x) row rows all here))
+
+-- ---- a chunk
+
+module _ (t : Table) (e : Expression) (sound : FalsifiesRightly t.kind e) where
   -- a chunk whose zone maps falsify the predicate holds no row that it selects
   pub skipped_holds_none : (chunk : List Content) → AllByRecursion (IsContent t.kind) chunk →
       proves (chunk_zone t chunk) (length chunk) (falsifier t.kind e) ≡ true → filter (selects t.kind e) chunk ≡ []
   skipped_holds_none chunk rows h =
-      kept_none (selects t.kind e) chunk (λ row here. not_selected t chunk rows row here e (falsifier t.kind e) no_fault asked.no_like refl h)
+      none_selected t chunk rows (chunk_zone t chunk) (chunk_honest t chunk rows) e sound (falsifier t.kind e) refl (falsifier_none t.kind e) h
 
   -- one whose zone maps satisfy it holds no other
   pub whole_holds_all : (chunk : List Content) → AllByRecursion (IsContent t.kind) chunk →
       proves (chunk_zone t chunk) (length chunk) (satisfier t.kind e) ≡ true → filter (selects t.kind e) chunk ≡ chunk
   whole_holds_all chunk rows h =
-      kept_all (selects t.kind e) chunk (λ row here. is_selected t chunk rows row here e (satisfier t.kind e) no_fault refl h)
+      all_selected t chunk rows (chunk_zone t chunk) (chunk_honest t chunk rows) e (satisfier t.kind e) refl (satisfier_none t.kind e) h
 
   found_by : (chunk : List Content) → AllByRecursion (IsContent t.kind) chunk → (b c : Bool) →
       proves (chunk_zone t chunk) (length chunk) (falsifier t.kind e) ≡ b → proves (chunk_zone t chunk) (length chunk) (satisfier t.kind e) ≡ c →

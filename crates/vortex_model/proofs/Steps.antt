@@ -3,11 +3,11 @@ use Rattle.std.proofs.Common.{◌≡◌, refl, sym, ◌∙◌, ap, ℕ, zero, su
 use Rattle.std.specs.Prelude.{flat_map, fold}
 use Rattle.std.proofs.lemmas.List.Sums.{sum_by-append}
 use Rattle.std.specs.List.{AllByRecursion}
-use Rattle.vortex_model.specs.Kind.{Kind, stored}
+use Rattle.vortex_model.specs.LogicalType.{LogicalType, stored}
 use Rattle.vortex_model.specs.Content.{Content, Raw, content_of}
 use Rattle.vortex_model.specs.Valid.{IsContent, valid}
 use Rattle.vortex_model.specs.Convert.{converts}
-use Rattle.vortex_model.specs.Kept.{kept_fault}
+use Rattle.vortex_model.specs.Kept.{type_fault_so_far}
 use Rattle.vortex_model.specs.Refusal.{Refusal, or_else, invalid_value, not_convertible}
 use Rattle.vortex_model.specs.Table.{Table, IsTable, rows_of}
 use Rattle.vortex_model.specs.Command.{Command, create, append, append_array, join, retype, compact, scan, describe, first_invalid, first_unconvertible, entries_fault, appended, joined_at, refusal, after, step}
@@ -25,23 +25,23 @@ none_second : (p q : Option Refusal) → or_else p q ≡ None → q ≡ None
 none_second None q e = e
 none_second (Some r) q e = absurd (cc (e))
 
-valid_by : (i : ℕ) (k : Kind) (r : Raw) (rs : List Raw) (b : Bool) → valid k r ≡ b →
+valid_by : (i : ℕ) (k : LogicalType) (r : Raw) (rs : List Raw) (b : Bool) → valid k r ≡ b →
     (if b then first_invalid (suc i) k rs else Some (invalid_value i)) ≡ None →
     (first_invalid (suc i) k rs ≡ None → AllByRecursion (IsContent k) (map content_of rs)) → IsContent k (content_of r) × AllByRecursion (IsContent k) (map content_of rs)
 valid_by i k r rs true w e later = (said (stored k) r (has_so (stored k) r w), later e)
 valid_by i k r rs false w e later = absurd (cc (e))
 
-valid_so : (i : ℕ) (k : Kind) (rs : List Raw) → first_invalid i k rs ≡ None → AllByRecursion (IsContent k) (map content_of rs)
+valid_so : (i : ℕ) (k : LogicalType) (rs : List Raw) → first_invalid i k rs ≡ None → AllByRecursion (IsContent k) (map content_of rs)
 valid_so i k [] e = tt
 valid_so i k (r ∷ rs) e = valid_by i k r rs (valid k r) refl e (valid_so (suc i) k rs)
 
-rows_by : (i : ℕ) (s t : Kind) (c : Content) (cs : List Content) (b : Bool) → converts s t c ≡ b → IsContent s c →
+rows_by : (i : ℕ) (s t : LogicalType) (c : Content) (cs : List Content) (b : Bool) → converts s t c ≡ b → IsContent s c →
     (if b then first_unconvertible (suc i) s t cs else Some (not_convertible i)) ≡ None →
     (first_unconvertible (suc i) s t cs ≡ None → AllByRecursion (IsContent t) cs) → IsContent t c × AllByRecursion (IsContent t) cs
 rows_by i s t c cs true w h e later = (kept s t c h (converts_so s t c w), later e)
 rows_by i s t c cs false w h e later = absurd (cc (e))
 
-rows_so : (i : ℕ) (s t : Kind) (cs : List Content) → AllByRecursion (IsContent s) cs → first_unconvertible i s t cs ≡ None → AllByRecursion (IsContent t) cs
+rows_so : (i : ℕ) (s t : LogicalType) (cs : List Content) → AllByRecursion (IsContent s) cs → first_unconvertible i s t cs ≡ None → AllByRecursion (IsContent t) cs
 rows_so i s t [] h e = tt
 rows_so i s t (c ∷ cs) h e = rows_by i s t c cs (converts s t c) refl h.0 e (rows_so (suc i) s t cs h.1)
 
@@ -57,11 +57,11 @@ all_right : {X : Type 0} (P : X → Type 0) (xs ys : List X) → AllByRecursion 
 all_right P [] ys h = h
 all_right P (x ∷ xs) ys h = all_right P xs ys h.1
 
-pub flat : (k : Kind) (chunks : List (List Content)) → AllByRecursion (λ chunk. AllByRecursion (IsContent k) chunk) chunks → AllByRecursion (IsContent k) (flat_map (λ chunk. chunk) chunks)
+pub flat : (k : LogicalType) (chunks : List (List Content)) → AllByRecursion (λ chunk. AllByRecursion (IsContent k) chunk) chunks → AllByRecursion (IsContent k) (flat_map (λ chunk. chunk) chunks)
 flat k [] h = tt
 flat k (chunk ∷ chunks) h = all_both (IsContent k) chunk (flat_map (λ c. c) chunks) h.0 (flat k chunks h.1)
 
-unflat : (k : Kind) (chunks : List (List Content)) → AllByRecursion (IsContent k) (flat_map (λ chunk. chunk) chunks) → AllByRecursion (λ chunk. AllByRecursion (IsContent k) chunk) chunks
+unflat : (k : LogicalType) (chunks : List (List Content)) → AllByRecursion (IsContent k) (flat_map (λ chunk. chunk) chunks) → AllByRecursion (λ chunk. AllByRecursion (IsContent k) chunk) chunks
 unflat k [] h = tt
 unflat k (chunk ∷ chunks) h = (all_left (IsContent k) chunk (flat_map (λ c. c) chunks) h, unflat k chunks (all_right (IsContent k) chunk (flat_map (λ c. c) chunks) h))
 
@@ -101,20 +101,20 @@ joined_sum (suc i) (m ∷ sizes) = sum_first m (joined_at i sizes) ∙ ap (λ s.
 
 after_kept : (t : Table) (c : Command) → IsFormed c → refusal t c ≡ None → IsTable t → IsTable (after t c)
 after_kept t (create k default entries) f e h =
-    record { holds = can_hold k (none_first (kept_fault k) (entries_fault 0 k [] entries) e); rows = tt; not_empty = tt; positive = tt; grouped = refl }
+    record { holds = can_hold k (none_first (type_fault_so_far k) (entries_fault 0 k [] entries) e); rows = tt; not_empty = tt; positive = tt; grouped = refl }
 after_kept t (append s values) f e h =
-    let later = none_second (kept_fault s) (or_else (first_invalid 0 s values) (first_unconvertible 0 s t.kind (map content_of values))) e in
+    let later = none_second (type_fault_so_far s) (or_else (first_invalid 0 s values) (first_unconvertible 0 s t.kind (map content_of values))) e in
     appended_kept t (map content_of values)
     (rows_so 0 s t.kind (map content_of values)
     (valid_so 0 s values (none_first (first_invalid 0 s values) (first_unconvertible 0 s t.kind (map content_of values)) later))
     (none_second (first_invalid 0 s values) (first_unconvertible 0 s t.kind (map content_of values)) later)) h
 after_kept t (append_array s rows) f e h =
-    appended_kept t rows (rows_so 0 s t.kind rows f (none_second (kept_fault s) (first_unconvertible 0 s t.kind rows) e)) h
+    appended_kept t rows (rows_so 0 s t.kind rows f (none_second (type_fault_so_far s) (first_unconvertible 0 s t.kind rows) e)) h
 after_kept t (join i) f e h =
     record { holds = h.holds; rows = h.rows; not_empty = h.not_empty; positive = joined_positive i t.groups h.positive; grouped = joined_sum i t.groups ∙ h.grouped }
 after_kept t (retype k) f e h = record {
-  holds = can_hold k (none_first (kept_fault k) (first_unconvertible 0 t.kind k (rows_of t)) e);
-  rows = unflat k t.chunks (rows_so 0 t.kind k (rows_of t) (flat t.kind t.chunks h.rows) (none_second (kept_fault k) (first_unconvertible 0 t.kind k (rows_of t)) e));
+  holds = can_hold k (none_first (type_fault_so_far k) (first_unconvertible 0 t.kind k (rows_of t)) e);
+  rows = unflat k t.chunks (rows_so 0 t.kind k (rows_of t) (flat t.kind t.chunks h.rows) (none_second (type_fault_so_far k) (first_unconvertible 0 t.kind k (rows_of t)) e));
   not_empty = h.not_empty;
   positive = h.positive;
   grouped = h.grouped;

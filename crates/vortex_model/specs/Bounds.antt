@@ -3,7 +3,7 @@ use Rattle.std.specs.Prelude.{◌≡◌, ℕ, suc, ◌-◌, ◌<◌, ◌≤◌, 
 use Rattle.std.specs.List.{AllByRecursion}
 use Rattle.std.specs.Char.{len_utf8, IsScalar}
 use Rattle.std.specs.Ordering.{is_lt, is_le}
-use Rattle.vortex_model.specs.Content.{Content, text, blob}
+use Rattle.vortex_model.specs.Content.{Content, text, byte_string}
 use Rattle.vortex_model.specs.Valid.{AreBytes}
 use Rattle.vortex_model.specs.Order.{bytes_cmp}
 
@@ -32,9 +32,9 @@ AnyBytes a = Unit {0}
 -- The low of a text is its longest beginning of at most L bytes that is a text, that of bytes the longest of at most L bytes. What is neither is its own low.
 abbrev pub IsLow : Content → ℕ → Content → Type 0
 IsLow (text v) L (text a) = IsLongestBeginning IsUtf8 v L a
-IsLow (blob v) L (blob a) = IsLongestBeginning AnyBytes v L a
+IsLow (byte_string v) L (byte_string a) = IsLongestBeginning AnyBytes v L a
 IsLow (text v) L c = ⊥
-IsLow (blob v) L c = ⊥
+IsLow (byte_string v) L c = ⊥
 IsLow v L c = c ≡ v
 
 -- h is the least string of exactly L bytes above v
@@ -84,7 +84,7 @@ IsHighText v L None = (p : List ℕ) × IsLongestBeginning IsUtf8 v L p × IsRai
 IsHighText v L c = ⊥
 
 abbrev pub IsHighBytes : List ℕ → ℕ → Option Content → Type 0
-IsHighBytes v L (Some (blob h)) = IsLeastAbove v L h
+IsHighBytes v L (Some (byte_string h)) = IsLeastAbove v L h
 IsHighBytes v L None = NoneAbove v L
 IsHighBytes v L c = ⊥
 
@@ -99,25 +99,25 @@ IsRaisedBeginning v L raised = (p : List ℕ) × IsLongestBeginning IsUtf8 v L p
 -- What has at most L bytes, and what is neither text nor bytes, is its own high.
 abbrev pub IsHigh : Content → ℕ → Option Content → Type 0
 IsHigh (text v) L h = (length v ≤ L → h ≡ Some (text v)) × (L < length v → IsHighText v L h)
-IsHigh (blob v) L h = (length v ≤ L → h ≡ Some (blob v)) × (L < length v → IsHighBytes v L h)
+IsHigh (byte_string v) L h = (length v ≤ L → h ≡ Some (byte_string v)) × (L < length v → IsHighBytes v L h)
 IsHigh v L h = h ≡ Some v
 
 -- a text is UTF-8, and bytes are bytes
 abbrev pub IsWellFormed : Content → Type 0
 IsWellFormed (text v) = IsUtf8 v
-IsWellFormed (blob v) = AreBytes v
+IsWellFormed (byte_string v) = AreBytes v
 IsWellFormed c = Unit {0}
 
 -- the bytes of a text or of bytes
 abbrev pub bytes_of : Content → List ℕ
 bytes_of (text v) = v
-bytes_of (blob v) = v
+bytes_of (byte_string v) = v
 bytes_of c = []
 
 -- more than L bytes
 abbrev pub is_longer : ℕ → Content → Bool
 is_longer L (text v) = nat_lt L (length v)
-is_longer L (blob v) = nat_lt L (length v)
+is_longer L (byte_string v) = nat_lt L (length v)
 is_longer L c = false
 
 -- ---- the same as functions
@@ -134,7 +134,7 @@ text_within L v = encode_utf8_all (characters_within L (chars v))
 -- the low of a value at length L
 abbrev pub low : ℕ → Content → Content
 low L (text v) = text (text_within L v)
-low L (blob v) = blob (take L v)
+low L (byte_string v) = byte_string (take L v)
 low L c = c
 
 -- the next character with as many bytes, over the gap of the surrogates
@@ -160,5 +160,5 @@ count_up (b ∷ bs) = elim (count_up bs) [ Some ds ↦ Some (b ∷ ds) | None �
 -- the high of a value at length L, where there is one
 abbrev pub high : ℕ → Content → Option Content
 high L (text v) = if nat_lt L (length v) then option_map text (raise (text_within L v)) else Some (text v)
-high L (blob v) = if nat_lt L (length v) then option_map blob (count_up (take L v)) else Some (blob v)
+high L (byte_string v) = if nat_lt L (length v) then option_map byte_string (count_up (take L v)) else Some (byte_string v)
 high L c = Some c

@@ -1,15 +1,15 @@
 -- The predicates for which skipping is exact, and the boxes that no choice of values in them satisfies.
-use Rattle.std.specs.Prelude.{chars, ◌≡◌, ◌≢◌, ℕ, ◌<◌, List, [], ◌∷◌, ◌++◌, Bool, true, false, not, ◌&&◌, ◌||◌, is_some, IfSome, ◌==◌}
+use Rattle.std.specs.Prelude.{chars, ◌≡◌, ◌≢◌, ℕ, ◌<◌, List, [], ◌∷◌, ◌++◌, Bool, true, false, not, ◌&&◌, ◌||◌, is_some, Option, Some, None, IfSome, ◌==◌}
 use Rattle.std.specs.List.{list_any}
-use Rattle.vortex_model.specs.Kind.{Kind, non_nullable, with_nullability}
-use Rattle.vortex_model.specs.Content.{Content, null, truth, text, is_null as is_null_content}
+use Rattle.vortex_model.specs.LogicalType.{LogicalType, non_nullable, with_nullability}
+use Rattle.vortex_model.specs.Content.{Content, null, boolean, text, is_null as is_null_content}
 use Rattle.vortex_model.specs.Valid.{IsContent}
 use Rattle.vortex_model.specs.Path.{Names, begins, type_of_column}
-use Rattle.vortex_model.specs.Order.{at_most as at_most_content, IsAtMost}
+use Rattle.vortex_model.specs.Order.{at_most as at_most_content}
 use Rattle.vortex_model.specs.Bounds.{next_character}
 use Rattle.vortex_model.specs.Expression.{Expression, literal, column, compare, both, either, negation, is_null, is_not_null, is_nan, between, like, row_count, statistic}
 use Rattle.vortex_model.specs.Truth.{Given, evaluate}
-use Rattle.vortex_model.specs.Statistics.{Precision, exact, inexact, absent}
+use Rattle.vortex_model.specs.Statistics.{Precision, exact, inexact, absent, IsNotAbove}
 use Rattle.vortex_model.specs.ZoneMap.{ZoneMap}
 
 -- the columns of a predicate from left to right
@@ -28,13 +28,13 @@ columns_of (like x form n i) = columns_of x ++ columns_of form
 columns_of row_count = []
 columns_of (statistic x a) = columns_of x
 
-abbrev pub same_names : Names → Names → Bool
-same_names xs ys = begins xs ys && begins ys xs
+abbrev pub eq_names : Names → Names → Bool
+eq_names xs ys = begins xs ys && begins ys xs
 
 -- no path stands twice
 abbrev pub all_distinct : List Names → Bool
 all_distinct [] = true
-all_distinct (xs ∷ rest) = not (list_any (same_names xs) rest) && all_distinct rest
+all_distinct (xs ∷ rest) = not (list_any (eq_names xs) rest) && all_distinct rest
 
 -- a column with a column or a non-null literal, in either order
 abbrev pub are_sides : Expression → Expression → Bool
@@ -95,7 +95,7 @@ abbrev pub is_wide_tree : Expression → Bool
 is_wide_tree (compare op x y) = are_sides x y
 is_wide_tree (both x y) = is_wide_tree x && is_wide_tree y
 is_wide_tree (either x y) = is_wide_tree x && is_wide_tree y
-is_wide_tree (literal k (truth b)) = true
+is_wide_tree (literal k (boolean b)) = true
 is_wide_tree (between x lo hi false false) = is_column x && are_ends lo hi
 is_wide_tree (is_null x) = is_column x
 is_wide_tree (is_not_null x) = is_column x
@@ -112,39 +112,47 @@ is_wide e = is_wide_tree e && all_distinct (columns_of e)
 abbrev pub Box : Type 0
 Box = Names → ZoneMap
 
+-- nothing is known, and no row is counted
+abbrev pub unknown_zone : ZoneMap
+unknown_zone = record { low = absent; high = absent; nulls = 0; rows = 0; total = absent; constant = absent }
+
+-- the box of zone maps, of which some columns have none
+abbrev pub box_of : (Names → Option ZoneMap) → Box
+box_of zones xs = elim (zones xs) [ None ↦ unknown_zone | Some z ↦ z ]
+
 -- the value lies between the bounds that are there
 abbrev pub IsFrom : Precision Content → Content → Type 0
-IsFrom (exact b) v = IsAtMost b v
-IsFrom (inexact b) v = IsAtMost b v
+IsFrom (exact b) v = IsNotAbove b v
+IsFrom (inexact b) v = IsNotAbove b v
 IsFrom absent v = Unit {0}
 
 abbrev pub IsUpTo : Precision Content → Content → Type 0
-IsUpTo (exact b) v = IsAtMost v b
-IsUpTo (inexact b) v = IsAtMost v b
+IsUpTo (exact b) v = IsNotAbove v b
+IsUpTo (inexact b) v = IsNotAbove v b
 IsUpTo absent v = Unit {0}
 
 -- a value, and no null, of the column's type
-abbrev pub IsValueOf : Kind → Names → Content → Type 0
+abbrev pub IsValueOf : LogicalType → Names → Content → Type 0
 IsValueOf k xs v = IfSome (type_of_column k xs) (λ t. IsContent (with_nullability non_nullable t) v)
 
 -- a value from the low to the high
-pub record IsBetween (k : Kind) (box : Box) (xs : Names) (v : Content) : Type 0 where
+pub record IsBetween (k : LogicalType) (box : Box) (xs : Names) (v : Content) : Type 0 where
   pub value : IsValueOf k xs v
   pub from : IsFrom (box xs).low v
   pub to : IsUpTo (box xs).high v
 
 -- under a null test: null only where nulls are counted, another value only where not all rows are null
-pub record IsCounted (k : Kind) (box : Box) (xs : Names) (v : Content) : Type 0 where
+pub record IsCounted (k : LogicalType) (box : Box) (xs : Names) (v : Content) : Type 0 where
   pub at_null : is_null_content v ≡ true → (box xs).nulls ≢ 0
   pub at_value : is_null_content v ≡ false → IsValueOf k xs v × ((box xs).nulls < (box xs).rows)
 
 -- what a null test asks of its operand, which is a column
-abbrev pub IsTested : Kind → Box → (Names → Content) → Expression → Type 0
+abbrev pub IsTested : LogicalType → Box → (Names → Content) → Expression → Type 0
 IsTested k box choice (column xs) = IsCounted k box xs (choice xs)
 IsTested k box choice e = Unit {0}
 
 -- the choice gives each column of the predicate a value in its box
-abbrev pub IsIn : Kind → Box → (Names → Content) → Expression → Type 0
+abbrev pub IsIn : LogicalType → Box → (Names → Content) → Expression → Type 0
 IsIn k box choice (literal l c) = Unit {0}
 IsIn k box choice (column xs) = IsBetween k box xs (choice xs)
 IsIn k box choice (compare op x y) = IsIn k box choice x × IsIn k box choice y
@@ -164,8 +172,8 @@ abbrev pub of_choice : (Names → Content) → Given
 of_choice choice = record { columns = choice; placeholders = λ x a. null; rows = 1 }
 
 -- no choice of values in the box makes the predicate true
-abbrev pub Hopeless : Kind → Expression → Box → Type 0
-Hopeless k e box = (choice : Names → Content) → IsIn k box choice e → ¬ (evaluate (of_choice choice) e ≡ truth true)
+abbrev pub Hopeless : LogicalType → Expression → Box → Type 0
+Hopeless k e box = (choice : Names → Content) → IsIn k box choice e → ¬ (evaluate (of_choice choice) e ≡ boolean true)
 
 -- the bound is there
 abbrev pub is_there : Precision Content → Bool

@@ -1,18 +1,20 @@
 -- What a value says, whatever its type.
-use Rattle.std.specs.Prelude.{ℕ, zero, suc, ℤ, List, [], ◌∷◌, Bool, true, false}
-use Rattle.vortex_model.specs.Kind.{Kind, IntKind}
+use Rattle.std.specs.Prelude.{ℕ, zero, suc, ℤ, List, [], ◌∷◌, Bool, true, false, ◌&&◌}
+use Rattle.std.specs.Str.{bytes_eq}
+use Rattle.std.specs.Ordering.{int_eq}
+use Rattle.vortex_model.specs.LogicalType.{LogicalType, IntKind, eq_type, eq_flag}
 
 -- A text is its UTF-8. `tagged` is a union's value, and `scalar` a variant's: a type and its value.
 mutual
   pub data Content : Type 0 where
     null : Content
-    truth : Bool → Content
-    whole : ℤ → Content
+    boolean : Bool → Content
+    integer : ℤ → Content
     text : List ℕ → Content
-    blob : List ℕ → Content
+    byte_string : List ℕ → Content
     tuple : Contents → Content
     tagged : ℤ → Content → Content
-    scalar : Kind → Content → Content
+    scalar : LogicalType → Content → Content
 
   pub data Contents : Type 0 where
     nothing : Contents
@@ -22,13 +24,13 @@ mutual
 mutual
   pub data Raw : Type 0 where
     raw_null : Raw
-    raw_truth : Bool → Raw
+    raw_boolean : Bool → Raw
     raw_number : IntKind → ℤ → Raw
     raw_text : List ℕ → Raw
-    raw_blob : List ℕ → Raw
+    raw_byte_string : List ℕ → Raw
     raw_tuple : Raws → Raw
     raw_tagged : ℤ → Raw → Raw
-    raw_scalar : Kind → Raw → Raw
+    raw_scalar : LogicalType → Raw → Raw
 
   pub data Raws : Type 0 where
     no_raws : Raws
@@ -38,10 +40,10 @@ mutual
 abbrev mutual
   pub content_of : Raw → Content
   content_of raw_null = null
-  content_of (raw_truth b) = truth b
-  content_of (raw_number i z) = whole z
+  content_of (raw_boolean b) = boolean b
+  content_of (raw_number i z) = integer z
   content_of (raw_text bs) = text bs
-  content_of (raw_blob bs) = blob bs
+  content_of (raw_byte_string bs) = byte_string bs
   content_of (raw_tuple rs) = tuple (contents_of rs)
   content_of (raw_tagged t r) = tagged t (content_of r)
   content_of (raw_scalar k r) = scalar k (content_of r)
@@ -73,3 +75,21 @@ contents_from (c ∷ cs) = first c (contents_from cs)
 abbrev pub is_null : Content → Bool
 is_null null = true
 is_null c = false
+
+-- The two contents are equal, and of variants' values the types too.
+abbrev mutual
+  pub equal_content : Content → Content → Bool
+  equal_content null null = true
+  equal_content (boolean a) (boolean b) = eq_flag a b
+  equal_content (integer a) (integer b) = int_eq a b
+  equal_content (text a) (text b) = bytes_eq a b
+  equal_content (byte_string a) (byte_string b) = bytes_eq a b
+  equal_content (tuple cs) (tuple ds) = equal_contents cs ds
+  equal_content (tagged t c) (tagged u d) = int_eq t u && equal_content c d
+  equal_content (scalar k c) (scalar l d) = eq_type k l && equal_content c d
+  equal_content c d = false
+
+  pub equal_contents : Contents → Contents → Bool
+  equal_contents nothing nothing = true
+  equal_contents (first c cs) (first d ds) = equal_content c d && equal_contents cs ds
+  equal_contents cs ds = false

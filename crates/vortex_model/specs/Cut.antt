@@ -1,9 +1,13 @@
 -- A type and a row, cut by a list of paths.
 use Rattle.std.specs.Prelude.{List, [], ◌∷◌, ◌++◌, ◌||◌, Bool, if◌then◌else◌}
 use Rattle.std.specs.List.{list_any}
-use Rattle.vortex_model.specs.Kind.{Kind, struct, Fields, no_fields, field}
+use Rattle.vortex_model.specs.LogicalType.{LogicalType, struct, Fields, no_fields, field}
 use Rattle.vortex_model.specs.Content.{Content, tuple, Contents, nothing, first}
 use Rattle.vortex_model.specs.Path.{Names, begins}
+
+-- a path of the list begins this one
+abbrev pub covers : List Names → Names → Bool
+covers paths here = list_any (λ path. begins path here) paths
 
 -- a path of the list covers this one or begins with it
 abbrev pub is_kept : List Names → Names → Bool
@@ -11,7 +15,7 @@ is_kept paths here = list_any (λ path. begins path here || begins here path) pa
 
 -- Of the record at `here`, the fields that are kept, each cut in turn. What is no record is whole.
 abbrev mutual
-  pub cut_kind : List Names → Names → Kind → Kind
+  pub cut_kind : List Names → Names → LogicalType → LogicalType
   cut_kind paths here (struct fs n) = struct (cut_fields paths here fs) n
   cut_kind paths here k = k
 
@@ -22,7 +26,7 @@ abbrev mutual
 
 -- the same of a row, where null stays null
 abbrev mutual
-  pub cut_content : List Names → Names → Kind → Content → Content
+  pub cut_content : List Names → Names → LogicalType → Content → Content
   cut_content paths here (struct fs n) (tuple cs) = tuple (cut_contents paths here fs cs)
   cut_content paths here k c = c
 
@@ -32,9 +36,9 @@ abbrev mutual
   cut_contents paths here fs cs = nothing
 
 -- the type of an answer's rows
-abbrev pub cut_type : List Names → Kind → Kind
+abbrev pub cut_type : List Names → LogicalType → LogicalType
 cut_type paths k = cut_kind paths [] k
 
 -- a row as it is answered
-abbrev pub cut_row : List Names → Kind → Content → Content
+abbrev pub cut_row : List Names → LogicalType → Content → Content
 cut_row paths k row = cut_content paths [] k row

@@ -1,7 +1,8 @@
 -- Predicates, and the proofs that are made of them, as trees.
 use Rattle.std.specs.Prelude.{Bool, true, false, ◌||◌}
-use Rattle.vortex_model.specs.Kind.{Kind}
+use Rattle.vortex_model.specs.LogicalType.{LogicalType}
 use Rattle.vortex_model.specs.Content.{Content}
+use Rattle.vortex_model.specs.Valid.{IsContent}
 use Rattle.vortex_model.specs.Path.{Names}
 
 -- the six comparisons
@@ -14,7 +15,7 @@ pub data Aggregate : Type 0 where
 
 -- A column is a path of names, and none is the row itself. `between` has its flags for strict ends, lower first; `like` says whether it is negated and whether case is ignored. `row_count` and the placeholder `statistic` stand in proofs.
 pub data Expression : Type 0 where
-  literal : Kind → Content → Expression
+  literal : LogicalType → Content → Expression
   column : Names → Expression
   compare : Comparison → Expression → Expression → Expression
   both : Expression → Expression → Expression
@@ -43,3 +44,19 @@ reads_columns (between x lo hi lower_strict upper_strict) = reads_columns x || r
 reads_columns (like x form negated ignores_case) = reads_columns x || reads_columns form
 reads_columns row_count = false
 reads_columns (statistic x a) = false
+
+-- each literal's content is one of its type
+abbrev pub HasFormedLiterals : Expression → Type 0
+HasFormedLiterals (literal k c) = IsContent k c
+HasFormedLiterals (column xs) = Unit {0}
+HasFormedLiterals (compare op x y) = HasFormedLiterals x × HasFormedLiterals y
+HasFormedLiterals (both x y) = HasFormedLiterals x × HasFormedLiterals y
+HasFormedLiterals (either x y) = HasFormedLiterals x × HasFormedLiterals y
+HasFormedLiterals (negation x) = HasFormedLiterals x
+HasFormedLiterals (is_null x) = HasFormedLiterals x
+HasFormedLiterals (is_not_null x) = HasFormedLiterals x
+HasFormedLiterals (is_nan x) = HasFormedLiterals x
+HasFormedLiterals (between x lo hi lower_strict upper_strict) = HasFormedLiterals x × HasFormedLiterals lo × HasFormedLiterals hi
+HasFormedLiterals (like x form negated ignores_case) = HasFormedLiterals x × HasFormedLiterals form
+HasFormedLiterals row_count = Unit {0}
+HasFormedLiterals (statistic x a) = HasFormedLiterals x

@@ -1,7 +1,7 @@
 -- The types that a table can hold, and their leaves.
 use Rattle.std.specs.Prelude.{◌≡◌, ℕ, List, Option, Some, None, Bool, true, false, not, ◌&&◌, ◌||◌, if◌then◌else◌}
 use Rattle.std.specs.Str.{bytes_eq}
-use Rattle.vortex_model.specs.Kind.{Kind, boolean, integer, utf8, binary, list, fixed_list, struct, Fields, no_fields, field, non_nullable}
+use Rattle.vortex_model.specs.LogicalType.{LogicalType, boolean_type, integer_type, utf8, binary, list, fixed_list, struct, Fields, no_fields, field, non_nullable}
 use Rattle.vortex_model.specs.Path.{Positions, type_at}
 use Rattle.vortex_model.specs.Refusal.{Refusal, not_a_record, unkept_type, repeated_name, or_else}
 
@@ -17,9 +17,9 @@ names_distinct (field x k fs) = not (has_name x fs) && names_distinct fs
 
 -- The first fault of a part: a record's names go before its parts, and these from left to right.
 abbrev mutual
-  pub part_fault : Kind → Option Refusal
-  part_fault (boolean n) = None
-  part_fault (integer i n) = None
+  pub part_fault : LogicalType → Option Refusal
+  part_fault (boolean_type n) = None
+  part_fault (integer_type i n) = None
   part_fault (utf8 n) = None
   part_fault (binary n) = None
   part_fault (list k n) = part_fault k
@@ -32,37 +32,37 @@ abbrev mutual
   fields_fault (field x k fs) = or_else (part_fault k) (fields_fault fs)
 
 -- why a table can't hold the type: the root is to be a non-nullable record
-abbrev pub type_fault : Kind → Option Refusal
+abbrev pub type_fault : LogicalType → Option Refusal
 type_fault (struct fs non_nullable) = part_fault (struct fs non_nullable)
 type_fault k = Some not_a_record
 
 -- a table can hold the type
-abbrev pub CanHold : Kind → Type 0
+abbrev pub CanHold : LogicalType → Type 0
 CanHold k = type_fault k ≡ None
 
 -- a Bool, an integer, a text or bytes
-abbrev pub is_leaf : Kind → Bool
-is_leaf (boolean n) = true
-is_leaf (integer i n) = true
+abbrev pub is_leaf : LogicalType → Bool
+is_leaf (boolean_type n) = true
+is_leaf (integer_type i n) = true
 is_leaf (utf8 n) = true
 is_leaf (binary n) = true
 is_leaf k = false
 
 -- The same faults, where tables hold leaves and records so far, and no lists.
 abbrev mutual
-  pub kept_part_fault : Kind → Option Refusal
-  kept_part_fault (struct fs n) = if names_distinct fs then kept_fields_fault fs else Some repeated_name
-  kept_part_fault k = if is_leaf k then None else Some unkept_type
+  pub part_fault_so_far : LogicalType → Option Refusal
+  part_fault_so_far (struct fs n) = if names_distinct fs then fields_fault_so_far fs else Some repeated_name
+  part_fault_so_far k = if is_leaf k then None else Some unkept_type
 
-  pub kept_fields_fault : Fields → Option Refusal
-  kept_fields_fault no_fields = None
-  kept_fields_fault (field x k fs) = or_else (kept_part_fault k) (kept_fields_fault fs)
+  pub fields_fault_so_far : Fields → Option Refusal
+  fields_fault_so_far no_fields = None
+  fields_fault_so_far (field x k fs) = or_else (part_fault_so_far k) (fields_fault_so_far fs)
 
 -- why a table can't hold the type so far
-abbrev pub kept_fault : Kind → Option Refusal
-kept_fault (struct fs non_nullable) = kept_part_fault (struct fs non_nullable)
-kept_fault k = Some not_a_record
+abbrev pub type_fault_so_far : LogicalType → Option Refusal
+type_fault_so_far (struct fs non_nullable) = part_fault_so_far (struct fs non_nullable)
+type_fault_so_far k = Some not_a_record
 
 -- these positions lead, through records alone, to a leaf
-abbrev pub is_leaf_at : Kind → Positions → Bool
+abbrev pub is_leaf_at : LogicalType → Positions → Bool
 is_leaf_at k is = elim (type_at k is) [ None ↦ false | Some leaf ↦ is_leaf leaf ]

@@ -4,8 +4,8 @@ use Rattle.std.specs.declared.cmp.Ordering.{Ordering}
 use Rattle.std.specs.declared.cmp.Ordering.TheVariants.{Less, Equal, Greater}
 use Rattle.std.specs.Ordering.{nat_cmp, int_cmp, bool_cmp, is_lt, is_le, is_eq}
 use Rattle.std.specs.Cmp.Lexicographic.{slice_cmp}
-use Rattle.vortex_model.specs.Kind.{Kind, equal_ignoring_nullability}
-use Rattle.vortex_model.specs.Content.{Content, null, truth, whole, text, blob, tuple, tagged, scalar, Contents, nothing, first}
+use Rattle.vortex_model.specs.LogicalType.{LogicalType, equal_ignoring_nullability}
+use Rattle.vortex_model.specs.Content.{Content, null, boolean, integer, text, byte_string, tuple, tagged, scalar, Contents, nothing, first}
 
 -- byte by byte, and then by length
 abbrev pub bytes_cmp : List ℕ → List ℕ → Ordering
@@ -13,10 +13,10 @@ bytes_cmp = slice_cmp nat_cmp
 
 -- False is below true, numbers stand as whole numbers, texts and bytes as lists of bytes. Nothing else compares.
 abbrev pub leaf_cmp : Content → Content → Option Ordering
-leaf_cmp (truth a) (truth b) = Some (bool_cmp a b)
-leaf_cmp (whole a) (whole b) = Some (int_cmp a b)
+leaf_cmp (boolean a) (boolean b) = Some (bool_cmp a b)
+leaf_cmp (integer a) (integer b) = Some (int_cmp a b)
 leaf_cmp (text a) (text b) = Some (bytes_cmp a b)
-leaf_cmp (blob a) (blob b) = Some (bytes_cmp a b)
+leaf_cmp (byte_string a) (byte_string b) = Some (bytes_cmp a b)
 leaf_cmp c d = None
 
 -- the first comparison, unless it is Equal
@@ -24,25 +24,18 @@ abbrev pub and_then : Option Ordering → Option Ordering → Option Ordering
 and_then (Some Equal) q = q
 and_then p q = p
 
--- Null is least, sequences go element by element and then by length, a union's values by tag and then by value. A variant's value compares with none.
+-- Null is least, sequences go element by element and then by length, a union's values by tag and then by value. A variant's value compares with null alone.
 abbrev mutual
   pub content_cmp : Content → Content → Option Ordering
-  content_cmp (scalar k c) d = None
-  content_cmp null (scalar k d) = None
   content_cmp null null = Some Equal
   content_cmp null d = Some Less
+  content_cmp c null = Some Greater
   content_cmp (tuple cs) (tuple ds) = contents_cmp cs ds
-  content_cmp (tuple cs) null = Some Greater
   content_cmp (tagged t c) (tagged u d) = and_then (Some (int_cmp t u)) (content_cmp c d)
-  content_cmp (tagged t c) null = Some Greater
-  content_cmp (truth a) null = Some Greater
-  content_cmp (whole a) null = Some Greater
-  content_cmp (text a) null = Some Greater
-  content_cmp (blob a) null = Some Greater
-  content_cmp (truth a) (truth b) = Some (bool_cmp a b)
-  content_cmp (whole a) (whole b) = Some (int_cmp a b)
+  content_cmp (boolean a) (boolean b) = Some (bool_cmp a b)
+  content_cmp (integer a) (integer b) = Some (int_cmp a b)
   content_cmp (text a) (text b) = Some (bytes_cmp a b)
-  content_cmp (blob a) (blob b) = Some (bytes_cmp a b)
+  content_cmp (byte_string a) (byte_string b) = Some (bytes_cmp a b)
   content_cmp c d = None
 
   pub contents_cmp : Contents → Contents → Option Ordering
@@ -52,7 +45,7 @@ abbrev mutual
   contents_cmp (first c cs) (first d ds) = and_then (content_cmp c d) (contents_cmp cs ds)
 
 -- scalars compare where their types are equal up to nullability
-abbrev pub scalar_cmp : Kind → Content → Kind → Content → Option Ordering
+abbrev pub scalar_cmp : LogicalType → Content → LogicalType → Content → Option Ordering
 scalar_cmp s c t d = if equal_ignoring_nullability s t then content_cmp c d else None
 
 -- the values compare, and this is how
@@ -67,8 +60,8 @@ below c d = is_known is_lt (leaf_cmp c d)
 abbrev pub at_most : Content → Content → Bool
 at_most c d = is_known is_le (leaf_cmp c d)
 
-abbrev pub same_leaf : Content → Content → Bool
-same_leaf c d = is_known is_eq (leaf_cmp c d)
+abbrev pub eq_leaf : Content → Content → Bool
+eq_leaf c d = is_known is_eq (leaf_cmp c d)
 
 -- c is not above d
 abbrev pub IsAtMost : Content → Content → Type 0

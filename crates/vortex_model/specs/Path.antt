@@ -1,7 +1,7 @@
 -- Paths of names, and what stands at them.
 use Rattle.std.specs.Prelude.{ℕ, zero, suc, List, [], ◌∷◌, Option, Some, None, if◌then◌else◌, Bool, true, false, option_map, option_and_then, ◌&&◌, ◌==◌}
 use Rattle.std.specs.Str.{bytes_eq}
-use Rattle.vortex_model.specs.Kind.{Kind, struct, Fields, no_fields, field, within, nullability_of}
+use Rattle.vortex_model.specs.LogicalType.{LogicalType, struct, Fields, no_fields, field, nullable_inside, nullability_of}
 use Rattle.vortex_model.specs.Content.{Content, null, tuple, nth}
 
 -- a path from the root, where no names are the root itself
@@ -23,23 +23,23 @@ position_named no_fields x = None
 position_named (field y k fs) x = if bytes_eq y x then Some 0 else option_map suc (position_named fs x)
 
 -- the type of the part at a position
-abbrev pub field_at : Fields → ℕ → Option Kind
+abbrev pub field_at : Fields → ℕ → Option LogicalType
 field_at no_fields i = None
 field_at (field y k fs) zero = Some k
 field_at (field y k fs) (suc i) = field_at fs i
 
-abbrev pub part_at : Kind → ℕ → Option Kind
+abbrev pub part_at : LogicalType → ℕ → Option LogicalType
 part_at (struct fs n) i = field_at fs i
 part_at k i = None
 
-abbrev pub position_in : Kind → List ℕ → Option ℕ
+abbrev pub position_in : LogicalType → List ℕ → Option ℕ
 position_in (struct fs n) x = position_named fs x
 position_in k x = None
 
 -- the type at these positions, nullable also where a record on the way is
-abbrev pub type_at : Kind → Positions → Option Kind
+abbrev pub type_at : LogicalType → Positions → Option LogicalType
 type_at k [] = Some k
-type_at k (i ∷ is) = option_map (within (nullability_of k)) (option_and_then (λ part. type_at part is) (part_at k i))
+type_at k (i ∷ is) = option_map (nullable_inside (nullability_of k)) (option_and_then (λ part. type_at part is) (part_at k i))
 
 -- what a record has at a position, and null of anything else
 abbrev pub part_of : Content → ℕ → Content
@@ -52,16 +52,16 @@ at c [] = c
 at c (i ∷ is) = at (part_of c i) is
 
 -- the positions that a path of names stands for, where it is in the type
-abbrev pub positions : Kind → Names → Option Positions
+abbrev pub positions : LogicalType → Names → Option Positions
 positions k [] = Some []
 positions k (x ∷ xs) = option_and_then (λ i. option_and_then (λ part. option_map (λ is. i ∷ is) (positions part xs)) (part_at k i)) (position_in k x)
 
 -- the type at a path of names
-abbrev pub type_of_column : Kind → Names → Option Kind
+abbrev pub type_of_column : LogicalType → Names → Option LogicalType
 type_of_column k xs = option_and_then (type_at k) (positions k xs)
 
 -- a row's value in the column of that path, and null where there is none
-abbrev pub column : Kind → Names → Content → Content
+abbrev pub column : LogicalType → Names → Content → Content
 column k xs row = elim (positions k xs) [ None ↦ null | Some is ↦ at row is ]
 
 -- the first path begins the second
@@ -71,7 +71,7 @@ begins (x ∷ xs) [] = false
 begins (x ∷ xs) (y ∷ ys) = bytes_eq x y && begins xs ys
 
 -- the paths are equal
-abbrev pub same_positions : Positions → Positions → Bool
-same_positions [] [] = true
-same_positions (i ∷ is) (j ∷ js) = (i == j) && same_positions is js
-same_positions is js = false
+abbrev pub eq_positions : Positions → Positions → Bool
+eq_positions [] [] = true
+eq_positions (i ∷ is) (j ∷ js) = (i == j) && eq_positions is js
+eq_positions is js = false

@@ -1,13 +1,13 @@
 -- Laws of skipping: what a true proof says of the rows.
 use Rattle.std.specs.Prelude.{◌≡◌, ℕ, List, [], ◌++◌, length, map, filter, flat_map, Some, None, Bool, true, false, ◌&&◌}
 use Rattle.std.specs.List.{AllByRecursion}
-use Rattle.vortex_model.specs.Kind.{Kind}
+use Rattle.vortex_model.specs.LogicalType.{LogicalType}
 use Rattle.vortex_model.specs.Content.{Content}
 use Rattle.vortex_model.specs.Valid.{IsContent}
 use Rattle.vortex_model.specs.Path.{Names}
 use Rattle.vortex_model.specs.Kept.{is_leaf}
-use Rattle.vortex_model.specs.Expression.{Expression, both, either, like}
-use Rattle.vortex_model.specs.Truth.{selects}
+use Rattle.vortex_model.specs.Expression.{Expression, both, either, like, HasFormedLiterals}
+use Rattle.vortex_model.specs.Truth.{selects, HasTruth}
 use Rattle.vortex_model.specs.Cut.{cut_row}
 use Rattle.vortex_model.specs.Table.{Table, rows_of, answer}
 use Rattle.vortex_model.specs.Statistics.{IsHonest}
@@ -15,6 +15,7 @@ use Rattle.vortex_model.specs.ZoneMap.{zone_of, statistics_of}
 use Rattle.vortex_model.specs.Rewrite.{falsifier, satisfier}
 use Rattle.vortex_model.specs.Sound.{IsSoundFalsifier, IsSoundSatisfier}
 use Rattle.vortex_model.specs.Scan.{Outcome, skipped_in_group, skipped, whole, tested, chunk_outcome, chunk_zone, proves}
+use Rattle.vortex_model.specs.Class.{Hopeless, box_of, is_wide}
 use Rattle.vortex_model.specs.Command.{predicate_fault, appended}
 
 -- no condition of the predicate is a LIKE
@@ -31,27 +32,36 @@ found_in p skipped chunk = []
 found_in p whole chunk = chunk
 found_in p tested chunk = filter p chunk
 
--- the built-in proof that no row satisfies a predicate may be believed, of any rows
+-- The built-in proof that no row satisfies a predicate may be believed, of any rows of the type. The predicate has a truth, and its literals are of their types.
 abbrev pub FalsifiersAreSound : Type 0
-FalsifiersAreSound = (k : Kind) (e proof : Expression) → has_no_like e ≡ true → falsifier k e ≡ Some proof → IsSoundFalsifier k e proof
+FalsifiersAreSound = (k : LogicalType) (e proof : Expression) → HasTruth k e → HasFormedLiterals e → falsifier k e ≡ Some proof → IsSoundFalsifier k e proof
 
 -- and the one that each row does
 abbrev pub SatisfiersAreSound : Type 0
-SatisfiersAreSound = (k : Kind) (e proof : Expression) → satisfier k e ≡ Some proof → IsSoundSatisfier k e proof
+SatisfiersAreSound = (k : LogicalType) (e proof : Expression) → HasTruth k e → satisfier k e ≡ Some proof → IsSoundSatisfier k e proof
 
 -- the zone map of a column of truth values, integers, texts or bytes is honest, however its bounds are shortened
 abbrev pub ZoneMapsAreHonest : Type 0
-ZoneMapsAreHonest = (k : Kind) (L : ℕ) (cs : List Content) → is_leaf k ≡ true → AllByRecursion (IsContent k) cs → IsHonest (statistics_of (zone_of k L cs)) cs
+ZoneMapsAreHonest = (k : LogicalType) (L : ℕ) (cs : List Content) → is_leaf k ≡ true → AllByRecursion (IsContent k) cs → IsHonest (statistics_of (zone_of k L cs)) cs
 
--- A predicate that may be asked of a table, without LIKE.
+-- a predicate that a scan accepts has a truth
+abbrev pub AcceptedPredicatesHaveTruth : Type 0
+AcceptedPredicatesHaveTruth = (k : LogicalType) (e : Expression) → predicate_fault k e ≡ None → HasTruth k e
+
+-- A predicate that a scan accepts, whose literals are of their types.
 pub record IsAsked (t : Table) (e : Expression) : Type 0 where
   pub faultless : predicate_fault t.kind e ≡ None
-  pub no_like : has_no_like e ≡ true
+  pub formed : HasFormedLiterals e
 
 -- a chunk whose zone maps falsify the predicate has no row that it selects
 abbrev pub SkippedChunksHoldNone : Type 0
 SkippedChunksHoldNone = (t : Table) (e : Expression) (chunk : List Content) → IsAsked t e → AllByRecursion (IsContent t.kind) chunk →
     proves (chunk_zone t chunk) (length chunk) (falsifier t.kind e) ≡ true → filter (selects t.kind e) chunk ≡ []
+
+-- nor has one whose box is hopeless, where the predicate is of the wide class
+abbrev pub HopelessChunksHoldNone : Type 0
+HopelessChunksHoldNone = (t : Table) (e : Expression) (chunk : List Content) → predicate_fault t.kind e ≡ None → is_wide e ≡ true →
+    AllByRecursion (IsContent t.kind) chunk → Hopeless t.kind e (box_of (chunk_zone t chunk)) → filter (selects t.kind e) chunk ≡ []
 
 -- one whose zone maps satisfy it has no other
 abbrev pub WholeChunksHoldAll : Type 0

@@ -8,7 +8,7 @@ pub data Refusal : Type 0 where
   repeated_name : Refusal
   invalid_value : ℕ → Refusal
   not_convertible : ℕ → Refusal
-  total : Refusal
+  total_passed : Refusal
   no_such_group : Refusal
   unknown_path : ℕ → Refusal
   element_step : ℕ → Refusal
@@ -29,7 +29,7 @@ number_of unkept_type = 3
 number_of repeated_name = 4
 number_of (invalid_value i) = 5
 number_of (not_convertible i) = 6
-number_of total = 7
+number_of total_passed = 7
 number_of no_such_group = 8
 number_of (unknown_path i) = 9
 number_of (element_step i) = 10

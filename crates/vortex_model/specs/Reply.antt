@@ -2,9 +2,9 @@
 use Rattle.std.specs.Prelude.{◌≡◌, ◌≤◌, ◌+◌, ◌^◌, ℕ, ◌==◌, length, List, [], ◌∷◌, map, flat_map, Option, Some, None, if◌then◌else◌, slice_get}
 use Rattle.vortex_model.specs.Content.{Content}
 use Rattle.vortex_model.specs.Path.{Positions}
-use Rattle.vortex_model.specs.ZoneMap.{ZoneMap, zone_of_group, values_at, IsGroupTotal, IsGroupConstancy}
+use Rattle.vortex_model.specs.ZoneMap.{ZoneMap, group_low, group_high, group_nulls, zone_of_group, values_at, IsGroupTotal, IsGroupConstancy}
 use Rattle.vortex_model.specs.Statistics.{sum_of}
-use Rattle.vortex_model.specs.Refusal.{Refusal, total}
+use Rattle.vortex_model.specs.Refusal.{Refusal, total_passed}
 use Rattle.vortex_model.specs.Table.{Table, rows_of}
 use Rattle.vortex_model.specs.Scan.{ScanAnswer, scanned, grouped, chunk_zone_at, kind_at}
 use Rattle.vortex_model.specs.Command.{Command, append, append_array, scan, describe, refusal_in, after_in, names_of, positions_of}
@@ -40,15 +40,15 @@ chunks_of_group t i = elim (slice_get (grouped t.groups t.chunks) i) [ None ↦ 
 abbrev pub chunk_zones : Table → Positions → ℕ → List ZoneMap
 chunk_zones t is i = map (λ chunk. chunk_zone_at t chunk is (kind_at t.kind is)) (chunks_of_group t i)
 
--- what is known of a leaf column of a group
+-- the zone map of a leaf column of a group, its chunks joined from the left
 abbrev pub zone_at : Table → Positions → ℕ → ZoneMap
 zone_at t is i = zone_of_group (kind_at t.kind is) (chunk_zones t is i)
 
 -- What a description says: bounds and null count are those of the group, and its sum and constancy may be missing where joins lost them.
 pub record Describes (t : Table) (is : Positions) (i : ℕ) (z : ZoneMap) : Type 0 where
-  pub low : z.low ≡ (zone_at t is i).low
-  pub high : z.high ≡ (zone_at t is i).high
-  pub nulls : z.nulls ≡ (zone_at t is i).nulls
+  pub low : z.low ≡ group_low (chunk_zones t is i)
+  pub high : z.high ≡ group_high (chunk_zones t is i)
+  pub nulls : z.nulls ≡ group_nulls (chunk_zones t is i)
   pub total : IsGroupTotal (kind_at t.kind is) (map (λ chunk. sum_of (values_at is chunk)) (chunks_of_group t i)) z.total
   pub constant : IsGroupConstancy (values_at is (flat_map (λ chunk. chunk) (chunks_of_group t i))) (chunk_zones t is i) z.constant
 
@@ -80,6 +80,6 @@ PassesTotal old c = ⊥
 -- A command is refused by the first reason, is accepted, or is answered by want of memory. A total goes behind all other reasons. Only where the command is accepted the table changes.
 abbrev pub RespondsTo : Option Table → Command → Answer → Option Table → Type 0
 RespondsTo old c out_of_memory new = new ≡ old
-RespondsTo old c (refused total) new = (refusal_in old c ≡ None) × PassesTotal old c × (new ≡ old)
+RespondsTo old c (refused total_passed) new = (refusal_in old c ≡ None) × PassesTotal old c × (new ≡ old)
 RespondsTo old c (refused r) new = (refusal_in old c ≡ Some r) × (new ≡ old)
 RespondsTo old c a new = (refusal_in old c ≡ None) × SaysIn old c a × (new ≡ after_in old c)

@@ -1,58 +1,54 @@
 -- Proofs that no row satisfies a predicate, or that every row does.
 use Rattle.std.specs.Prelude.{ℕ, zero, suc, pos, List, [], ◌∷◌, length, Option, Some, None, Bool, true, false, not, ◌&&◌, ◌||◌, if◌then◌else◌, ◌==◌, chars, encode_utf8_all, option_map}
 use Rattle.std.specs.Option.{option_map_or}
-use Rattle.vortex_model.specs.Kind.{Kind, boolean, integer, utf8, non_nullable, u64}
-use Rattle.vortex_model.specs.Content.{truth, whole, text, is_null as is_null_content}
+use Rattle.vortex_model.specs.LogicalType.{LogicalType, boolean_type, integer_type, utf8, non_nullable, u64}
+use Rattle.vortex_model.specs.Content.{boolean, integer, text, is_null as is_null_content}
 use Rattle.vortex_model.specs.Bounds.{raise}
-use Rattle.vortex_model.specs.Typing.{type_of, has_bounds, is_float}
+use Rattle.vortex_model.specs.Typing.{expression_type, has_bounds, is_of_floats}
 use Rattle.vortex_model.specs.Expression.{Expression, literal, compare, both, either, is_null, is_not_null, is_nan, between, like, row_count, statistic, Comparison, equal, not_equal, greater, at_least, less, at_most, Aggregate, min, max, null_count, nan_count, all_null, all_non_null, all_nan, all_non_nan}
 use Rattle.vortex_model.specs.Truth.{end_of}
 
 -- literals of proofs, none of them null
 abbrev pub count_literal : ℕ → Expression
-count_literal n = literal (integer u64 non_nullable) (whole (pos n))
+count_literal n = literal (integer_type u64 non_nullable) (integer (pos n))
 
-abbrev pub truth_literal : Bool → Expression
-truth_literal b = literal (boolean non_nullable) (truth b)
+abbrev pub boolean_literal : Bool → Expression
+boolean_literal b = literal (boolean_type non_nullable) (boolean b)
 
 abbrev pub text_literal : List ℕ → Expression
 text_literal t = literal (utf8 non_nullable) (text t)
 
 -- Of a literal the least and the greatest value are itself, its null count is 1 or 0, and no NaN counts. All else is a placeholder.
-abbrev pub bound_of : Aggregate → Expression → Expression
-bound_of a (literal k c) = literal k c
-bound_of a x = statistic x a
+abbrev pub bound_expression : Aggregate → Expression → Expression
+bound_expression a (literal k c) = literal k c
+bound_expression a x = statistic x a
 
-abbrev pub nulls_of : Expression → Expression
-nulls_of (literal k c) = count_literal (if is_null_content c then 1 else 0)
-nulls_of x = statistic x null_count
+abbrev pub null_count_expression : Expression → Expression
+null_count_expression (literal k c) = count_literal (if is_null_content c then 1 else 0)
+null_count_expression x = statistic x null_count
 
-abbrev pub nans_of : Expression → Expression
-nans_of (literal k c) = count_literal 0
-nans_of x = statistic x nan_count
+abbrev pub nan_count_expression : Expression → Expression
+nan_count_expression (literal k c) = count_literal 0
+nan_count_expression x = statistic x nan_count
 
 -- a literal, or an expression whose type has a least and a greatest value
-abbrev pub is_bounded : Kind → Expression → Bool
-is_bounded k (literal l c) = true
-is_bounded k x = option_map_or has_bounds (type_of k x) false
-
--- of float type
-abbrev pub is_of_floats : Kind → Expression → Bool
-is_of_floats k x = option_map_or is_float (type_of k x) false
+abbrev pub is_comparable : LogicalType → Expression → Bool
+is_comparable k (literal l c) = true
+is_comparable k x = option_map_or has_bounds (expression_type k x) false
 
 -- of float type and no literal, which is to be guarded against NaN
-abbrev pub is_float_placeholder : Kind → Expression → Bool
+abbrev pub is_float_placeholder : LogicalType → Expression → Bool
 is_float_placeholder k (literal l c) = false
 is_float_placeholder k x = is_of_floats k x
 
 -- by the bounds of the two sides, where a comparison is true of none
 abbrev pub comparison_falsifier : Comparison → Expression → Expression → Expression
-comparison_falsifier equal l r = either (compare greater (bound_of min l) (bound_of max r)) (compare greater (bound_of min r) (bound_of max l))
-comparison_falsifier not_equal l r = both (compare equal (bound_of min l) (bound_of max r)) (compare equal (bound_of max l) (bound_of min r))
-comparison_falsifier greater l r = compare at_most (bound_of max l) (bound_of min r)
-comparison_falsifier at_least l r = compare less (bound_of max l) (bound_of min r)
-comparison_falsifier less l r = compare at_least (bound_of min l) (bound_of max r)
-comparison_falsifier at_most l r = compare greater (bound_of min l) (bound_of max r)
+comparison_falsifier equal l r = either (compare greater (bound_expression min l) (bound_expression max r)) (compare greater (bound_expression min r) (bound_expression max l))
+comparison_falsifier not_equal l r = both (compare equal (bound_expression min l) (bound_expression max r)) (compare equal (bound_expression max l) (bound_expression min r))
+comparison_falsifier greater l r = compare at_most (bound_expression max l) (bound_expression min r)
+comparison_falsifier at_least l r = compare less (bound_expression max l) (bound_expression min r)
+comparison_falsifier less l r = compare at_least (bound_expression min l) (bound_expression max r)
+comparison_falsifier at_most l r = compare greater (bound_expression min l) (bound_expression max r)
 
 -- no value of the expression is NaN, by the count and by the flag
 abbrev pub no_nan_by_count : Expression → Expression
@@ -69,9 +65,9 @@ guarded guard false true l r proof = both (guard r) proof
 guarded guard false false l r proof = proof
 
 -- one proof, or for floats two
-abbrev pub comparison_falsifiers : Kind → Comparison → Expression → Expression → List Expression
+abbrev pub comparison_falsifiers : LogicalType → Comparison → Expression → Expression → List Expression
 comparison_falsifiers k op l r =
-    if not (is_bounded k l && is_bounded k r) then []
+    if not (is_comparable k l && is_comparable k r) then []
     else (if is_float_placeholder k l || is_float_placeholder k r
     then guarded no_nan_by_count (is_float_placeholder k l) (is_float_placeholder k r) l r (comparison_falsifier op l r)
     ∷ guarded no_nan_by_flag (is_float_placeholder k l) (is_float_placeholder k r) l r (comparison_falsifier op l r) ∷ []
@@ -79,7 +75,21 @@ comparison_falsifiers k op l r =
 
 -- ---- LIKE
 
--- An exact text, or a beginning that every match has. A backslash stands for the character behind it.
+-- What stands in a pattern: a character that stands for itself, or a bare % (37) or _ (95).
+pub data Sign : Type 0 where
+  letter : ℕ → Sign
+  wildcard : Sign
+
+abbrev pub sign_of : ℕ → Sign
+sign_of c = if (c == 37) || (c == 95) then wildcard else letter c
+
+-- The signs of a pattern, in characters. A backslash (92) and the character behind it spell that character, and none may stand at the end.
+abbrev pub signs_of : List ℕ → Option (List Sign)
+signs_of [] = Some []
+signs_of (c ∷ []) = if c == 92 then None else Some (sign_of c ∷ [])
+signs_of (c ∷ d ∷ cs) = if c == 92 then option_map (λ signs. letter d ∷ signs) (signs_of cs) else option_map (λ signs. sign_of c ∷ signs) (signs_of (d ∷ cs))
+
+-- An exact text, or a beginning that every match has.
 pub data Shape : Type 0 where
   exact_text : List ℕ → Shape
   beginning : List ℕ → Shape
@@ -91,26 +101,19 @@ onto_shape c (exact_text t) = exact_text (c ∷ t)
 onto_shape c (beginning t) = beginning (c ∷ t)
 onto_shape c no_shape = no_shape
 
--- `escaped`: the character before was a backslash
-abbrev pub shape_after : Bool → List ℕ → Shape
-shape_after true [] = no_shape
-shape_after false [] = exact_text []
-shape_after true (c ∷ cs) = onto_shape c (shape_after false cs)
-shape_after false (c ∷ cs) = if c == 92 then shape_after true cs else (if (c == 37) || (c == 95) then beginning [] else onto_shape c (shape_after false cs))
-
--- The pattern ends in a backslash that stands for no character.
-abbrev pub ends_open : Bool → List ℕ → Bool
-ends_open escaped [] = escaped
-ends_open true (c ∷ cs) = ends_open false cs
-ends_open false (c ∷ cs) = ends_open (c == 92) cs
+-- The letters up to the end are an exact text, and those up to the first wildcard a beginning.
+abbrev pub shape_of_signs : List Sign → Shape
+shape_of_signs [] = exact_text []
+shape_of_signs (letter c ∷ signs) = onto_shape c (shape_of_signs signs)
+shape_of_signs (wildcard ∷ signs) = beginning []
 
 -- the shape of a pattern, in characters
 abbrev pub shape_of : List ℕ → Shape
-shape_of cs = if ends_open false cs then no_shape else shape_after false cs
+shape_of cs = elim (signs_of cs) [ None ↦ no_shape | Some signs ↦ shape_of_signs signs ]
 
 -- the least value is above, or the greatest below
 abbrev pub outside : Expression → List ℕ → List ℕ → Comparison → Expression
-outside x below above op = either (compare op (bound_of min x) (text_literal above)) (compare less (bound_of max x) (text_literal below))
+outside x below above op = either (compare op (bound_expression min x) (text_literal above)) (compare less (bound_expression max x) (text_literal below))
 
 -- No text is the exact one, or none begins so: a text that begins so is below the raised beginning.
 abbrev pub shape_falsifier : Expression → Shape → Option Expression
@@ -157,24 +160,43 @@ abbrev pub both_there : Option Expression → Option Expression → Option Expre
 both_there (Some x) (Some y) = Some (both x y)
 both_there p q = None
 
--- a proof, over statistics, that no row satisfies the predicate
-abbrev pub falsifier : Kind → Expression → Option Expression
-falsifier k (literal l (truth b)) = Some (truth_literal (not b))
-falsifier k (compare op l r) = joined_proofs (comparison_falsifiers k op l r)
+-- as a list of proofs
+abbrev pub as_list : Option Expression → List Expression
+as_list None = []
+as_list (Some proof) = proof ∷ []
+
+-- no value of the expression is null, or each is, by the count and by the flag
+abbrev pub no_nulls_proofs : Expression → List Expression
+no_nulls_proofs x = compare equal (null_count_expression x) (count_literal 0) ∷ statistic x all_non_null ∷ []
+
+abbrev pub only_nulls_proofs : Expression → List Expression
+only_nulls_proofs x = compare equal (null_count_expression x) row_count ∷ statistic x all_null ∷ []
+
+-- The proofs, over statistics, that the built-in rules give at a node, in the order of the rules: each proves that no row satisfies the predicate. Those of AND, OR and BETWEEN come from their parts.
+abbrev pub falsifiers : LogicalType → Expression → List Expression
+falsifiers k (literal l (boolean b)) = boolean_literal (not b) ∷ []
+falsifiers k (compare op l r) = comparison_falsifiers k op l r
+falsifiers k (is_null x) = no_nulls_proofs x
+falsifiers k (is_not_null x) = only_nulls_proofs x
+falsifiers k (is_nan x) = if is_of_floats k x then compare equal (nan_count_expression x) (count_literal 0) ∷ statistic x all_non_nan ∷ [] else []
+falsifiers k (like x form negated ignores_case) = as_list (like_falsifier x form negated ignores_case)
+falsifiers k e = []
+
+-- all of them as one
+abbrev pub falsifier : LogicalType → Expression → Option Expression
 falsifier k (both x y) = either_there (falsifier k x) (falsifier k y)
 falsifier k (either x y) = both_there (falsifier k x) (falsifier k y)
 falsifier k (between x lo hi lower_strict upper_strict) =
-    either_there (joined_proofs (comparison_falsifiers k (end_of lower_strict) lo x)) (joined_proofs (comparison_falsifiers k (end_of upper_strict) x hi))
-falsifier k (is_null x) = Some (either (compare equal (nulls_of x) (count_literal 0)) (statistic x all_non_null))
-falsifier k (is_not_null x) = Some (either (compare equal (nulls_of x) row_count) (statistic x all_null))
-falsifier k (is_nan x) = if is_of_floats k x then Some (either (compare equal (nans_of x) (count_literal 0)) (statistic x all_non_nan)) else None
-falsifier k (like x form negated ignores_case) = like_falsifier x form negated ignores_case
-falsifier k e = None
+    either_there (joined_proofs (falsifiers k (compare (end_of lower_strict) lo x))) (joined_proofs (falsifiers k (compare (end_of upper_strict) x hi)))
+falsifier k e = joined_proofs (falsifiers k e)
 
--- a proof that every row does
-abbrev pub satisfier : Kind → Expression → Option Expression
-satisfier k (literal l (truth b)) = Some (truth_literal b)
-satisfier k (is_null x) = Some (either (compare equal (nulls_of x) row_count) (statistic x all_null))
-satisfier k (is_not_null x) = Some (either (compare equal (nulls_of x) (count_literal 0)) (statistic x all_non_null))
-satisfier k (is_nan x) = if is_of_floats k x then Some (either (compare equal (nans_of x) row_count) (statistic x all_nan)) else None
-satisfier k e = None
+-- the proofs that the built-in rules give that every row does
+abbrev pub satisfiers : LogicalType → Expression → List Expression
+satisfiers k (literal l (boolean b)) = boolean_literal b ∷ []
+satisfiers k (is_null x) = only_nulls_proofs x
+satisfiers k (is_not_null x) = no_nulls_proofs x
+satisfiers k (is_nan x) = if is_of_floats k x then compare equal (nan_count_expression x) row_count ∷ statistic x all_nan ∷ [] else []
+satisfiers k e = []
+
+abbrev pub satisfier : LogicalType → Expression → Option Expression
+satisfier k e = joined_proofs (satisfiers k e)

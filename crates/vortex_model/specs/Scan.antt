@@ -1,12 +1,13 @@
 -- Which chunks a scan skips, takes whole or tests, and what it counts.
-use Rattle.std.specs.Prelude.{ℕ, suc, ◌+◌, ◌*◌, ◌-◌, ◌^◌, List, [], ◌∷◌, length, take, drop, map, sum, count_by, flat_map, Option, Some, None, is_some, Bool, true, false, not, ◌&&◌, if◌then◌else◌, nat_lt}
-use Rattle.vortex_model.specs.Kind.{Kind, null_only}
+use Rattle.std.specs.Prelude.{ℕ, suc, ◌+◌, ◌*◌, ◌-◌, ◌^◌, List, [], ◌∷◌, length, take, drop, map, filter, zip, sum, count_by, flat_map, Option, Some, None, is_some, option_map, option_and_then, Bool, true, false, not, ◌&&◌, if◌then◌else◌, nat_lt}
+use Rattle.vortex_model.specs.LogicalType.{LogicalType, null_only}
 use Rattle.vortex_model.specs.Content.{Content, null}
 use Rattle.vortex_model.specs.Path.{Names, Positions, positions, type_at}
+use Rattle.vortex_model.specs.Kept.{is_leaf}
 use Rattle.vortex_model.specs.Expression.{Expression, column, Aggregate, min, max, null_count, all_null, all_non_null}
 use Rattle.vortex_model.specs.Truth.{evaluate, is_true}
 use Rattle.vortex_model.specs.Statistics.{placeholder_value}
-use Rattle.vortex_model.specs.ZoneMap.{ZoneMap, zone_of, zone_of_group, values_at, statistics_of}
+use Rattle.vortex_model.specs.ZoneMap.{ZoneMap, zone_of, group_bounds, values_at, statistics_of}
 use Rattle.vortex_model.specs.Rewrite.{falsifier, satisfier}
 use Rattle.vortex_model.specs.Table.{Table, bound_length, answer}
 use Rattle.vortex_model.specs.Cut.{cut_type}
@@ -14,28 +15,33 @@ use Rattle.vortex_model.specs.Cut.{cut_type}
 -- ---- zone maps by path
 
 -- what is known of a leaf column of a chunk, by its position and type
-abbrev pub chunk_zone_at : Table → List Content → Positions → Kind → ZoneMap
+abbrev pub chunk_zone_at : Table → List Content → Positions → LogicalType → ZoneMap
 chunk_zone_at t chunk is k = zone_of k (bound_length t is) (values_at is chunk)
 
--- the positions of a path, and the root's where it leads nowhere
-abbrev pub positions_or_root : Kind → Names → Positions
-positions_or_root k xs = elim (positions k xs) [ None ↦ [] | Some is ↦ is ]
-
 -- the type at positions, and that of null where there is none
-abbrev pub kind_at : Kind → Positions → Kind
+abbrev pub kind_at : LogicalType → Positions → LogicalType
 kind_at k is = elim (type_at k is) [ None ↦ null_only | Some t ↦ t ]
 
--- the zone map of a column of a chunk; a path that leads nowhere is never asked for
-abbrev pub chunk_zone : Table → List Content → Names → ZoneMap
-chunk_zone t chunk xs = let is = positions_or_root t.kind xs in chunk_zone_at t chunk is (kind_at t.kind is)
+-- with its type, where it is a leaf's
+abbrev pub if_leaf : Positions → Option LogicalType → Option (Positions × LogicalType)
+if_leaf is None = None
+if_leaf is (Some k) = if is_leaf k then Some (is, k) else None
+
+-- the positions and the type of the leaf that a path leads to, where it leads to a leaf
+abbrev pub leaf_at : LogicalType → Names → Option (Positions × LogicalType)
+leaf_at k xs = option_and_then (λ is. if_leaf is (type_at k is)) (positions k xs)
+
+-- The zone map of a leaf column of a chunk. Of other columns, and of paths that lead nowhere, nothing is kept.
+abbrev pub chunk_zone : Table → List Content → Names → Option ZoneMap
+chunk_zone t chunk xs = option_map (λ leaf. chunk_zone_at t chunk leaf.0 leaf.1) (leaf_at t.kind xs)
 
 -- the same of the chunks of a group
-abbrev pub group_zone : Table → List (List Content) → Names → ZoneMap
-group_zone t chunks xs = zone_of_group (kind_at t.kind (positions_or_root t.kind xs)) (map (λ chunk. chunk_zone t chunk xs) chunks)
+abbrev pub group_zone : Table → List (List Content) → Names → Option ZoneMap
+group_zone t chunks xs = option_map (λ leaf. group_bounds (map (λ chunk. chunk_zone_at t chunk leaf.0 leaf.1) chunks)) (leaf_at t.kind xs)
 
 -- ---- proofs
 
--- The table knows the least and the greatest value and the null counts of its columns, and no more.
+-- The table tells the least and the greatest value and the null counts of its leaf columns, and no more.
 abbrev pub is_bound : Aggregate → Bool
 is_bound min = true
 is_bound max = true
@@ -44,13 +50,18 @@ is_bound all_null = true
 is_bound all_non_null = true
 is_bound a = false
 
--- what a placeholder stands for: the statistic of a column, where the table knows it, and else null
-abbrev pub known : (Names → ZoneMap) → ℕ → Expression → Aggregate → Content
-known zones rows (column xs) a = if is_bound a then placeholder_value a (statistics_of (zones xs)) rows else null
+-- of a zone map of so many rows, where there is one, what it tells
+abbrev pub told : Option ZoneMap → ℕ → Aggregate → Content
+told None rows a = null
+told (Some z) rows a = if is_bound a then placeholder_value a (statistics_of z) rows else null
+
+-- what a placeholder stands for: the statistic of a leaf column, where the table tells it, and else null
+abbrev pub known : (Names → Option ZoneMap) → ℕ → Expression → Aggregate → Content
+known zones rows (column xs) a = told (zones xs) rows a
 known zones rows e a = null
 
 -- The proof is true of these zone maps. It is a built-in one, which reads no column.
-abbrev pub proves : (Names → ZoneMap) → ℕ → Option Expression → Bool
+abbrev pub proves : (Names → Option ZoneMap) → ℕ → Option Expression → Bool
 proves zones rows None = false
 proves zones rows (Some proof) = is_true (evaluate (record { columns = λ xs. null; placeholders = known zones rows; rows = rows }) proof)
 
@@ -95,6 +106,10 @@ abbrev pub is_whole : Outcome → Bool
 is_whole whole = true
 is_whole o = false
 
+abbrev pub is_tested : Outcome → Bool
+is_tested tested = true
+is_tested o = false
+
 abbrev pub is_in_group : Outcome → Bool
 is_in_group skipped_in_group = true
 is_in_group o = false
@@ -117,11 +132,9 @@ whole_chunks t e = numbers is_whole 0 (outcomes t e)
 abbrev pub saturated : ℕ → ℕ
 saturated n = if nat_lt n (2 ^ 64) then n else (2 ^ 64 - 1)
 
--- the rows of the chunks that are tested
+-- the sum of the lengths of the chunks whose outcome is tested
 abbrev pub tested_lengths : List Outcome → List (List Content) → ℕ
-tested_lengths (tested ∷ os) (chunk ∷ chunks) = length chunk + tested_lengths os chunks
-tested_lengths (o ∷ os) (chunk ∷ chunks) = tested_lengths os chunks
-tested_lengths os chunks = 0
+tested_lengths os chunks = sum (map (λ pair. length pair.1) (filter (λ pair. is_tested pair.0) (zip os chunks)))
 
 -- the rows of the chunks that are neither skipped nor taken whole
 abbrev pub rows_tested : Table → Expression → ℕ
@@ -145,7 +158,7 @@ proofs t e = saturated (proofs_for t e (outcomes t e))
 -- The rows and their type, the numbers of the chunks that were skipped and taken whole, how many rows were tested and how many proofs tried.
 pub record ScanAnswer : Type 0 where
   pub rows : List Content
-  pub kind : Kind
+  pub kind : LogicalType
   pub skipped : List ℕ
   pub whole : List ℕ
   pub rows_tested : ℕ

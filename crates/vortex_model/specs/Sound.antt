@@ -1,8 +1,9 @@
 -- When a proof may be believed.
 use Rattle.std.specs.Prelude.{◌≡◌, List, map, length, ◌⊎◌, true, false}
 use Rattle.std.specs.List.{AllByRecursion}
-use Rattle.vortex_model.specs.Kind.{Kind}
-use Rattle.vortex_model.specs.Content.{Content, null, truth}
+use Rattle.vortex_model.specs.LogicalType.{LogicalType}
+use Rattle.vortex_model.specs.Content.{Content, null, boolean}
+use Rattle.vortex_model.specs.Valid.{IsContent}
 use Rattle.vortex_model.specs.Expression.{Expression, Aggregate, reads_columns}
 use Rattle.vortex_model.specs.Truth.{Given, evaluate, value_at, Satisfies}
 use Rattle.vortex_model.specs.Statistics.{Statistics, IsHonest, placeholder_value}
@@ -12,7 +13,7 @@ abbrev pub Placeholders : Type 0
 Placeholders = Expression → Aggregate → Content
 
 -- Each placeholder is null, or the value by honest statistics of its input on these rows.
-abbrev pub AreHonest : Kind → List Content → Placeholders → Type 0
+abbrev pub AreHonest : LogicalType → List Content → Placeholders → Type 0
 AreHonest k rows given = (x : Expression) (a : Aggregate) →
     (given x a ≡ null) ⊎ ((s : Statistics) × IsHonest s (map (value_at k x) rows) × (given x a ≡ placeholder_value a s (length rows)))
 
@@ -22,14 +23,14 @@ of_proof given rows = record { columns = λ xs. null; placeholders = given; rows
 
 -- The proof is true of these rows. One that reads a column other than in a placeholder is true of none.
 abbrev pub Proves : Placeholders → List Content → Expression → Type 0
-Proves given rows proof = (reads_columns proof ≡ false) × (evaluate (of_proof given rows) proof ≡ truth true)
+Proves given rows proof = (reads_columns proof ≡ false) × (evaluate (of_proof given rows) proof ≡ boolean true)
 
--- where the proof is true, no row satisfies the predicate
-abbrev pub IsSoundFalsifier : Kind → Expression → Expression → Type 0
-IsSoundFalsifier k e proof = (rows : List Content) (given : Placeholders) → AreHonest k rows given → Proves given rows proof →
+-- Where the proof is true of rows of the type, none of them satisfies the predicate.
+abbrev pub IsSoundFalsifier : LogicalType → Expression → Expression → Type 0
+IsSoundFalsifier k e proof = (rows : List Content) (given : Placeholders) → AllByRecursion (IsContent k) rows → AreHonest k rows given → Proves given rows proof →
     AllByRecursion (λ row. ¬ (Satisfies k e row)) rows
 
--- where the proof is true, every row does
-abbrev pub IsSoundSatisfier : Kind → Expression → Expression → Type 0
-IsSoundSatisfier k e proof = (rows : List Content) (given : Placeholders) → AreHonest k rows given → Proves given rows proof →
+-- Where it is true of rows of the type, each of them does.
+abbrev pub IsSoundSatisfier : LogicalType → Expression → Expression → Type 0
+IsSoundSatisfier k e proof = (rows : List Content) (given : Placeholders) → AllByRecursion (IsContent k) rows → AreHonest k rows given → Proves given rows proof →
     AllByRecursion (λ row. Satisfies k e row) rows

@@ -1,8 +1,9 @@
 -- Statistics of a list of values, and when they are honest.
-use Rattle.std.specs.Prelude.{◌≡◌, ℕ, ℤ, pos, ◌+ℤ◌, ◌≤◌, List, [], ◌∷◌, filter, count_by, Contains, Option, Some, None, Bool, true, false, not, ◌&&◌, ◌||◌, if◌then◌else◌, nat_lt, ◌==◌}
+use Rattle.std.specs.Prelude.{◌≡◌, ℕ, ℤ, pos, ◌+ℤ◌, ◌≤◌, List, [], ◌∷◌, filter, find, count_by, Contains, Option, Bool, true, false, not, ◌&&◌, if◌then◌else◌, nat_lt, ◌==◌}
 use Rattle.std.specs.List.{AllByRecursion, list_all}
-use Rattle.vortex_model.specs.Content.{Content, null, truth, whole, is_null}
-use Rattle.vortex_model.specs.Order.{at_most, below, same_leaf, IsAtMost}
+use Rattle.std.specs.Ordering.{is_lt, is_le}
+use Rattle.vortex_model.specs.Content.{Content, null, boolean, integer, is_null, equal_content}
+use Rattle.vortex_model.specs.Order.{content_cmp, is_known}
 use Rattle.vortex_model.specs.Expression.{Aggregate, min, max, sum, null_count, nan_count, size, min_max, all_null, all_non_null, all_nan, all_non_nan}
 
 -- A statistic is known, is known as a bound or a guess, or is not known.
@@ -29,29 +30,27 @@ pub record Statistics : Type 0 where
 abbrev pub non_null : List Content → List Content
 non_null cs = filter (λ c. not (is_null c)) cs
 
-abbrev pub nulls_of : List Content → ℕ
-nulls_of cs = count_by is_null cs
+abbrev pub null_count_of : List Content → ℕ
+null_count_of cs = count_by is_null cs
 
--- of two values the lesser, and the greater
-abbrev pub lesser : Content → Content → Content
-lesser c d = if at_most c d then c else d
+-- The two compare in the order of contents, and the first is not above the second, or is below it. Values that don't compare pass neither test.
+abbrev pub is_at_most : Content → Content → Bool
+is_at_most c d = is_known is_le (content_cmp c d)
 
-abbrev pub greater : Content → Content → Content
-greater c d = if at_most c d then d else c
+abbrev pub is_below : Content → Content → Bool
+is_below c d = is_known is_lt (content_cmp c d)
 
--- the least and the greatest of the values, where there are any
-abbrev pub least_of : List Content → Option Content
-least_of [] = None
-least_of (c ∷ cs) = elim (least_of cs) [ None ↦ Some c | Some d ↦ Some (lesser c d) ]
+-- The value that is at most each, and the one that each is at most. There is none of no values, nor where no value compares so with all.
+abbrev pub least_value : List Content → Option Content
+least_value cs = find (λ v. list_all (is_at_most v) cs) cs
 
-abbrev pub greatest_of : List Content → Option Content
-greatest_of [] = None
-greatest_of (c ∷ cs) = elim (greatest_of cs) [ None ↦ Some c | Some d ↦ Some (greater c d) ]
+abbrev pub greatest_value : List Content → Option Content
+greatest_value cs = find (λ v. list_all (λ c. is_at_most c v) cs) cs
 
 -- a truth value counts 1 where it is true
 abbrev pub number_in : Content → ℤ
-number_in (whole z) = z
-number_in (truth true) = pos 1
+number_in (integer z) = z
+number_in (boolean true) = pos 1
 number_in c = pos 0
 
 -- the sum, in which null and what is no number count 0
@@ -59,14 +58,10 @@ abbrev pub sum_of : List Content → ℤ
 sum_of [] = pos 0
 sum_of (c ∷ cs) = number_in c +ℤ sum_of cs
 
--- both null, or equal
-abbrev pub same_value : Content → Content → Bool
-same_value c d = (is_null c && is_null d) || same_leaf c d
-
 -- all are null, or all are one value
 abbrev pub is_constant : List Content → Bool
 is_constant [] = true
-is_constant (c ∷ cs) = list_all (same_value c) cs
+is_constant (c ∷ cs) = list_all (equal_content c) cs
 
 -- each passes with the one behind it
 abbrev pub in_turn : (Content → Content → Bool) → List Content → Bool
@@ -76,31 +71,35 @@ in_turn p (c ∷ d ∷ cs) = p c d && in_turn p (d ∷ cs)
 
 -- the values that are not null never fall, or always rise
 abbrev pub is_sorted : List Content → Bool
-is_sorted cs = in_turn at_most (non_null cs)
+is_sorted cs = in_turn is_at_most (non_null cs)
 
 abbrev pub is_strictly_sorted : List Content → Bool
-is_strictly_sorted cs = in_turn below (non_null cs)
+is_strictly_sorted cs = in_turn is_below (non_null cs)
 
 -- ---- honesty
 
--- the value is one of them, and none is below it or above it
+-- c is not above d
+abbrev pub IsNotAbove : Content → Content → Type 0
+IsNotAbove c d = is_at_most c d ≡ true
+
+-- the value is one of them, and compares with each: it is above none, or below none
 pub record IsLeast (v : Content) (cs : List Content) : Type 0 where
   pub among : Contains cs v
-  pub least : AllByRecursion (IsAtMost v) cs
+  pub least : AllByRecursion (IsNotAbove v) cs
 
 pub record IsGreatest (v : Content) (cs : List Content) : Type 0 where
   pub among : Contains cs v
-  pub greatest : AllByRecursion (λ c. IsAtMost c v) cs
+  pub greatest : AllByRecursion (λ c. IsNotAbove c v) cs
 
 -- An exact bound is the least value, and an inexact one is above none.
 abbrev pub IsHonestLeast : Precision Content → List Content → Type 0
 IsHonestLeast (exact v) cs = IsLeast v (non_null cs)
-IsHonestLeast (inexact v) cs = AllByRecursion (IsAtMost v) (non_null cs)
+IsHonestLeast (inexact v) cs = AllByRecursion (IsNotAbove v) (non_null cs)
 IsHonestLeast absent cs = Unit {0}
 
 abbrev pub IsHonestGreatest : Precision Content → List Content → Type 0
 IsHonestGreatest (exact v) cs = IsGreatest v (non_null cs)
-IsHonestGreatest (inexact v) cs = AllByRecursion (λ c. IsAtMost c v) (non_null cs)
+IsHonestGreatest (inexact v) cs = AllByRecursion (λ c. IsNotAbove c v) (non_null cs)
 IsHonestGreatest absent cs = Unit {0}
 
 -- an inexact count is not below the count
@@ -120,7 +119,7 @@ pub record IsHonest (s : Statistics) (cs : List Content) : Type 0 where
   pub least : IsHonestLeast s.least cs
   pub greatest : IsHonestGreatest s.greatest cs
   pub total : IsHonestValue s.total (sum_of cs)
-  pub nulls : IsHonestCount s.nulls (nulls_of cs)
+  pub nulls : IsHonestCount s.nulls (null_count_of cs)
   pub nans : IsHonestValue s.nans 0
   pub constant : IsHonestValue s.constant (is_constant cs)
   pub sorted : IsHonestValue s.sorted (is_sorted cs)
@@ -135,31 +134,31 @@ shown (inexact v) = v
 shown absent = null
 
 abbrev pub shown_number : Precision ℤ → Content
-shown_number (exact z) = whole z
-shown_number (inexact z) = whole z
+shown_number (exact z) = integer z
+shown_number (inexact z) = integer z
 shown_number absent = null
 
 -- a count: null where it is inexact and not 0
 abbrev pub shown_count : Precision ℕ → Content
-shown_count (exact n) = whole (pos n)
-shown_count (inexact n) = if n == 0 then whole (pos 0) else null
+shown_count (exact n) = integer (pos n)
+shown_count (inexact n) = if n == 0 then integer (pos 0) else null
 shown_count absent = null
 
 -- whether all rows are counted, as far as the count says
 abbrev pub all_counted : ℕ → Precision ℕ → Content
-all_counted rows (exact n) = truth (n == rows)
-all_counted rows (inexact n) = if nat_lt n rows then truth false else null
+all_counted rows (exact n) = boolean (n == rows)
+all_counted rows (inexact n) = if nat_lt n rows then boolean false else null
 all_counted rows absent = null
 
 -- whether none is
 abbrev pub none_counted : Precision ℕ → Content
-none_counted (exact n) = truth (n == 0)
-none_counted (inexact n) = if n == 0 then truth true else null
+none_counted (exact n) = boolean (n == 0)
+none_counted (inexact n) = if n == 0 then boolean true else null
 none_counted absent = null
 
 abbrev pub shown_size : Precision ℕ → Content
-shown_size (exact n) = whole (pos n)
-shown_size (inexact n) = whole (pos n)
+shown_size (exact n) = integer (pos n)
+shown_size (inexact n) = integer (pos n)
 shown_size absent = null
 
 -- the value of a placeholder from statistics of so many rows

@@ -1,10 +1,10 @@
 -- A table of rows in chunks.
 use Rattle.std.specs.Prelude.{◌≡◌, ℕ, ◌<◌, List, [], ◌∷◌, length, map, sum, flat_map, filter, if◌then◌else◌}
 use Rattle.std.specs.List.{AllByRecursion}
-use Rattle.vortex_model.specs.Kind.{Kind}
+use Rattle.vortex_model.specs.LogicalType.{LogicalType}
 use Rattle.vortex_model.specs.Content.{Content}
 use Rattle.vortex_model.specs.Valid.{IsContent}
-use Rattle.vortex_model.specs.Path.{Names, Positions, same_positions}
+use Rattle.vortex_model.specs.Path.{Names, Positions, eq_positions}
 use Rattle.vortex_model.specs.Kept.{CanHold}
 use Rattle.vortex_model.specs.Expression.{Expression}
 use Rattle.vortex_model.specs.Truth.{selects}
@@ -12,7 +12,7 @@ use Rattle.vortex_model.specs.Cut.{cut_row}
 
 -- The bound length of a leaf is that of its position, and else `default`. A group is a number of neighbouring chunks.
 pub record Table : Type 0 where
-  pub kind : Kind
+  pub kind : LogicalType
   pub default : ℕ
   pub lengths : List (Positions × ℕ)
   pub chunks : List (List Content)
@@ -29,7 +29,7 @@ pub record IsTable (t : Table) : Type 0 where
 -- the length of a position, if the list has it, and else the default
 abbrev pub length_for : List (Positions × ℕ) → ℕ → Positions → ℕ
 length_for [] default is = default
-length_for (entry ∷ entries) default is = if same_positions entry.0 is then entry.1 else length_for entries default is
+length_for (entry ∷ entries) default is = if eq_positions entry.0 is then entry.1 else length_for entries default is
 
 -- the bound length of a leaf
 abbrev pub bound_length : Table → Positions → ℕ

@@ -1,14 +1,13 @@
 -- What is kept of a leaf column of a chunk, and of a group of chunks.
 use Rattle.std.specs.Prelude.{◌≡◌, ℕ, ℤ, pos, ◌+ℤ◌, List, [], ◌∷◌, ◌++◌, length, map, sum, filter_map, Option, Some, None, Bool, true, false, not, ◌||◌, if◌then◌else◌, ◌⊎◌, nat_le}
 use Rattle.std.specs.List.{list_all, list_any}
-use Rattle.vortex_model.specs.Kind.{Kind, IntKind}
-use Rattle.vortex_model.specs.Content.{Content}
+use Rattle.vortex_model.specs.LogicalType.{LogicalType, IntKind}
+use Rattle.vortex_model.specs.Content.{Content, equal_content}
 use Rattle.vortex_model.specs.Valid.{in_range}
 use Rattle.vortex_model.specs.Path.{Positions, at}
-use Rattle.vortex_model.specs.Order.{same_leaf}
 use Rattle.vortex_model.specs.Bounds.{low, high, is_longer}
 use Rattle.vortex_model.specs.Typing.{sum_kind}
-use Rattle.vortex_model.specs.Statistics.{Precision, exact, inexact, absent, Statistics, non_null, nulls_of, least_of, greatest_of, sum_of, is_constant}
+use Rattle.vortex_model.specs.Statistics.{Precision, exact, inexact, absent, Statistics, non_null, null_count_of, least_value, greatest_value, sum_of, is_constant}
 
 -- Of the values of a column in some rows: a bound from below and one from above, how many are null and how many rows there are, the sum, and whether all are one value.
 pub record ZoneMap : Type 0 where
@@ -29,10 +28,10 @@ bound_of shortened b = if shortened then inexact b else exact b
 
 -- the low of the least value, and the high of the greatest
 abbrev pub low_of_values : ℕ → List Content → Precision Content
-low_of_values L cs = elim (least_of (non_null cs)) [ None ↦ absent | Some v ↦ bound_of (is_longer L v) (low L v) ]
+low_of_values L cs = elim (least_value (non_null cs)) [ None ↦ absent | Some v ↦ bound_of (is_longer L v) (low L v) ]
 
 abbrev pub high_of_values : ℕ → List Content → Precision Content
-high_of_values L cs = elim (greatest_of (non_null cs)) [ None ↦ absent | Some v ↦ (elim (high L v) [ None ↦ absent | Some h ↦ bound_of (is_longer L v) h ]) ]
+high_of_values L cs = elim (greatest_value (non_null cs)) [ None ↦ absent | Some v ↦ (elim (high L v) [ None ↦ absent | Some h ↦ bound_of (is_longer L v) h ]) ]
 
 -- the sum, where its type holds it
 abbrev pub sum_in : Option IntKind → ℤ → Precision ℤ
@@ -40,11 +39,11 @@ sum_in None z = absent
 sum_in (Some i) z = if in_range i z then exact z else absent
 
 -- the zone map of a chunk's values in a column of this type, under this bound length
-abbrev pub zone_of : Kind → ℕ → List Content → ZoneMap
+abbrev pub zone_of : LogicalType → ℕ → List Content → ZoneMap
 zone_of k L cs = record {
   low = low_of_values L cs;
   high = high_of_values L cs;
-  nulls = nulls_of cs;
+  nulls = null_count_of cs;
   rows = length cs;
   total = sum_in (sum_kind k) (sum_of cs);
   constant = exact (is_constant cs);
@@ -65,7 +64,7 @@ value_in absent = None
 
 -- an exact bound has this value
 abbrev pub is_exactly : Content → Precision Content → Bool
-is_exactly v (exact b) = same_leaf b v
+is_exactly v (exact b) = equal_content b v
 is_exactly v (inexact b) = false
 is_exactly v absent = false
 
@@ -76,16 +75,27 @@ bound_among pick bounds = if list_any is_absent bounds then absent
 
 -- the bounds and the counts of a group
 abbrev pub group_low : List ZoneMap → Precision Content
-group_low zones = bound_among least_of (map (λ z. z.low) zones)
+group_low zones = bound_among least_value (map (λ z. z.low) zones)
 
 abbrev pub group_high : List ZoneMap → Precision Content
-group_high zones = bound_among greatest_of (map (λ z. z.high) zones)
+group_high zones = bound_among greatest_value (map (λ z. z.high) zones)
 
 abbrev pub group_nulls : List ZoneMap → ℕ
 group_nulls zones = sum (map (λ z. z.nulls) zones)
 
 abbrev pub group_rows : List ZoneMap → ℕ
 group_rows zones = sum (map (λ z. z.rows) zones)
+
+-- What a scan uses of a group, whatever joins made it. The sum and the constancy, which it doesn't use, are left open.
+abbrev pub group_bounds : List ZoneMap → ZoneMap
+group_bounds zones = record {
+  low = group_low zones;
+  high = group_high zones;
+  nulls = group_nulls zones;
+  rows = group_rows zones;
+  total = absent;
+  constant = absent;
+}
 
 -- ---- a group's sum and constancy, which may depend on the joins that made it
 
@@ -99,9 +109,9 @@ abbrev pub EachRunFits : IntKind → List ℤ → Type 0
 EachRunFits i sums = (before run after : List ℤ) → sums ≡ before ++ run ++ after → in_range i (total_of run) ≡ true
 
 -- It is the sum or missing, and is there where the sum of each run of the chunks fits.
-pub record IsGroupTotal (k : Kind) (sums : List ℤ) (total : Precision ℤ) : Type 0 where
+pub record IsGroupTotal (k : LogicalType) (sums : List ℤ) (total : Precision ℤ) : Type 0 where
   pub honest : (total ≡ absent) ⊎ (total ≡ sum_in (sum_kind k) (total_of sums))
-  pub there : (i : IntKind) → sum_kind k ≡ Some i → EachRunFits i sums → total ≡ exact (total_of sums)
+  pub exact_where_each_run_fits : (i : IntKind) → sum_kind k ≡ Some i → EachRunFits i sums → total ≡ exact (total_of sums)
 
 abbrev pub is_known_constant : ZoneMap → Bool
 is_known_constant z = elim z.constant [ exact b ↦ b | inexact b ↦ false | absent ↦ false ]
@@ -116,9 +126,9 @@ constancy_shows zones = nat_le (length zones) 1 || not (list_all is_known_consta
 -- it is right or missing, and is there where the chunks show it
 pub record IsGroupConstancy (cs : List Content) (zones : List ZoneMap) (constant : Precision Bool) : Type 0 where
   pub honest : (constant ≡ absent) ⊎ (constant ≡ exact (is_constant cs))
-  pub there : constancy_shows zones ≡ true → constant ≡ exact (is_constant cs)
+  pub exact_where_the_chunks_show_it : constancy_shows zones ≡ true → constant ≡ exact (is_constant cs)
 
--- ---- one way to make them: joining from the left
+-- ---- joins
 
 -- the sum of two, where both are there and it fits
 abbrev pub joined_total : Option IntKind → Precision ℤ → Precision ℤ → Precision ℤ
@@ -129,11 +139,11 @@ joined_total i a b = absent
 abbrev pub joined_constant : Precision Bool → Precision Bool → Precision Content → Precision Content → Precision Bool
 joined_constant (exact false) b v w = exact false
 joined_constant a (exact false) v w = exact false
-joined_constant (exact true) (exact true) (exact v) (exact w) = exact (same_leaf v w)
+joined_constant (exact true) (exact true) (exact v) (exact w) = exact (equal_content v w)
 joined_constant a b v w = absent
 
 -- of two neighbouring groups as one
-abbrev pub joined : Kind → ZoneMap → ZoneMap → ZoneMap
+abbrev pub joined : LogicalType → ZoneMap → ZoneMap → ZoneMap
 joined k a b = record {
   low = group_low (a ∷ b ∷ []);
   high = group_high (a ∷ b ∷ []);
@@ -143,13 +153,28 @@ joined k a b = record {
   constant = joined_constant a.constant b.constant a.low b.low;
 }
 
--- of a group and those behind it, one by one
-abbrev pub joined_from : Kind → ZoneMap → List ZoneMap → ZoneMap
+-- zone maps of neighbours that are joined two by two, in some order
+pub data Joins : Type 0 where
+  alone : ZoneMap → Joins
+  together : Joins → Joins → Joins
+
+-- the zone maps, from left to right
+abbrev pub all_joined : Joins → List ZoneMap
+all_joined (alone z) = z ∷ []
+all_joined (together x y) = all_joined x ++ all_joined y
+
+-- the one that the joins make
+abbrev pub made_by : LogicalType → Joins → ZoneMap
+made_by k (alone z) = z
+made_by k (together x y) = joined k (made_by k x) (made_by k y)
+
+-- one way: a group and those behind it, one by one
+abbrev pub joined_from : LogicalType → ZoneMap → List ZoneMap → ZoneMap
 joined_from k z [] = z
 joined_from k z (y ∷ ys) = joined_from k (joined k z y) ys
 
 -- of a group's chunks, joined from the left; a group has chunks
-abbrev pub zone_of_group : Kind → List ZoneMap → ZoneMap
+abbrev pub zone_of_group : LogicalType → List ZoneMap → ZoneMap
 zone_of_group k [] = zone_of k 0 []
 zone_of_group k (z ∷ zs) = joined_from k z zs
 

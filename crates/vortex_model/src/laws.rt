@@ -8,29 +8,43 @@ ghost use Rattle.vortex_model.specs.Laws.{
   ContentsAreSaid,
   TrueSelectsAll,
   FalseSelectsNone,
+  FalseSkipsAll,
+  CoversTellAnswers,
   RootIsWhole,
   RootTypeIsWhole,
   AnswersAreOfTheirType,
   HopelessBoxesHoldNone,
   LowsAreBelow,
   HighsAreAbove,
-  HopelessChunksHoldNone,
   TestsOfValidityAreRight,
   TestsOfConversionAreRight,
   TestsOfEqualityAreRight,
   KeptTypesCanBeHeld,
   BuiltInProofsReadNoColumns,
+  ShapesAreSpelled,
   StepsKeepTables,
 };
 ghost use Rattle.vortex_model.specs.Pruning.{
   FalsifiersAreSound,
+  AcceptedPredicatesHaveTruth,
   SatisfiersAreSound,
   ZoneMapsAreHonest,
   SkippedChunksHoldNone,
+  HopelessChunksHoldNone,
   WholeChunksHoldAll,
   SkippingLosesNone,
   ChunksDoNotShow,
   AppendsAnswerBehind,
+};
+ghost use Rattle.vortex_model.specs.ZoneLaws.{
+  EqualityOfContentsIsRight,
+  GroupBoundsAreHonest,
+  ChunkBindersAreHonest,
+  GroupBindersAreHonest,
+  SkippingGroupsLosesNone,
+  JoinsGiveTheBounds,
+  JoinsOfAColumnGiveTheBounds,
+  GroupsJoinedFromTheLeftHaveTheBounds,
 };
 
 /// Two conversions that succeed succeed as one.
@@ -61,6 +75,16 @@ pub fn true_selects_all()
 /// A scan by literal false answers none.
 pub fn false_selects_none()
     ensures { FalseSelectsNone }
+{}
+
+/// A scan by literal false skips every chunk.
+pub fn false_skips_all()
+    ensures { FalseSkipsAll }
+{}
+
+/// Paths that cover the same give equal answers, of equal types.
+pub fn covers_tell_answers()
+    ensures { CoversTellAnswers }
 {}
 
 /// The root path asks for the whole row.
@@ -123,6 +147,11 @@ pub fn built_in_proofs_read_no_columns()
     ensures { BuiltInProofsReadNoColumns }
 {}
 
+/// A LIKE pattern's shape is what its signs spell, up to the end or to the first wildcard.
+pub fn shapes_are_spelled()
+    ensures { ShapesAreSpelled }
+{}
+
 /// A command, accepted or refused, leaves a table.
 pub fn steps_keep_tables()
     ensures { StepsKeepTables }
@@ -148,9 +177,15 @@ pub fn satisfiers_are_sound()
     ensures { SatisfiersAreSound }
 {}
 
-/// The zone map of a column of truth values, integers, texts or bytes is honest, however its bounds are shortened.
+/// The zone map of a column of booleans, integers, texts or bytes is honest, however its bounds are
+/// shortened.
 pub fn zone_maps_are_honest()
     ensures { ZoneMapsAreHonest }
+{}
+
+/// A predicate that a scan accepts has a truth.
+pub fn accepted_predicates_have_truth()
+    ensures { AcceptedPredicatesHaveTruth }
 {}
 
 /// A chunk that a scan skips has no row that the predicate selects.
@@ -176,4 +211,46 @@ pub fn chunks_do_not_show()
 /// Behind an append a scan answers the earlier rows, and then those of the batch.
 pub fn appends_answer_behind()
     ensures { AppendsAnswerBehind }
+{}
+
+/// Exactly equal contents pass the test for equality.
+pub fn equality_of_contents_is_right()
+    ensures { EqualityOfContentsIsRight }
+{}
+
+/// What a scan uses of a group of chunks is honest of all their rows.
+pub fn group_bounds_are_honest()
+    ensures { GroupBoundsAreHonest }
+{}
+
+/// What the table tells of the leaf columns of a chunk is honest.
+pub fn chunk_binders_are_honest()
+    ensures { ChunkBindersAreHonest }
+{}
+
+/// What the table tells of the leaf columns of a group's chunks is honest.
+pub fn group_binders_are_honest()
+    ensures { GroupBindersAreHonest }
+{}
+
+/// A scan that looks at groups first, and then at chunks, finds the rows that one without zone
+/// maps does.
+pub fn skipping_groups_loses_none()
+    ensures { SkippingGroupsLosesNone }
+{}
+
+/// Joins of zone maps give the bounds and the counts of their list, in whatever order they are
+/// made.
+pub fn joins_give_the_bounds()
+    ensures { JoinsGiveTheBounds }
+{}
+
+/// Joins of the zone maps of a leaf column's chunks give the bounds and the counts of the group.
+pub fn joins_of_a_column_give_the_bounds()
+    ensures { JoinsOfAColumnGiveTheBounds }
+{}
+
+/// The zone map of a group whose chunks are joined from the left has the group's bounds and counts.
+pub fn groups_joined_from_the_left_have_the_bounds()
+    ensures { GroupsJoinedFromTheLeftHaveTheBounds }
 {}

@@ -1,38 +1,137 @@
-//! A table of chunks with bounds, scans that skip chunks, and `run`, which serves both line by line.
+//! A table of columns that is held in chunks with bounds: scans skip the chunks that bounds show to
+//! hold no row, and [`run::run`] serves a table line by line.
 //!
-//! Each module gathers one layer: predicates, the table, and the lines. Types stand in `vortex_dtype`, values in `vortex_scalar`.
+//! One crate for a program to depend on: the types, the values, the predicates, the table and the
+//! run of commands, each in a module of its own.
 #![tactic(auto)]
 
-mod commands;
-mod refused;
-mod session;
+/// Types of columns, paths to their parts, and the messages in which they cross a boundary.
+pub mod dtype {
+    pub use vortex_dtype_core::dtype::DType;
+    pub use vortex_dtype_core::extension::ExtDTypeRef;
+    pub use vortex_dtype_core::map_dtype::{MapDType, MapEntries};
+    pub use vortex_dtype_core::struct_fields::{StructField, StructFields};
+    pub use vortex_dtype_core::union_variants::{UnionVariant, UnionVariants};
+    pub use vortex_dtype_core::{BufferString, ByteBuffer};
+    pub use vortex_dtype_decimal::decimal_type::DecimalType;
+    pub use vortex_dtype_decimal::native::{
+        DecimalTypeDowncast, DecimalTypeUpcast, NativeDecimalType,
+    };
+    pub use vortex_dtype_decimal::precision_scale::PrecisionScale;
+    pub use vortex_dtype_fields::dtype_ext::DTypeExt;
+    pub use vortex_dtype_fields::field_dtype::{FieldDType, FieldDTypesIter, FieldTypesIter};
+    pub use vortex_dtype_fields::map_dtype_ext::MapDTypeExt;
+    pub use vortex_dtype_fields::struct_fields_ext::StructFieldsExt;
+    pub use vortex_dtype_fields::union_variants_ext::UnionVariantsExt;
+    pub use vortex_dtype_fields::variants_iter::VariantsIter;
+    pub use vortex_dtype_native::downcast::{PTypeDowncast, PTypeDowncastExt, PTypeUpcast};
+    pub use vortex_dtype_native::little_endian::{ToBytes, TryFromBytes};
+    pub use vortex_dtype_native::native::{
+        IntegerPType, NativePType, OffsetBuilderPType, PhysicalPType, UnsignedPType,
+    };
+    pub use vortex_dtype_native::native_dtype::NativeDType;
+    pub use vortex_dtype_native::{
+        match_each_integer_ptype, match_each_native_ptype, match_each_signed_integer_ptype,
+        match_each_unsigned_integer_ptype,
+    };
+    pub use vortex_dtype_path::field::Field;
+    pub use vortex_dtype_path::field_path;
+    pub use vortex_dtype_path::mask::FieldMask;
+    pub use vortex_dtype_path::path::FieldPath;
+    pub use vortex_dtype_path::path_set::{FieldPathSet, FieldPathSetIter};
+    pub use vortex_dtype_proto::ext_dtype::{ExtDType, try_downcast};
+    pub use vortex_dtype_proto::foreign::{ForeignExtDType, ForeignExtMetadata};
+    pub use vortex_dtype_proto::message::{Message, MessageKind};
+    pub use vortex_dtype_proto::plugin::ExtDTypePlugin;
+    pub use vortex_dtype_proto::read::from_proto;
+    pub use vortex_dtype_proto::session::DTypeSession;
+    pub use vortex_dtype_proto::vtable::ExtVTable;
+    pub use vortex_dtype_proto::write::to_proto;
+    pub use vortex_dtype_ptype::decimal::{DecimalDType, MAX_PRECISION, MAX_SCALE};
+    pub use vortex_dtype_ptype::error::DTypeError;
+    pub use vortex_dtype_ptype::field_names::{FieldName, FieldNames};
+    pub use vortex_dtype_ptype::field_names_iter::{FieldNamesIntoIter, FieldNamesIter};
+    pub use vortex_dtype_ptype::nullability::Nullability;
+    pub use vortex_dtype_ptype::ptype::PType;
+}
 
-/// Predicates, and the proofs over bounds that are made of them.
+/// Values with their types: validity, casts, order, and shortened bounds.
+pub mod scalar {
+    pub use vortex_scalar_builders::constructors::ScalarConstructors;
+    pub use vortex_scalar_builders::nested::constructors::NestedScalarConstructors;
+    pub use vortex_scalar_convert::defaults::defaults::ScalarDefaults;
+    pub use vortex_scalar_convert::ext_dtype_scalar_ext::ExtDTypeScalarExt;
+    pub use vortex_scalar_convert::from_scalar::FromScalar;
+    pub use vortex_scalar_core::scalar::Scalar;
+    pub use vortex_scalar_iter::list_elements_iter::ListElementsIter;
+    pub use vortex_scalar_iter::list_scalar_ext::ListScalarExt;
+    pub use vortex_scalar_iter::map_entries_iter::MapEntriesIter;
+    pub use vortex_scalar_iter::map_keys_iter::MapKeysIter;
+    pub use vortex_scalar_iter::map_scalar_ext::MapScalarExt;
+    pub use vortex_scalar_iter::map_values_iter::MapValuesIter;
+    pub use vortex_scalar_iter::struct_fields_iter::StructFieldsIter;
+    pub use vortex_scalar_iter::struct_scalar_ext::StructScalarExt;
+    pub use vortex_scalar_iter::union_scalar_ext::UnionScalarExt;
+    pub use vortex_scalar_nested::ext_scalar::ExtScalar;
+    pub use vortex_scalar_nested::list_scalar::ListScalar;
+    pub use vortex_scalar_nested::map_scalar::MapScalar;
+    pub use vortex_scalar_nested::nested_views::NestedScalarViews;
+    pub use vortex_scalar_nested::struct_scalar::StructScalar;
+    pub use vortex_scalar_ops::cast::cast_value;
+    pub use vortex_scalar_ops::compare::compare_values;
+    pub use vortex_scalar_ops::eq::eq_values;
+    pub use vortex_scalar_ops::hash::hash_value;
+    pub use vortex_scalar_ops::native_value::NativeValue;
+    pub use vortex_scalar_ops::validate::validate;
+    pub use vortex_scalar_truncation::byte_bounds::{lower_bytes, upper_bytes};
+    pub use vortex_scalar_truncation::characters::next_character;
+    pub use vortex_scalar_truncation::string_like::StringLike;
+    pub use vortex_scalar_truncation::text_bounds::{lower_text, upper_text};
+    pub use vortex_scalar_truncation::truncation::{ScalarTruncation, lower_bound, upper_bound};
+    pub use vortex_scalar_value::clone::clone_value;
+    pub use vortex_scalar_value::error::ScalarError;
+    pub use vortex_scalar_value::match_each_pvalue;
+    pub use vortex_scalar_value::natives::CoercePValue;
+    pub use vortex_scalar_value::pvalue::PValue;
+    pub use vortex_scalar_value::scalar_value::ScalarValue;
+    pub use vortex_scalar_value::union_value::UnionValue;
+    pub use vortex_scalar_value::variant_value::VariantValue;
+    pub use vortex_scalar_views::binary_scalar::BinaryScalar;
+    pub use vortex_scalar_views::bool_scalar::BoolScalar;
+    pub use vortex_scalar_views::numeric_operator::NumericOperator;
+    pub use vortex_scalar_views::primitive_scalar::PrimitiveScalar;
+    pub use vortex_scalar_views::scalar_views::ScalarViews;
+    pub use vortex_scalar_views::union_scalar::UnionScalar;
+    pub use vortex_scalar_views::utf8_scalar::Utf8Scalar;
+    pub use vortex_scalar_views::variant_scalar::VariantScalar;
+}
+
+/// Predicates over rows, and the proofs over statistics that are made of them.
 pub mod expr {
-    pub use vortex_expr::aggregate::AggregateFn;
-    pub use vortex_expr::bind::{PredicateError, bind};
-    pub use vortex_expr::bound::BoundExpression;
-    pub use vortex_expr::expression::{
+    pub use vortex_stats_expr::aggregate::AggregateFn;
+    pub use vortex_stats_expr::bind::{PredicateError, bind};
+    pub use vortex_stats_expr::bound::BoundExpression;
+    pub use vortex_stats_expr::expression::{
         Expression, and, binary, col, eq, gt, gt_eq, lit, lt, lt_eq, not_eq, or, root, stat,
     };
-    pub use vortex_expr::operator::Operator;
-    pub use vortex_rewrite::rewrite::{falsify, satisfy};
-    pub use vortex_rewrite::stats::{StatBinder, bind_stats, prove, prove_with};
+    pub use vortex_stats_expr::operator::Operator;
+    pub use vortex_stats_rewrite::rewrite::{falsify, satisfy};
+    pub use vortex_stats_rewrite::stats::{StatBinder, bind_stats, prove, prove_with};
 }
 
-/// The table of chunks.
+/// The table of chunks, its refusals, and what a scan finds.
 pub mod table {
-    pub use vortex_chunks::error::TableError;
-    pub use vortex_chunks::table::Table;
-    pub use vortex_schema::answer::ScanAnswer;
-    pub use vortex_schema::layout::Layout;
+    pub use vortex_table_core::error::TableError;
+    pub use vortex_table_core::table::Table;
+    pub use vortex_table_schema::answer::ScanAnswer;
+    pub use vortex_table_schema::layout::Layout;
 }
 
-/// Lines to commands, and commands to answers.
+/// Commands in lines of JSON, and their answers.
 pub mod run {
-    pub use crate::commands::run;
-    pub use crate::session::Session;
-    pub use vortex_streams::{
-        Machine, MemorySink, MemorySource, RunError, ShortText, Sink, Source, Spoken, Tap,
+    pub use vortex_table_io::{
+        LineHandler, MemorySink, MemorySource, Response, RunError, ShortText, Sink, Source, Tap,
     };
+    pub use vortex_table_run::commands::run;
+    pub use vortex_table_run::session::Session;
 }

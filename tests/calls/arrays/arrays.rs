@@ -4,17 +4,17 @@ use crate::checks::Checks;
 use bytes::Bytes;
 use std::alloc::Global;
 use std::rc::Rc;
-use vortex_array_errors::error::ArrayError;
-use vortex_binary_views::view::BinaryView;
-use vortex_buffers::bit_buffer::BitBuffer;
-use vortex_buffers::buffer::Buffer;
+use vortex_arrays::ArrayError;
+use vortex_arrays::BinaryView;
+use vortex_arrays::BitBuffer;
+use vortex_arrays::Buffer;
 use vortex_dtype::{
     DType, DTypeError, FieldName, FieldNames, Nullability, PType, StructField, StructFields,
 };
-use vortex_layouts::array::{ArrayLayout, ArrayRef, StringKind, Validity};
-use vortex_numbers::element::Element;
-use vortex_numbers::numbers::Numbers;
-use vortex_scalar::{Scalar, ScalarMakers};
+use vortex_arrays::{ArrayLayout, ArrayRef, StringKind, Validity};
+use vortex_arrays::Element;
+use vortex_arrays::PrimitiveBuffer;
+use vortex_scalar::{Scalar, ScalarConstructors};
 
 const WITH: Nullability = Nullability::Nullable;
 
@@ -40,7 +40,7 @@ pub fn numbers<T: Element>(
     for item in items {
         list.push(*item)?;
     }
-    let all = Numbers::from_buffer(Buffer::from_vec(list)?);
+    let all = PrimitiveBuffer::from_buffer(Buffer::from_vec(list)?);
     let array = ArrayRef::of_numbers(alloc, all, validity)?;
     Ok(array)
 }

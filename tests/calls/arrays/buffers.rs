@@ -2,11 +2,11 @@
 
 use crate::checks::Checks;
 use std::alloc::Global;
-use vortex_buffers::bit_buffer::BitBuffer;
-use vortex_buffers::buffer::Buffer;
+use vortex_arrays::BitBuffer;
+use vortex_arrays::Buffer;
 use vortex_dtype::{DTypeError, PType};
-use vortex_numbers::element::Element;
-use vortex_numbers::numbers::Numbers;
+use vortex_arrays::Element;
+use vortex_arrays::PrimitiveBuffer;
 
 pub fn run(alloc: Global, checks: &mut Checks<'_>) -> Result<(), DTypeError> {
     items(alloc, checks)?;
@@ -79,7 +79,7 @@ fn of_kind<T: Element>(
     for item in items {
         list.push(item)?;
     }
-    let numbers = Numbers::from_buffer(Buffer::from_vec(list)?);
+    let numbers = PrimitiveBuffer::from_buffer(Buffer::from_vec(list)?);
     numbers.is_in_range();
     checks.holds(name, numbers.ptype() == ptype && numbers.len() == 3 && !numbers.is_empty());
     let part = numbers.slice(1..3)?.clone()?;

@@ -4,11 +4,12 @@ use crate::arrays::{bools, numbers, strings_of};
 use crate::checks::Checks;
 use std::alloc::Global;
 use std::rc::Rc;
-use vortex_array_errors::error::ArrayError;
-use vortex_buffers::mask::Mask;
+use vortex_arrays::ArrayError;
+use vortex_arrays::Mask;
 use vortex_dtype::{DTypeError, FieldName, FieldNames, Nullability};
-use vortex_layouts::array::{ArrayRef, Validity};
-use vortex_scalar::{PValue, Scalar, ScalarMakers, ScalarValue, same_values};
+use vortex_arrays::{ArrayRef, Validity};
+use vortex_scalar::{PValue, Scalar, ScalarConstructors, ScalarValue};
+use vortex_scalar_ops::eq::eq_values;
 
 pub fn run(alloc: Global, checks: &mut Checks<'_>) -> Result<(), DTypeError> {
     let arrays = all_layouts(alloc)?;
@@ -110,7 +111,7 @@ fn has(alloc: Global, row: &Scalar, items: &[i32]) -> Result<bool, DTypeError> {
         list.push(Some(ScalarValue::Primitive(PValue::I32(*item))))?;
     }
     Ok(match row.value() {
-        Some(value) => same_values(Some(value), Some(&ScalarValue::Tuple(list))),
+        Some(value) => eq_values(Some(value), Some(&ScalarValue::Tuple(list))),
         None => false,
     })
 }
@@ -173,7 +174,7 @@ fn takes(
     let taken = rows_of(alloc, &answered(array.take(alloc, &indices))?)?;
     let mut right = taken.len() == len;
     for i in 0..len {
-        right = right && if i == 1 { taken[i].is_null() } else { taken[i].value().is_some() == rows[len - 1 - i].value().is_some() && same_values(taken[i].value(), rows[len - 1 - i].value()) };
+        right = right && if i == 1 { taken[i].is_null() } else { taken[i].value().is_some() == rows[len - 1 - i].value().is_some() && eq_values(taken[i].value(), rows[len - 1 - i].value()) };
     }
     checks.holds_at("take", number, right);
     let signed = numbers(alloc, &[0i8], Validity::NonNullable)?;

@@ -3,8 +3,8 @@
 use crate::checks::Checks;
 use bytes::Bytes;
 use std::alloc::Global;
-use vortex_binary_views::reference::Ref;
-use vortex_binary_views::view::{BinaryView, MAX_INLINED_SIZE};
+use vortex_arrays::Ref;
+use vortex_arrays::{BinaryView, MAX_INLINED_SIZE};
 use vortex_dtype::DTypeError;
 
 const LONG: &[u8] = b"abcdefghijklm";

@@ -5,7 +5,7 @@ use vortex_dtype::{
     DTypeError, IntegerPType, NativePType, PType, UnsignedPType, match_each_integer_ptype,
     match_each_native_ptype, match_each_signed_integer_ptype, match_each_unsigned_integer_ptype,
 };
-use vortex_natives::by_kind::{
+use vortex_dtype_native::by_kind::{
     greatest_signed, greatest_unsigned, holds_number, number_from_le_bytes,
 };
 

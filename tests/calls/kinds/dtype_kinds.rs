@@ -4,7 +4,6 @@ use crate::checks::Checks;
 use crate::samples::{WITH, WITHOUT, number, samples};
 use std::alloc::Global;
 use vortex_dtype::{DType, DTypeError, PType};
-use vortex_types::convert::NotPrimitive;
 
 pub fn run(alloc: Global, checks: &mut Checks<'_>) -> Result<(), DTypeError> {
     for nullability in [WITH, WITHOUT] {
@@ -80,7 +79,7 @@ fn as_numbers(checks: &mut Checks<'_>, place: usize, dtype: &DType) {
         Ok(ptype) => checks.holds("PType try_from", place == 2 && ptype == PType::I32),
         Err(error) => checks.holds(
             "PType try_from no numbers",
-            place != 2 && error == NotPrimitive,
+            place != 2 && error == DTypeError::Malformed,
         ),
     }
 }
@@ -190,7 +189,5 @@ fn conversions(checks: &mut Checks<'_>) -> Result<(), DTypeError> {
     checks.holds("from PType", DType::from(PType::F64) == number(PType::F64));
     let dtype: DType = PType::I16.into();
     checks.holds("PType into", dtype == number(PType::I16));
-    let copied = NotPrimitive.clone()?;
-    checks.holds("NotPrimitive clone", copied == NotPrimitive);
     Ok(())
 }

@@ -7,8 +7,8 @@ use vortex_dtype::{
     DTypeError, IntegerPType, NativePType, OffsetBuilderPType, PType, PTypeDowncast,
     PTypeDowncastExt, PTypeUpcast, PhysicalPType, ToBytes, TryFromBytes, UnsignedPType,
 };
-use vortex_natives::native::offsets;
-use vortex_natives::private::Sealed;
+use vortex_dtype_native::native::offsets;
+use vortex_dtype_native::private::Sealed;
 
 pub fn run(checks: &mut Checks<'_>) -> Result<(), DTypeError> {
     numbers::<u8>(checks, PType::U8, 0, 255);

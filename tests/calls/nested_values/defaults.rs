@@ -5,7 +5,8 @@ use crate::types::{WITH, WITHOUT, choices, fields, numbers};
 use std::alloc::Global;
 use std::rc::Rc;
 use vortex_dtype::{DType, DTypeError, DecimalDType, PType};
-use vortex_scalar::{NestedScalarViews, Scalar, ScalarDefaults, ScalarMakers, validate};
+use vortex_scalar::{NestedScalarViews, Scalar, ScalarDefaults, ScalarConstructors};
+use vortex_scalar_ops::validate::validate;
 
 pub fn run(alloc: Global, checks: &mut Checks<'_>) -> Result<(), DTypeError> {
     has_zero(alloc, checks, "of truth values", &DType::Bool(WITHOUT))?;

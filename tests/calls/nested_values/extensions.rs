@@ -4,7 +4,7 @@ use crate::checks::Checks;
 use crate::types::{WITHOUT, is_invalid, made};
 use std::alloc::{AllocError, Global};
 use vortex_dtype::{ByteBuffer, DType, DTypeError, ExtVTable, PType};
-use vortex_scalar::{NestedScalarMakers, Scalar, ScalarMakers};
+use vortex_scalar::{NestedScalarConstructors, Scalar, ScalarConstructors};
 
 /// Whole days, in numbers of 32 bits.
 #[derive(Default, Drop)]

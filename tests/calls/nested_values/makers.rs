@@ -1,4 +1,4 @@
-//! `NestedScalarMakers`.
+//! `NestedScalarConstructors`.
 
 use crate::checks::Checks;
 use crate::types::{WITH, WITHOUT, choices, fields, is_invalid, made, numbers, scalars};
@@ -6,9 +6,10 @@ use std::alloc::Global;
 use std::rc::Rc;
 use vortex_dtype::{DType, DTypeError, MapDType};
 use vortex_scalar::{
-    NestedScalarMakers, NestedScalarViews, PValue, Scalar, ScalarMakers, ScalarValue, same_values,
-    validate,
+    NestedScalarConstructors, NestedScalarViews, PValue, Scalar, ScalarConstructors, ScalarValue,
 };
+use vortex_scalar_ops::eq::eq_values;
+use vortex_scalar_ops::validate::validate;
 
 pub fn run(alloc: Global, checks: &mut Checks<'_>) -> Result<(), DTypeError> {
     lists(alloc, checks)?;
@@ -64,7 +65,7 @@ fn records(alloc: Global, checks: &mut Checks<'_>) -> Result<(), DTypeError> {
     let unchecked = Scalar::struct_unchecked(dtype, values);
     checks.holds(
         "struct_unchecked",
-        same_values(unchecked.value(), record.value()),
+        eq_values(unchecked.value(), record.value()),
     );
     let other = Scalar::struct_(DType::Null, scalars(alloc, &[1, 2], WITHOUT)?);
     checks.holds("struct_ of no record", is_invalid(other)?);

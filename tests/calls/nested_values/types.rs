@@ -5,7 +5,7 @@ use vortex_dtype::{
     DType, DTypeError, FieldName, FieldNames, Nullability, PType, StructField, StructFields,
     UnionVariants,
 };
-use vortex_scalar::{Scalar, ScalarError, ScalarMakers};
+use vortex_scalar::{Scalar, ScalarError, ScalarConstructors};
 
 pub const WITH: Nullability = Nullability::Nullable;
 

@@ -8,8 +8,8 @@ use vortex_dtype::{
     DType, DTypeError, DTypeExt, DTypeSession, FieldPath, FieldPathSet, MessageKind, Nullability,
     PType, StructFieldsExt, UnionVariantsExt, from_proto,
 };
-use vortex_messages::laws::{read_types_are_read_again, written_types_are_read};
-use vortex_paths::laws::{coverage_tells_iteration, field_path_is_of_its_names};
+use vortex_dtype_proto::laws::{read_types_are_read_again, written_types_are_read};
+use vortex_dtype_path::laws::{coverage_tells_iteration, field_path_is_of_its_names};
 
 /// Calls that laws are about.
 pub fn run(alloc: Global, checks: &mut Checks<'_>) -> Result<(), DTypeError> {
@@ -143,8 +143,12 @@ fn resolving(alloc: Global, checks: &mut Checks<'_>) -> Result<(), DTypeError> {
 fn messages(alloc: Global, checks: &mut Checks<'_>) -> Result<(), DTypeError> {
     for nullability in [Nullability::NonNullable, Nullability::Nullable] {
         for dtype in each_kind(alloc, nullability)? {
-            let again = written_types_are_read(alloc, &dtype)?;
-            checks.holds("law: written types are read", again == dtype);
+            let (message, again) = written_types_are_read(alloc, &dtype)?;
+            let session = DTypeSession::empty(alloc);
+            checks.holds(
+                "law: written types are read",
+                again == dtype && from_proto(alloc, &message, &session)? == dtype,
+            );
         }
     }
     let children = vec![in alloc;
@@ -159,10 +163,12 @@ fn messages(alloc: Global, checks: &mut Checks<'_>) -> Result<(), DTypeError> {
     );
     let message = node(extended(alloc, "boxed", None)?, vec![in alloc; record]?);
     let session = DTypeSession::empty(alloc);
-    let again = read_types_are_read_again(alloc, &message, &session)?;
+    let (first, written, again) = read_types_are_read_again(alloc, &message, &session)?;
+    let read = from_proto(alloc, &message, &session)?;
+    checks.holds("law: read types are read again", first == read && again == read);
     checks.holds(
-        "law: read types are read again",
-        again == from_proto(alloc, &message, &session)?,
+        "law: the written message is read alike",
+        from_proto(alloc, &written, &session)? == read,
     );
     Ok(())
 }

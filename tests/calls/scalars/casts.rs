@@ -8,7 +8,9 @@ use crate::make::{
 use crate::samples::{FIXED, LIST, VALUE_OF, dtypes, values};
 use std::alloc::Global;
 use vortex_dtype::{DType, PType};
-use vortex_scalar::{PValue, ScalarError, ScalarValue, cast_value, copy_value};
+use vortex_scalar::{PValue, ScalarError, ScalarValue};
+use vortex_scalar_ops::cast::cast_value;
+use vortex_scalar_value::clone::clone_value;
 
 pub fn run(alloc: Global, checks: &mut Checks<'_>) -> Done {
     let mut casts = Casts { alloc, checks };
@@ -42,7 +44,7 @@ impl Casts<'_, '_> {
         value: Value,
         wanted: Value,
     ) -> Done {
-        let twin = copy_value(value.as_ref())?;
+        let twin = clone_value(value.as_ref())?;
         let answer = cast_value(self.alloc, source, target, value.as_ref());
         self.checks.stays("a value after a cast", is_same(value.as_ref(), twin.as_ref()));
         match answer {
@@ -55,13 +57,13 @@ impl Casts<'_, '_> {
 
     /// The value stays as it is.
     fn keeps(&mut self, name: &str, source: &DType, target: &DType, value: Value) -> Done {
-        let wanted = copy_value(value.as_ref())?;
+        let wanted = clone_value(value.as_ref())?;
         self.gives(name, source, target, value, wanted)
     }
 
     /// The target can't hold the value.
     fn lacks(&mut self, name: &str, source: &DType, target: &DType, value: Value) -> Done {
-        let twin = copy_value(value.as_ref())?;
+        let twin = clone_value(value.as_ref())?;
         let answer = cast_value(self.alloc, source, target, value.as_ref());
         self.checks.stays("a value after a refused cast", is_same(value.as_ref(), twin.as_ref()));
         refused(self.checks, name, answer, ScalarError::NotConvertible)
@@ -111,7 +113,7 @@ impl Casts<'_, '_> {
                     let Some(form) = VALUE_OF[i] else {
                         continue;
                     };
-                    let value = copy_value(values[form].as_ref())?;
+                    let value = clone_value(values[form].as_ref())?;
                     let lists = [LIST, FIXED];
                     if i == j || (lists.contains(&i) && lists.contains(&j)) {
                         self.keeps("a value to its kind", source, target, value)?;
@@ -242,13 +244,17 @@ impl Casts<'_, '_> {
         self.keeps("no extension of other elements", &source, &target, tuple(alloc, [])?)
     }
 
-    /// What the source does not have is refused by `Invalid` where it would be kept.
+    /// What the source does not have is refused by `Invalid`, whatever the target could hold.
     fn invalid(&mut self) -> Done {
         let alloc = self.alloc;
         let dtype = map(alloc, numbers(WITH), false, WITHOUT)?;
         let value = tuple(alloc, [None])?;
         let answer = cast_value(alloc, &dtype, &dtype, value.as_ref());
         refused(self.checks, "a map of a null entry", answer, ScalarError::Invalid)?;
+        let answer = cast_value(alloc, &numbers(WITHOUT), &DType::Utf8(WITH), None);
+        refused(self.checks, "null of a type without", answer, ScalarError::Invalid)?;
+        let answer = cast_value(alloc, &numbers(WITH), &DType::Utf8(WITH), text("a").as_ref());
+        refused(self.checks, "a text of numbers", answer, ScalarError::Invalid)?;
         let dtype = DType::Variant(WITHOUT);
         let value = typed(alloc, numbers(WITHOUT), text("a"))?;
         let answer = cast_value(alloc, &dtype, &dtype, value.as_ref());

@@ -6,9 +6,11 @@ use crate::samples::{BINARY, BOOL, FLOATS, NUMBERS, UTF8, dtypes, values};
 use std::alloc::{AllocError, Global};
 use vortex_dtype::{BufferString, ByteBuffer, DType, NativePType, PType, match_each_integer_ptype};
 use vortex_scalar::{
-    BinaryScalar, BoolScalar, PrimitiveScalar, Scalar, ScalarError, ScalarMakers, ScalarValue,
-    ScalarViews, Utf8Scalar, copy_value, validate,
+    BinaryScalar, BoolScalar, PrimitiveScalar, Scalar, ScalarError, ScalarConstructors,
+    ScalarValue, ScalarViews, Utf8Scalar,
 };
+use vortex_scalar_ops::validate::validate;
+use vortex_scalar_value::clone::clone_value;
 
 pub fn run(alloc: Global, checks: &mut Checks<'_>) -> Done {
     let values = values(alloc)?;
@@ -17,7 +19,7 @@ pub fn run(alloc: Global, checks: &mut Checks<'_>) -> Done {
             for value in values.iter().chain(&[None]) {
                 made(checks, kind, dtype, value.as_ref());
                 if validate(dtype, value.as_ref()) {
-                    let value = copy_value(value.as_ref())?;
+                    let value = clone_value(value.as_ref())?;
                     seen(checks, kind, &Scalar::try_new(dtype.clone()?, value)?);
                 }
             }
@@ -142,6 +144,7 @@ fn all_numbers(checks: &mut Checks<'_>) {
             checks.holds("PrimitiveScalar's type", is_so && view.is_null() == number.is_none());
             let found = view.pvalue();
             checks.holds("pvalue", found.map(|it| it.get()) == number);
+            checks.holds("value", view.value().map(|it| it.get()) == number);
             checks.holds("pvalue's kind", found.is_none_or(|it| it.ptype() == ptype));
             checks.holds("is_zero", view.is_zero() == number.map(|number| number == 0));
             for (target, _, _) in KINDS {
@@ -151,6 +154,7 @@ fn all_numbers(checks: &mut Checks<'_>) {
                 let has = number.is_none() || target == ptype;
                 checks.holds("try_new of each kind", is_made(answer, has));
             }
+            checks.holds("into_ptype", view.into_ptype() == ptype);
         }
     }
     for ptype in [PType::F16, PType::F32, PType::F64] {

@@ -1,4 +1,4 @@
-//! `ScalarMakers`.
+//! `ScalarConstructors`.
 
 use crate::checks::Checks;
 use crate::make::{
@@ -12,7 +12,8 @@ use vortex_dtype::{
     BufferString, ByteBuffer, DType, NativeDType, NativePType, Nullability, PType,
     match_each_integer_ptype,
 };
-use vortex_scalar::{PValue, Scalar, ScalarError, ScalarMakers, ScalarValue, copy_value};
+use vortex_scalar::{PValue, Scalar, ScalarError, ScalarConstructors, ScalarValue};
+use vortex_scalar_value::clone::clone_value;
 
 pub fn run(alloc: Global, checks: &mut Checks<'_>) -> Done {
     for nullability in [WITH, WITHOUT] {
@@ -119,8 +120,8 @@ fn nested(alloc: Global, checks: &mut Checks<'_>, nullability: Nullability) -> D
     let (dtype, values) = (DType::Variant(WITHOUT), values(alloc)?);
     for (kind, inner) in dtypes(alloc, nullability)?.into_iter().enumerate() {
         if let Some(form) = VALUE_OF[kind] {
-            let value = copy_value(values[form].as_ref())?;
-            let wanted = typed(alloc, inner.clone()?, copy_value(values[form].as_ref())?)?;
+            let value = clone_value(values[form].as_ref())?;
+            let wanted = typed(alloc, inner.clone()?, clone_value(values[form].as_ref())?)?;
             let made = Scalar::variant(alloc, Scalar::try_new(inner.clone()?, value)?)?;
             checks.holds("variant", is_of(&made, &dtype, wanted.as_ref()));
         }

@@ -8,10 +8,9 @@ use crate::make::{
 use crate::samples::{EXTENSION, FIXED, LIST, MAP, STRUCT, UNION, VARIANT, dtypes, values};
 use std::alloc::Global;
 use vortex_dtype::{DType, FieldName, UnionVariantsExt};
-use vortex_scalar::{
-    ListScalar, MapScalar, NestedScalarViews, Scalar, ScalarValue, UnionScalar, copy_value,
-    validate,
-};
+use vortex_scalar::{ListScalar, MapScalar, NestedScalarViews, Scalar, ScalarValue, UnionScalar};
+use vortex_scalar_ops::validate::validate;
+use vortex_scalar_value::clone::clone_value;
 
 pub fn run(alloc: Global, checks: &mut Checks<'_>) -> Done {
     let values = values(alloc)?;
@@ -20,7 +19,7 @@ pub fn run(alloc: Global, checks: &mut Checks<'_>) -> Done {
             for value in values.iter().chain(&[None]) {
                 made(checks, kind, dtype, value.as_ref());
                 if validate(dtype, value.as_ref()) {
-                    let value = copy_value(value.as_ref())?;
+                    let value = clone_value(value.as_ref())?;
                     seen(checks, kind, &Scalar::try_new(dtype.clone()?, value)?);
                 }
             }
@@ -73,7 +72,7 @@ fn lists(alloc: Global, checks: &mut Checks<'_>) -> Done {
     let any = list(alloc, numbers(WITH), WITHOUT)?;
     for dtype in [any, fixed(alloc, numbers(WITH), 3, WITH)?] {
         let twin = tuple(alloc, [number(7), None, number(-7)])?;
-        let scalar = Scalar::try_new(dtype, copy_value(twin.as_ref())?)?;
+        let scalar = Scalar::try_new(dtype, clone_value(twin.as_ref())?)?;
         let view = scalar.as_list();
         checks.holds("ListScalar::len", view.len() == 3 && !view.is_empty());
         checks.holds("element_dtype", *view.element_dtype() == numbers(WITH));
@@ -115,7 +114,7 @@ fn records(alloc: Global, checks: &mut Checks<'_>) -> Done {
     let fields = [numbers(WITH), DType::Utf8(WITH), DType::Bool(WITH)];
     let dtype = record(alloc, ["a", "b", "a"], fields, WITH)?;
     let twin = tuple(alloc, [number(7), text("é"), None])?;
-    let scalar = Scalar::try_new(dtype.clone()?, copy_value(twin.as_ref())?)?;
+    let scalar = Scalar::try_new(dtype.clone()?, clone_value(twin.as_ref())?)?;
     let view = scalar.as_struct();
     checks.holds("struct_fields", view.struct_fields().nfields() == 3);
     let names = view.names(alloc)?;
@@ -146,7 +145,7 @@ fn maps(alloc: Global, checks: &mut Checks<'_>) -> Done {
     let first = tuple(alloc, [text("b"), number(7)])?;
     let twin = tuple(alloc, [first, tuple(alloc, [text("a"), None])?])?;
     let dtype = map(alloc, numbers(WITH), true, WITHOUT)?;
-    let scalar = Scalar::try_new(dtype, copy_value(twin.as_ref())?)?;
+    let scalar = Scalar::try_new(dtype, clone_value(twin.as_ref())?)?;
     let view = scalar.as_map();
     checks.holds("MapScalar::len", view.len() == 2 && !view.is_empty());
     let types = view.map_dtype();
@@ -191,8 +190,8 @@ fn unions(alloc: Global, checks: &mut Checks<'_>) -> Done {
     let dtype = union(alloc, [1, -128], [DType::Utf8(WITHOUT), numbers(WITH)], WITH)?;
     for (place, value) in [(0, text("é")), (1, number(7)), (1, None)] {
         let (tag, inner) = if place == 0 { (1, DType::Utf8(WITHOUT)) } else { (-128, numbers(WITH)) };
-        let twin = tagged(alloc, tag, copy_value(value.as_ref())?)?;
-        let scalar = Scalar::try_new(dtype.clone()?, copy_value(twin.as_ref())?)?;
+        let twin = tagged(alloc, tag, clone_value(value.as_ref())?)?;
+        let scalar = Scalar::try_new(dtype.clone()?, clone_value(twin.as_ref())?)?;
         let view = scalar.as_union();
         checks.holds("UnionScalar::nullability", view.nullability() == WITH);
         checks.holds("variants", view.variants().child_index_to_tag(place) == Some(tag));
@@ -217,8 +216,8 @@ fn unions(alloc: Global, checks: &mut Checks<'_>) -> Done {
 
 fn variants(alloc: Global, checks: &mut Checks<'_>) -> Done {
     for value in [number(7), None] {
-        let twin = typed(alloc, numbers(WITH), copy_value(value.as_ref())?)?;
-        let scalar = Scalar::try_new(DType::Variant(WITH), copy_value(twin.as_ref())?)?;
+        let twin = typed(alloc, numbers(WITH), clone_value(value.as_ref())?)?;
+        let scalar = Scalar::try_new(DType::Variant(WITH), clone_value(twin.as_ref())?)?;
         let view = scalar.as_variant();
         checks.holds("VariantScalar::is_null", !view.is_null());
         checks.holds("is_variant_null", view.is_variant_null() == Some(value.is_none()));
@@ -239,7 +238,7 @@ fn extensions(alloc: Global, checks: &mut Checks<'_>) -> Done {
     let made_of = extension(alloc, storage.clone()?)?;
     for twin in [tuple(alloc, [number(7), None])?, None] {
         let dtype = DType::Extension(made_of.clone()?);
-        let scalar = Scalar::try_new(dtype, copy_value(twin.as_ref())?)?;
+        let scalar = Scalar::try_new(dtype, clone_value(twin.as_ref())?)?;
         let view = scalar.as_extension();
         checks.holds("ext_dtype", *view.ext_dtype() == made_of);
         checks.holds("ExtScalar::value", is_same(view.value(), twin.as_ref()));

@@ -1,4 +1,4 @@
-//! `compare_values`, `same_values` and `feed_value`.
+//! `compare_values`, `eq_values` and `hash_value`.
 
 use crate::checks::Checks;
 use crate::make::{Done, Value, WITH, WITHOUT, bytes, number, numbers, tagged, text, tuple, typed};
@@ -6,7 +6,10 @@ use std::alloc::Global;
 use std::cmp::Ordering;
 use std::hash::{DefaultHasher, Hasher};
 use vortex_dtype::{DType, PType};
-use vortex_scalar::{ScalarError, ScalarValue, compare_values, feed_value, same_values};
+use vortex_scalar::{ScalarError, ScalarValue};
+use vortex_scalar_ops::compare::compare_values;
+use vortex_scalar_ops::eq::eq_values;
+use vortex_scalar_ops::hash::hash_value;
 
 pub fn run(alloc: Global, checks: &mut Checks<'_>) -> Done {
     let groups = groups(alloc)?;
@@ -53,7 +56,7 @@ fn groups(alloc: Global) -> Result<Vec<Vec<Value>>, ScalarError> {
 
 fn hash_of(value: Option<&ScalarValue>) -> u64 {
     let mut hasher = DefaultHasher::new();
-    feed_value(value, &mut hasher);
+    hash_value(value, &mut hasher);
     hasher.finish()
 }
 
@@ -63,7 +66,7 @@ fn nulls(checks: &mut Checks<'_>, values: &[Value]) {
         let value = value.as_ref();
         checks.holds("null below", compare_values(None, value) == Some(Ordering::Less));
         checks.holds("above null", compare_values(value, None) == Some(Ordering::Greater));
-        checks.holds("null isn't the same", !same_values(None, value) && !same_values(value, None));
+        checks.holds("null isn't the same", !eq_values(None, value) && !eq_values(value, None));
         checks.holds("feed_value of null", hash_of(None) != hash_of(value));
     }
 }
@@ -77,7 +80,7 @@ fn each_pair(checks: &mut Checks<'_>, left: &[Value], right: &[Value], is_group:
             let wanted = if is_group { Some(i.cmp(&j)) } else { None };
             let is_same = is_group && i == j;
             checks.holds("compare_values", compare_values(one, other) == wanted);
-            checks.holds("same_values", same_values(one, other) == is_same);
+            checks.holds("same_values", eq_values(one, other) == is_same);
             if is_group || i + j == 0 {
                 checks.holds("feed_value", (hash == hash_of(other)) == is_same);
             }
@@ -88,7 +91,7 @@ fn each_pair(checks: &mut Checks<'_>, left: &[Value], right: &[Value], is_group:
 /// Whether the values are equal by all three calls.
 fn is_equal(left: Option<&ScalarValue>, right: Option<&ScalarValue>) -> bool {
     compare_values(left, right) == Some(Ordering::Equal)
-        && same_values(left, right)
+        && eq_values(left, right)
         && hash_of(left) == hash_of(right)
 }
 
@@ -103,14 +106,17 @@ fn other_kinds(alloc: Global, checks: &mut Checks<'_>) -> Done {
     Ok(())
 }
 
-/// Variants are the same up to the nullability of their types, and don't compare.
+/// Variants are the same up to the nullability of their types, and don't compare. Null is below.
 fn variants(alloc: Global, checks: &mut Checks<'_>) -> Done {
     let first = typed(alloc, numbers(WITH), number(7))?;
     let second = typed(alloc, numbers(WITHOUT), number(7))?;
     let (one, other) = (first.as_ref(), second.as_ref());
-    checks.holds("nullability aside", same_values(one, other) && hash_of(one) == hash_of(other));
+    checks.holds("nullability aside", eq_values(one, other) && hash_of(one) == hash_of(other));
+    let found = (compare_values(one, None), compare_values(None, one));
+    let wanted = (Some(Ordering::Greater), Some(Ordering::Less));
+    checks.holds("null is below variants", found == wanted);
+    checks.holds("null is no variant", !eq_values(one, None) && hash_of(one) != hash_of(None));
     let others = vec![in alloc;
-        None,
         number(7),
         typed(alloc, numbers(WITH), number(8))?,
         typed(alloc, numbers(WITH), None)?,
@@ -120,14 +126,14 @@ fn variants(alloc: Global, checks: &mut Checks<'_>) -> Done {
     ]?;
     for value in &others {
         let value = value.as_ref();
-        checks.holds("other variants", !same_values(one, value) && !same_values(value, one));
+        checks.holds("other variants", !eq_values(one, value) && !eq_values(value, one));
         checks.holds("other variants' hashes", hash_of(one) != hash_of(value));
         let found = (compare_values(one, value), compare_values(value, one));
         checks.holds("variants don't compare", found == (None, None));
     }
     checks.holds("a variant with itself", compare_values(one, one).is_none());
     let (left, right) = (tuple(alloc, [first])?, tuple(alloc, [second])?);
-    checks.holds("variants in lists", same_values(left.as_ref(), right.as_ref()));
+    checks.holds("variants in lists", eq_values(left.as_ref(), right.as_ref()));
     let found = compare_values(left.as_ref(), right.as_ref());
     checks.holds("variants in lists don't compare", found.is_none());
     Ok(())

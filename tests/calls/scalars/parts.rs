@@ -1,11 +1,12 @@
-//! `ScalarValue`, `UnionValue`, `VariantValue`, `copy_value` and `ScalarError`.
+//! `ScalarValue`, `UnionValue`, `VariantValue`, `clone_value` and `ScalarError`.
 
 use crate::checks::Checks;
 use crate::make::{Done, KINDS, WITH, is_same, is_within, number, number_of, refused, text};
 use crate::samples::values;
 use std::alloc::{AllocError, AllocFailed, Global};
 use vortex_dtype::{BufferString, ByteBuffer, DType, NativePType, match_each_integer_ptype};
-use vortex_scalar::{PValue, ScalarError, ScalarValue, UnionValue, VariantValue, copy_value};
+use vortex_scalar::{PValue, ScalarError, ScalarValue, UnionValue, VariantValue};
+use vortex_scalar_value::clone::clone_value;
 
 pub fn run(alloc: Global, checks: &mut Checks<'_>) -> Done {
     lent(alloc, checks)?;
@@ -186,10 +187,10 @@ fn unions_and_variants(alloc: Global, checks: &mut Checks<'_>) -> Done {
 }
 
 fn copies(alloc: Global, checks: &mut Checks<'_>) -> Done {
-    checks.holds("copy_value of null", copy_value(None)?.is_none());
+    checks.holds("copy_value of null", clone_value(None)?.is_none());
     let twins = values(alloc)?;
     for (form, value) in values(alloc)?.iter().enumerate() {
-        let answer = copy_value(value.as_ref());
+        let answer = clone_value(value.as_ref());
         checks.stays("a value after a copy", is_same(value.as_ref(), twins[form].as_ref()));
         checks.holds("copy_value", is_same(answer?.as_ref(), twins[form].as_ref()));
     }

@@ -5,7 +5,9 @@ use crate::make::Done;
 use crate::texts::{EDGES, Encoded, beginning, encoded, raised, width_of};
 use std::alloc::Global;
 use vortex_dtype::BufferString;
-use vortex_scalar::{StringLike, lower_text, next_character, upper_text};
+use vortex_scalar::StringLike;
+use vortex_scalar_truncation::characters::next_character;
+use vortex_scalar_truncation::text_bounds::{lower_text, upper_text};
 
 pub fn run(alloc: Global, checks: &mut Checks<'_>) -> Done {
     edges(checks);

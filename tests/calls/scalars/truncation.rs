@@ -71,8 +71,11 @@ fn of_row<G: Copy + Drop, T: ScalarTruncation + Drop, F: Fn(G) -> T>(
     made: F,
 ) -> Done {
     let (given, limit, low, high, longer) = *row;
-    let (found, flag) = lower_bound(made(given), limit, nullability);
-    checks.holds("lower_bound", is_value(&found, made(low), nullability) && flag == longer);
+    let is_so = match lower_bound(made(given), limit, nullability)? {
+        Some((found, flag)) => is_value(&found, made(low), nullability) && flag == longer,
+        None => false,
+    };
+    checks.holds("lower_bound", is_so);
     let found = made(given).lower_bound(limit).into_scalar(nullability);
     checks.holds("ScalarTruncation::lower_bound", is_value(&found, made(low), nullability));
     let is_so = match (upper_bound(alloc, made(given), limit, nullability)?, high) {

@@ -8,7 +8,9 @@ use crate::make::{
 use crate::samples::{VALUE_OF, dtypes, values};
 use std::alloc::{AllocError, Global};
 use vortex_dtype::DType;
-use vortex_scalar::{Scalar, ScalarError, ScalarValue, copy_value, validate};
+use vortex_scalar::{Scalar, ScalarError, ScalarValue};
+use vortex_scalar_ops::validate::validate;
+use vortex_scalar_value::clone::clone_value;
 
 pub fn run(alloc: Global, checks: &mut Checks<'_>) -> Done {
     each_kind(alloc, checks)?;
@@ -23,8 +25,8 @@ pub fn run(alloc: Global, checks: &mut Checks<'_>) -> Done {
 /// The type has the value, as both calls say, and the scalar of it is that value.
 fn has(checks: &mut Checks<'_>, name: &str, dtype: &DType, value: Value) -> Done {
     checks.holds(name, validate(dtype, value.as_ref()));
-    let twin = copy_value(value.as_ref())?;
-    let unchecked = Scalar::new_unchecked(dtype.clone()?, copy_value(value.as_ref())?);
+    let twin = clone_value(value.as_ref())?;
+    let unchecked = Scalar::new_unchecked(dtype.clone()?, clone_value(value.as_ref())?);
     checks.holds("new_unchecked", is_of(&unchecked, dtype, twin.as_ref()));
     let scalar = Scalar::try_new(dtype.clone()?, value)?;
     checks.holds(name, is_of(&scalar, dtype, twin.as_ref()));

@@ -17,7 +17,7 @@ pub fn run(alloc: Global, checks: &mut Checks<'_>) -> Done {
         for (j, right) in without.iter().enumerate() {
             pairs(checks, left, right, i == j, i == VARIANT);
         }
-        nulls(checks, left, &without[i], i == VARIANT)?;
+        nulls(checks, left, &without[i])?;
     }
     without_memory(alloc, checks, &with)?;
     inside(alloc, checks)?;
@@ -54,21 +54,13 @@ fn equal(checks: &mut Checks<'_>, one: &Scalar, other: &Scalar, is_equal: bool) 
     checks.holds("!=", (one != other) == !is_equal);
 }
 
-/// Null is least, and compares with null.
-fn nulls(
-    checks: &mut Checks<'_>,
-    with: &[Scalar],
-    without: &[Scalar],
-    is_variant: bool,
-) -> Done {
+/// Null is least, of variants too, and compares with null.
+fn nulls(checks: &mut Checks<'_>, with: &[Scalar], without: &[Scalar]) -> Done {
     let null = Scalar::null(with[0].dtype().clone()?);
     for scalar in with.iter().chain(without) {
-        let (less, more) = match is_variant {
-            true => (None, None),
-            false => (Some(Ordering::Less), Some(Ordering::Greater)),
-        };
-        checks.holds("null is least", null.partial_cmp(scalar) == less);
-        checks.holds("above null", scalar.partial_cmp(&null) == more);
+        let (below, above) = (null.partial_cmp(scalar), scalar.partial_cmp(&null));
+        checks.holds("null is least", below == Some(Ordering::Less));
+        checks.holds("above null", above == Some(Ordering::Greater));
         equal(checks, &null, scalar, false);
         checks.holds("hash of null", hash_of(&null) != hash_of(scalar));
     }

@@ -7,7 +7,8 @@ use crate::make::{
 };
 use std::alloc::Global;
 use vortex_dtype::{BufferString, ByteBuffer, DType, PType};
-use vortex_scalar::{NativeValue, Scalar, ScalarError, ScalarValue};
+use vortex_scalar::{Scalar, ScalarError, ScalarValue};
+use vortex_scalar_ops::native_value::NativeValue;
 
 pub fn run(alloc: Global, checks: &mut Checks<'_>) -> Done {
     truths(checks);

@@ -4,8 +4,10 @@ use crate::checks::Checks;
 use crate::make::{Done, WITH, WITHOUT, hash_of, is_same, is_twin};
 use crate::samples::groups;
 use std::alloc::Global;
+use std::cmp::Ordering;
+use std::hash::{DefaultHasher, Hasher};
 use vortex_dtype::{DType, PType};
-use vortex_scalar::{Scalar, ScalarError};
+use vortex_scalar::{Scalar, ScalarError, laws};
 
 pub fn run(alloc: Global, checks: &mut Checks<'_>) -> Done {
     let targets = targets(alloc)?;
@@ -21,7 +23,30 @@ pub fn run(alloc: Global, checks: &mut Checks<'_>) -> Done {
             }
         }
     }
-    in_two_steps(alloc, checks, &targets)
+    in_two_steps(alloc, checks, &targets)?;
+    called(alloc, checks)
+}
+
+/// The calls of laws, of numbers that are cast to a wider kind.
+fn called(alloc: Global, checks: &mut Checks<'_>) -> Done {
+    let (one, other) = (Scalar::from(7u8), Scalar::from(9u8));
+    let (middle, wide) = (DType::Primitive(PType::U16, WITH), DType::Primitive(PType::U32, WITH));
+    let (there, back) = laws::there_and_back(alloc, &one, &wide)?;
+    checks.holds("there_and_back", *there.dtype() == wide && is_twin(&back, &one));
+    let refused = laws::there_and_back(alloc, &one, &DType::Utf8(WITH)).err();
+    checks.holds("there_and_back refused", refused == Some(ScalarError::NotConvertible));
+    let (first, second, at_once) = laws::by_way_of(alloc, &one, &middle, &wide)?;
+    checks.holds("by_way_of", *first.dtype() == middle && is_twin(&second, &at_once));
+    let (nullable, back) = laws::nullable_and_back(alloc, &one)?;
+    checks.holds("nullable_and_back", nullable.dtype().is_nullable() && is_twin(&back, &one));
+    let answer = laws::order_and_equality(&one, &other);
+    checks.holds("order_and_equality", answer == (Some(Ordering::Less), false));
+    let (mut left, mut right) = (DefaultHasher::new(), DefaultHasher::new());
+    let is_equal = laws::equality_and_hashes(&one, &there, &mut left, &mut right);
+    checks.holds("equality_and_hashes", !is_equal && left.finish() != right.finish());
+    let (of_one, of_other, before, after) = laws::casts_of_both(alloc, &one, &other, &wide)?;
+    checks.holds("casts_of_both", before == after && of_one != of_other);
+    Ok(())
 }
 
 /// The types of the samples, with null and without, and each kind of integers.

@@ -8,7 +8,8 @@ use crate::make::{
 use crate::samples::{FIXED, LIST, NUMBERS, OCTETS, groups};
 use std::alloc::Global;
 use vortex_dtype::{DType, PType};
-use vortex_scalar::{Scalar, ScalarError, copy_value};
+use vortex_scalar::{Scalar, ScalarError};
+use vortex_scalar_value::clone::clone_value;
 
 pub fn run(alloc: Global, checks: &mut Checks<'_>) -> Done {
     for nullability in [WITH, WITHOUT] {
@@ -138,7 +139,7 @@ fn ends(alloc: Global, checks: &mut Checks<'_>) -> Done {
 fn lists(alloc: Global, checks: &mut Checks<'_>) -> Done {
     let empty = tuple(alloc, [])?;
     let dtype = list(alloc, numbers(WITHOUT), WITHOUT)?;
-    let none = Scalar::try_new(dtype.clone()?, copy_value(empty.as_ref())?)?;
+    let none = Scalar::try_new(dtype.clone()?, clone_value(empty.as_ref())?)?;
     let texts = list(alloc, DType::Utf8(WITHOUT), WITH)?;
     checks.holds("no numbers to texts", is_of(&none.cast(alloc, &texts)?, &texts, empty.as_ref()));
     let one = Scalar::try_new(dtype, tuple(alloc, [number(1)])?)?;

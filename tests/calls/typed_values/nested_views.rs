@@ -10,7 +10,7 @@ use std::cmp::Ordering;
 use std::hash::Hash;
 use vortex_dtype::{BufferString, DType, PType};
 use vortex_scalar::{
-    ExtScalar, ListScalar, MapScalar, NestedScalarViews, Scalar, ScalarMakers, StructScalar,
+    ExtScalar, ListScalar, MapScalar, NestedScalarViews, Scalar, ScalarConstructors, StructScalar,
     UnionScalar, VariantScalar,
 };
 

@@ -1,5 +1,5 @@
-use Rattle.vortex_model.proofs.Batches.{same_answers}
+use Rattle.vortex_model.proofs.Batches.{eq_answers}
 use Rattle.vortex_model.proofs.laws.chunks_do_not_show.Goals as goal
 
 pub returns : goal.returns
-returns c = same_answers
+returns c = eq_answers

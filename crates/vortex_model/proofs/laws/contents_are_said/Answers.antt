@@ -1,4 +1,4 @@
-use Rattle.vortex_model.specs.Kind.{stored}
+use Rattle.vortex_model.specs.LogicalType.{stored}
 use Rattle.vortex_model.proofs.Readings.{Reading, reading}
 use Rattle.vortex_model.proofs.laws.contents_are_said.Goals as goal
 

@@ -1,4 +1,4 @@
-use Rattle.vortex_model.specs.Kind.{bare}
+use Rattle.vortex_model.specs.LogicalType.{bare}
 use Rattle.vortex_model.proofs.Passes.{kinds_pass}
 use Rattle.vortex_model.proofs.Tests.{kind_so}
 use Rattle.vortex_model.proofs.laws.tests_of_equality_are_right.Goals as goal

@@ -1,4 +1,4 @@
-use Rattle.vortex_model.specs.Kind.{stored}
+use Rattle.vortex_model.specs.LogicalType.{stored}
 use Rattle.vortex_model.proofs.Passes.{has_passes}
 use Rattle.vortex_model.proofs.Tests.{has_so}
 use Rattle.vortex_model.proofs.laws.tests_of_validity_are_right.Goals as goal

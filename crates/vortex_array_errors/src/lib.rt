@@ -1,4 +1,0 @@
-//! Why an array can't be made or read.
-#![tactic(auto)]
-
-pub mod error;

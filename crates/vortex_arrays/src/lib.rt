@@ -1,0 +1,33 @@
+//! Arrays: columns of values of one type, in eight layouts, with the buffers, masks and views of
+//! sixteen bytes that they are made of.
+//!
+//! The layer stands in seven crates, and this one gathers their items. A caller of arrays alone
+//! depends on it; nothing below does.
+#![tactic(auto)]
+
+pub mod laws;
+
+pub use vortex_arrays_buffer::bit_buffer::BitBuffer;
+pub use vortex_arrays_buffer::buffer::Buffer;
+pub use vortex_arrays_buffer::element::Element;
+pub use vortex_arrays_buffer::error::ArrayError;
+pub use vortex_arrays_buffer::mask::Mask;
+pub use vortex_arrays_buffer::primitive_buffer::PrimitiveBuffer;
+pub use vortex_arrays_core::array::{ArrayLayout, ArrayRef, StringKind, Validity};
+pub use vortex_arrays_leaf::bool_array::{BoolArray, BoolDataParts};
+pub use vortex_arrays_leaf::constant_array::ConstantArray;
+pub use vortex_arrays_leaf::primitive_array::{PrimitiveArray, PrimitiveDataParts};
+pub use vortex_arrays_leaf::view_array::VarBinViewArray;
+pub use vortex_arrays_nested::dict_array::{DictArray, DictParts};
+pub use vortex_arrays_nested::fixed_size_list::{
+    FixedSizeListArray, FixedSizeListDataParts, FixedSizeListSlots,
+};
+pub use vortex_arrays_nested::list_view::{ListViewArray, ListViewDataParts, ListViewSlots};
+pub use vortex_arrays_struct::column::column_at;
+pub use vortex_arrays_struct::mask::mask;
+pub use vortex_arrays_struct::struct_array::StructArray;
+pub use vortex_arrays_view::build::{MAX_BUFFER_LEN, build_views, build_views_from_offsets};
+pub use vortex_arrays_view::inlined::Inlined;
+pub use vortex_arrays_view::lengths::offsets_to_lengths;
+pub use vortex_arrays_view::reference::Ref;
+pub use vortex_arrays_view::view::{BinaryView, MAX_INLINED_SIZE};

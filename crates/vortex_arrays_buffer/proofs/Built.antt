@@ -1,0 +1,174 @@
+-- Bytes whose bits are set one after the other.
+use Rattle.std.proofs.Common.{◌≡◌, ◌≢◌, ℕ, zero, suc, ◌+◌, ◌*◌, ◌/◌, ◌%◌, ◌++◌, ◌≤◌, ◌<◌, inl, inr, Result, Ok, Err, IfOk, List, Bool, true, false, not, ◌||◌, ◌==◌, nat_eq, length, map, take, drop, get_or, replicate, refl, sym, ap, subst, ◌∙◌, arith}
+use Rattle.std.specs.Int.{bit_at}
+use Rattle.std.specs.List.{list_any, zip}
+use Rattle.std.proofs.lemmas.Bool.{cases_eq, eq-eqb, ne_eqb}
+use Rattle.std.proofs.lemmas.List.{ext_get_or, get_or_default, get_or-map, get_or-replicate, length-map, length-replicate, take_all, take_at}
+use Rattle.std.proofs.lemmas.List.Folds.{list_any_more}
+use Rattle.std.proofs.lemmas.List.FromFn.{fill_by_all, get_or-map-range_with_len}
+use Rattle.std.proofs.lemmas.Nat.Bits.{bit_at_ones, bit_at-zero}
+use Rattle.std.proofs.lemmas.Slice.Zip.{length-zip, get_or-zip}
+use Rattle.vortex_arrays_buffer.specs.Bits.{bit_of, bits_of, bits_at}
+use Rattle.vortex_arrays_buffer.proofs.BitLemmas.{bit_count, bit_in}
+
+-- the first bits are these, where they are so one by one
+pub bits_are : (bytes : List ℕ) (n : ℕ) (bits : List Bool) → length bits ≡ n → ((k : ℕ) → k < n → get_or bits k false ≡ bit_of bytes k) → bits_of bytes 0 n ≡ bits
+bits_are bytes n bits l h = sym (fill_by_all (bit_of bytes) bits n false l h)
+
+zeros : (m k : ℕ) → get_or {A = ℕ} (replicate m 0) k 0 ≡ 0
+zeros zero k = refl
+zeros (suc m) zero = refl
+zeros (suc m) (suc k) = zeros m k
+
+pub zero_bit : (m j : ℕ) → bit_of (replicate m 0) j ≡ false
+zero_bit m j = ap (λ n. bit_at n (j % 8) == 1) (zeros m (j / 8)) ∙ ap (λ n. n == 1) (bit_at-zero (j % 8))
+
+pub all_unset : (n m : ℕ) → bits_of (replicate m 0) 0 n ≡ replicate n false
+all_unset n m = bits_are (replicate m 0) n (replicate n false) (length-replicate n false) (λ k l. get_or-replicate n k false false l ∙ sym (zero_bit m k))
+
+one_bit : (m j : ℕ) → j < 8 * m → bit_of (replicate m 255) j ≡ true
+one_bit m j l =
+    let small : j % 8 < 8 = omega arith in
+    ap (λ n. bit_at n (j % 8) == 1) (get_or-replicate m (j / 8) 255 0 (omega arith)) ∙ ap (λ n. n == 1) (bit_at_ones 8 (j % 8) small)
+
+pub all_set : (n m : ℕ) → n ≤ 8 * m → bits_of (replicate m 255) 0 n ≡ replicate n true
+all_set n m h = bits_are (replicate m 255) n (replicate n true) (length-replicate n true) (λ k l. get_or-replicate n k true false l ∙ sym (one_bit m k (omega arith)))
+
+-- the items of a vector of so many, after all of them were lent and are these
+pub written : (n : ℕ) (new old : List ℕ) → n ≡ length old → length new ≡ length old → take n (new ++ drop (length new) old) ≡ new
+written n new old e same = take_at new (drop (length new) old) n (omega arith)
+
+-- the first i bits are as P says of their places, and no other is set
+pub record Collects (P : ℕ → Bool → Type 0) (bytes : List ℕ) (i n : ℕ) : Type 0 where
+  pub front : (j : ℕ) → j < i → P j (bit_of bytes j)
+  pub rest : (j : ℕ) → i ≤ j → bit_of bytes j ≡ false
+  pub room : n ≤ 8 * length bytes
+
+pub collects_none : (P : ℕ → Bool → Type 0) (m n : ℕ) → n ≤ 8 * m → Collects P (replicate m 0) 0 n
+collects_none P m n h = record {
+  front = λ j l. absurd (omega arith);
+  rest = λ j l. zero_bit m j;
+  room = omega (arith, length-replicate {A = ℕ} m 0);
+}
+
+collects_more : (P : ℕ → Bool → Type 0) (old new : List ℕ) (i n : ℕ) → Collects P old i n → P i true → bit_of new i ≡ true → ((j : ℕ) → j ≢ i → bit_of new j ≡ bit_of old j) → length new ≡ length old → Collects P new (i + 1) n
+collects_more P old new i n c holds here others same = record {
+  front = λ j h. elim (cases_eq j i) [
+    | inl e ↦ subst (λ k. P k (bit_of new k)) (sym e) (subst (P i) (sym here) holds)
+    | inr d ↦ subst (P j) (sym (others j d)) (c.front j (omega arith))
+  ];
+  rest = λ j h. others j (λ e. omega arith) ∙ c.rest j (omega arith);
+  room = omega (arith, c.room);
+}
+
+pub collects_set : (P : ℕ → Bool → Type 0) (old new : List ℕ) (i n m : ℕ) (b : Bool) → m ≡ length old → Collects P old i n → P i b → b ≡ true → bit_of new i ≡ true → ((j : ℕ) → j ≢ i → bit_of new j ≡ bit_of old j) → length new ≡ length old → Collects P (take m (new ++ drop (length new) old)) (i + 1) n
+collects_set P old new i n m b e c holds is here others same = rw (written m new old e same) (collects_more P old new i n c (subst (P i) is holds) here others same)
+
+pub collects_skip : (P : ℕ → Bool → Type 0) (bytes : List ℕ) (i n : ℕ) (b : Bool) → Collects P bytes i n → P i b → b ≡ false → Collects P bytes (i + 1) n
+collects_skip P bytes i n b c holds is = record {
+  front = λ j h. elim (cases_eq j i) [
+    | inl e ↦ subst (λ k. P k (bit_of bytes k)) (sym e) (subst (P i) (is ∙ sym (c.rest i (omega arith))) holds)
+    | inr d ↦ c.front j (omega arith)
+  ];
+  rest = λ j h. c.rest j (omega arith);
+  room = c.room;
+}
+
+pub collects_all : (P : ℕ → Bool → Type 0) (bytes : List ℕ) (bits : List Bool) (i n : ℕ) → bits ≡ bits_of bytes 0 n → n ≤ i → Collects P bytes i n → (k : ℕ) → k < n → P k (get_or bits k false)
+collects_all P bytes bits i n is e c k l = subst (P k) (sym (ap (λ xs. get_or xs k false) is ∙ get_or-map-range_with_len (bit_of bytes) 0 n k k false l (omega arith))) (c.front k (omega arith))
+
+-- what two facts make one list
+pub made_of : {E : Type 0} (r : Result (List Bool) E) (P Q : List Bool → Type 0) (all : List Bool) → IfOk r P → IfOk r Q → ((b : List Bool) → P b → Q b → b ≡ all) → IfOk r (λ b. b ≡ all)
+made_of (Ok b) P Q all p q f = f b p q
+made_of (Err e) P Q all p q f = tt
+
+pub ruleset collected = (collects_none, collects_set, collects_skip, bit_count)
+
+-- what stands at each place makes the list
+pub contraries : (xs ys : List Bool) (n : ℕ) → n ≡ length xs → length ys ≡ n → ((i : ℕ) → i < n → get_or ys i false ≡ not (get_or xs i false)) → ys ≡ map not xs
+contraries xs ys n e many h = ext_get_or false ys (map not xs) (many ∙ e ∙ sym (length-map xs not)) (λ k l. let m : k < n = omega arith in h k m ∙ sym (get_or-map not xs k false false (omega arith)))
+
+pub pairwise : (f : Bool → Bool → Bool) (xs ys zs : List Bool) (n : ℕ) → n ≡ length xs → length xs ≡ length ys → length zs ≡ n → ((i : ℕ) → i < n → get_or zs i false ≡ f (get_or xs i false) (get_or ys i false)) → zs ≡ map (λ p. f p.0 p.1) (zip xs ys)
+pairwise f xs ys zs n e same many h =
+    let both : length (zip xs ys) ≡ length xs = omega (arith, length-zip xs ys) in
+    let pair : Bool × Bool → Bool = λ p. f p.0 p.1 in
+    ext_get_or false zs (map pair (zip xs ys)) (many ∙ e ∙ sym (length-map (zip xs ys) pair ∙ both)) (λ k l.
+    let m : k < n = omega arith in
+    h k m ∙ sym (get_or-map pair (zip xs ys) k (false, false) false (omega arith) ∙ ap pair (get_or-zip xs ys k (false, false) (omega arith) (omega arith))))
+
+pub chosen : (xs ys : List Bool) (places : List ℕ) (n : ℕ) → n ≡ length places → length ys ≡ n → ((i : ℕ) → i < n → get_or ys i false ≡ get_or xs (get_or places i 0) false) → ys ≡ map (λ i. get_or xs i false) places
+chosen xs ys places n e many h = ext_get_or false ys (map (λ i. get_or xs i false) places) (many ∙ e ∙ sym (length-map places (λ i. get_or xs i false))) (λ k l. let m : k < n = omega arith in h k m ∙ sym (get_or-map (λ i. get_or xs i false) places k 0 false (omega arith)))
+
+-- the first i bits are those of the list, and no other is set
+pub record HasFront (bytes : List ℕ) (bits : List Bool) (i : ℕ) : Type 0 where
+  pub front : (j : ℕ) → j < i → bit_of bytes j ≡ get_or bits j false
+  pub rest : (j : ℕ) → i ≤ j → bit_of bytes j ≡ false
+  pub room : length bits ≤ 8 * length bytes
+
+pub front_none : (m : ℕ) (bits : List Bool) → length bits ≤ 8 * m → HasFront (replicate m 0) bits 0
+front_none m bits h = record {
+  front = λ j l. absurd (omega arith);
+  rest = λ j l. zero_bit m j;
+  room = omega (arith, length-replicate {A = ℕ} m 0);
+}
+
+front_more : (old new : List ℕ) (bits : List Bool) (i : ℕ) (b : Bool) → HasFront old bits i → i < length bits → b ≡ get_or bits i b → b ≡ true → bit_of new i ≡ true → ((j : ℕ) → j ≢ i → bit_of new j ≡ bit_of old j) → length new ≡ length old → HasFront new bits (i + 1)
+front_more old new bits i b f l at is here others same = record {
+  front = λ j h. elim (cases_eq j i) [
+    | inl e ↦ ap (bit_of new) e ∙ here ∙ sym is ∙ at ∙ get_or_default bits i b false l ∙ ap (λ k. get_or bits k false) (sym e)
+    | inr n ↦ others j n ∙ f.front j (omega arith)
+  ];
+  rest = λ j h. others j (λ e. omega arith) ∙ f.rest j (omega arith);
+  room = omega (arith, f.room);
+}
+
+pub front_set : (old new : List ℕ) (bits : List Bool) (i m : ℕ) (b : Bool) → m ≡ length old → HasFront old bits i → i < length bits → b ≡ get_or bits i b → b ≡ true → bit_of new i ≡ true → ((j : ℕ) → j ≢ i → bit_of new j ≡ bit_of old j) → length new ≡ length old → HasFront (take m (new ++ drop (length new) old)) bits (i + 1)
+front_set old new bits i m b e f l at is here others same = rw (written m new old e same) (front_more old new bits i b f l at is here others same)
+
+pub front_skip : (old : List ℕ) (bits : List Bool) (i : ℕ) (b : Bool) → HasFront old bits i → i < length bits → b ≡ get_or bits i b → b ≡ false → HasFront old bits (i + 1)
+front_skip old bits i b f l at is = record {
+  front = λ j h. elim (cases_eq j i) [
+    | inl e ↦ f.rest j (omega arith) ∙ sym is ∙ at ∙ get_or_default bits i b false l ∙ ap (λ k. get_or bits k false) (sym e)
+    | inr n ↦ f.front j (omega arith)
+  ];
+  rest = λ j h. f.rest j (omega arith);
+  room = f.room;
+}
+
+pub front_all : (bytes : List ℕ) (bits : List Bool) (n : ℕ) → n ≡ length bits → HasFront bytes bits n → bits_of bytes 0 n ≡ bits
+front_all bytes bits n e f = bits_are bytes n bits (sym e) (λ k l. sym (f.front k l))
+
+pub ruleset fronts = (front_none, front_set, front_skip, front_all)
+
+-- the bits at the first i of the places are set, and no others
+pub record HasPlaces (bytes places : List ℕ) (i n : ℕ) : Type 0 where
+  pub set : (j : ℕ) → bit_of bytes j ≡ list_any (nat_eq j) (take i places)
+  pub room : n ≤ 8 * length bytes
+
+pub places_none : (m n : ℕ) (places : List ℕ) → n ≤ 8 * m → HasPlaces (replicate m 0) places 0 n
+places_none m n places h = record { set = λ j. zero_bit m j; room = omega (arith, length-replicate {A = ℕ} m 0) }
+
+or_true : (b : Bool) → (b || true) ≡ true
+or_true true = refl
+or_true false = refl
+
+or_false : (b : Bool) → (b || false) ≡ b
+or_false true = refl
+or_false false = refl
+
+one_more : (old new places : List ℕ) (i n p : ℕ) → HasPlaces old places i n → i < length places → p ≡ get_or places i p → bit_of new p ≡ true → ((j : ℕ) → j ≢ p → bit_of new j ≡ bit_of old j) → length new ≡ length old → HasPlaces new places (i + 1) n
+one_more old new places i n p f l at here others same = record {
+  set = λ j. elim (cases_eq j p) [
+    | inl e ↦ ap (bit_of new) e ∙ here ∙ sym (list_any_more (nat_eq j) places i p l ∙ ap (λ b. list_any (nat_eq j) (take i places) || b) (eq-eqb j (get_or places i p) (e ∙ at)) ∙ or_true (list_any (nat_eq j) (take i places)))
+    | inr d ↦ others j d ∙ f.set j ∙ sym (list_any_more (nat_eq j) places i p l ∙ ap (λ b. list_any (nat_eq j) (take i places) || b) (ne_eqb j (get_or places i p) (λ q. d (q ∙ sym at))) ∙ or_false (list_any (nat_eq j) (take i places)))
+  ];
+  room = omega (arith, f.room);
+}
+
+pub places_more : (old new places : List ℕ) (i n m p : ℕ) → m ≡ length old → HasPlaces old places i n → i < length places → p ≡ get_or places i p → bit_of new p ≡ true → ((j : ℕ) → j ≢ p → bit_of new j ≡ bit_of old j) → length new ≡ length old → HasPlaces (take m (new ++ drop (length new) old)) places (i + 1) n
+places_more old new places i n m p e f l at here others same = rw (written m new old e same) (one_more old new places i n p f l at here others same)
+
+pub places_all : (bytes places : List ℕ) (i n : ℕ) → length places ≤ i → HasPlaces bytes places i n → bits_of bytes 0 n ≡ bits_at n places
+places_all bytes places i n e f = fill_by_all (λ j. list_any (nat_eq j) places) (bits_of bytes 0 n) n false (bit_count bytes 0 n) (λ k l. get_or-map-range_with_len (bit_of bytes) 0 n k k false l (omega arith) ∙ f.set k ∙ ap (list_any (nat_eq k)) (take_all i places e))
+
+pub ruleset places_set = (places_none, places_more, places_all)

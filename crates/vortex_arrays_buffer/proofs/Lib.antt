@@ -1,0 +1,5 @@
+pub mod BitLemmas
+pub mod Built
+pub mod NumberLemmas
+pub mod Positions
+pub mod Windows

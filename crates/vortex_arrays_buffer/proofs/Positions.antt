@@ -1,0 +1,124 @@
+-- How many bits are true, and where.
+use Rattle.std.proofs.Common.{◌≡◌, ℕ, zero, suc, ◌+◌, ◌++◌, ◌≤◌, ◌<◌, List, [], ◌∷◌, Bool, true, false, not, ◌↔◌, length, take, get_or, replicate, cond, refl, sym, ap, ◌∙◌, arith}
+use Rattle.std.specs.List.{All, count_by}
+use Rattle.std.proofs.lemmas.List.{append-nil, length-take-le, take_more}
+use Rattle.std.proofs.lemmas.List.Filters.{length-filter_both}
+use Rattle.std.proofs.lemmas.List.Recursion.{is_count_by}
+use Rattle.std.proofs.lemmas.List.Sums.{count_by_more_no, count_by_more_yes, length-filter}
+use Rattle.vortex_arrays_buffer.specs.Bits.{positions_from, positions_of}
+
+pub count_yes : (bits : List Bool) (i : ℕ) (b : Bool) → i < length bits → b ≡ get_or bits i false → b ≡ true → count_by (λ x. x) (take (i + 1) bits) ≡ count_by (λ x. x) (take i bits) + 1
+count_yes bits i b l at is = count_by_more_yes (λ x. x) bits i false l (sym at ∙ is)
+
+pub count_no : (bits : List Bool) (i : ℕ) (b : Bool) → i < length bits → b ≡ get_or bits i false → b ≡ false → count_by (λ x. x) (take (i + 1) bits) ≡ count_by (λ x. x) (take i bits)
+count_no bits i b l at is = count_by_more_no (λ x. x) bits i false l (sym at ∙ is)
+
+pub ruleset counted = (count_yes, count_no)
+
+-- the bit after the first ones
+positions_push : (at : ℕ) (bits : List Bool) (b : Bool) → positions_from at (bits ++ b ∷ []) ≡ positions_from at bits ++ cond b ((at + length bits) ∷ []) []
+positions_push at [] true = ap (λ n. n ∷ []) (let e : at ≡ at + 0 = omega arith in e)
+positions_push at [] false = refl
+positions_push at (true ∷ bits) b = ap (λ l. at ∷ l) (positions_push (suc at) bits b ∙ ap (λ n. positions_from (suc at) bits ++ cond b (n ∷ []) []) (let e : suc at + length bits ≡ at + suc (length bits) = omega arith in e))
+positions_push at (false ∷ bits) b = positions_push (suc at) bits b ∙ ap (λ n. positions_from (suc at) bits ++ cond b (n ∷ []) []) (let e : suc at + length bits ≡ at + suc (length bits) = omega arith in e)
+
+pub position_yes : (bits : List Bool) (i : ℕ) (b : Bool) → i < length bits → b ≡ get_or bits i false → b ≡ true → positions_of (take (i + 1) bits) ≡ positions_of (take i bits) ++ i ∷ []
+position_yes bits i b l at is =
+    let place : 0 + length (take i bits) ≡ i = omega (arith, length-take-le i bits (omega arith)) in
+    ap positions_of (take_more bits i false l) ∙ positions_push 0 (take i bits) (get_or bits i false)
+    ∙ ap (λ x. positions_of (take i bits) ++ cond x ((0 + length (take i bits)) ∷ []) []) (sym at ∙ is)
+    ∙ ap (λ n. positions_of (take i bits) ++ n ∷ []) place
+
+pub position_no : (bits : List Bool) (i : ℕ) (b : Bool) → i < length bits → b ≡ get_or bits i false → b ≡ false → positions_of (take (i + 1) bits) ≡ positions_of (take i bits)
+position_no bits i b l at is = ap positions_of (take_more bits i false l) ∙ positions_push 0 (take i bits) (get_or bits i false)
+    ∙ ap (λ x. positions_of (take i bits) ++ cond x ((0 + length (take i bits)) ∷ []) []) (sym at ∙ is) ∙ append-nil (positions_of (take i bits))
+
+pub ruleset placed = (position_yes, position_no)
+
+-- how many bits are true, by cases
+abbrev trues : List Bool → ℕ
+trues [] = 0
+trues (true ∷ bits) = suc (trues bits)
+trues (false ∷ bits) = trues bits
+
+one_more : (b : Bool) (bits : List Bool) → trues (b ∷ bits) ≡ cond b (1 + trues bits) (trues bits)
+one_more true bits = omega arith
+one_more false bits = refl
+
+trues_are : (bits : List Bool) → trues bits ≡ count_by (λ b. b) bits
+trues_are bits = is_count_by trues (λ b. b) refl one_more bits
+
+-- there are as many places as there are true bits
+many_from : (at : ℕ) (bits : List Bool) → length (positions_from at bits) ≡ trues bits
+many_from at [] = refl
+many_from at (true ∷ bits) = ap suc (many_from (suc at) bits)
+many_from at (false ∷ bits) = many_from (suc at) bits
+
+pub length-positions_of : (bits : List Bool) → length (positions_of bits) ≡ count_by (λ b. b) bits
+length-positions_of bits = many_from 0 bits ∙ trues_are bits
+
+within_from : (at : ℕ) (bits : List Bool) → All (λ i. i < at + length bits) (positions_from at bits)
+within_from at [] k d l = absurd (omega arith)
+within_from at (true ∷ bits) zero d l = omega arith
+within_from at (true ∷ bits) (suc k) d l = omega (arith, within_from (suc at) bits k d (omega arith))
+within_from at (false ∷ bits) k d l = omega (arith, within_from (suc at) bits k d l)
+
+-- each is the place of a bit
+pub positions_within : (bits : List Bool) → All (λ i. i < length bits) (positions_of bits)
+positions_within bits k d l = omega (arith, within_from 0 bits k d l)
+
+pub ruleset positions = (length-positions_of, positions_within)
+
+-- how many of the same there are
+trues_of_true : (n : ℕ) → trues (replicate n true) ≡ n
+trues_of_true zero = refl
+trues_of_true (suc n) = ap suc (trues_of_true n)
+
+trues_of_false : (n : ℕ) → trues (replicate n false) ≡ 0
+trues_of_false zero = refl
+trues_of_false (suc n) = trues_of_false n
+
+pub all_kept : (n : ℕ) → count_by (λ b. b) (replicate n true) ≡ n
+all_kept n = sym (trues_are (replicate n true)) ∙ trues_of_true n
+
+pub none_kept : (n : ℕ) → count_by (λ b. b) (replicate n false) ≡ 0
+none_kept n = sym (trues_are (replicate n false)) ∙ trues_of_false n
+
+-- each is kept or not
+pub kept_or_not : (bits : List Bool) → count_by (λ b. b) bits + count_by not bits ≡ length bits
+kept_or_not bits = omega (arith, length-filter_both (λ b. b) not (λ b. refl) bits, length-filter (λ b. b) bits, length-filter not bits)
+
+trues_le : (bits : List Bool) → trues bits ≤ length bits
+trues_le [] = omega arith
+trues_le (true ∷ bits) = omega (arith, trues_le bits)
+trues_le (false ∷ bits) = omega (arith, trues_le bits)
+
+each_is : (bits : List Bool) → trues bits ≡ length bits → (k : ℕ) (d : Bool) → k < length bits → get_or bits k d ≡ true
+each_is [] e k d l = absurd (omega arith)
+each_is (true ∷ bits) e zero d l = refl
+each_is (true ∷ bits) e (suc k) d l = each_is bits (omega (arith, e)) k d (omega arith)
+each_is (false ∷ bits) e k d l = absurd (omega (arith, e, trues_le bits))
+
+all_count : (bits : List Bool) → All (λ b. b ≡ true) bits → trues bits ≡ length bits
+all_count [] a = refl
+all_count (true ∷ bits) a = ap suc (all_count bits (λ k d l. a (suc k) d (omega arith)))
+all_count (false ∷ bits) a = let e : false ≡ true = a 0 false (omega arith) in absurd (cc (e))
+
+pub each_kept : (bits : List Bool) (n : ℕ) → n ≡ count_by (λ b. b) bits → (n ≡ length bits) ↔ All (λ b. b ≡ true) bits
+each_kept bits n is = (λ e. each_is bits (trues_are bits ∙ sym is ∙ e), λ a. is ∙ sym (trues_are bits) ∙ all_count bits a)
+
+none_is : (bits : List Bool) → trues bits ≡ 0 → (k : ℕ) (d : Bool) → k < length bits → get_or bits k d ≡ false
+none_is [] e k d l = absurd (omega arith)
+none_is (true ∷ bits) e k d l = absurd (omega (arith, e))
+none_is (false ∷ bits) e zero d l = refl
+none_is (false ∷ bits) e (suc k) d l = none_is bits e k d (omega arith)
+
+none_count : (bits : List Bool) → All (λ b. b ≡ false) bits → trues bits ≡ 0
+none_count [] a = refl
+none_count (true ∷ bits) a = let e : true ≡ false = a 0 true (omega arith) in absurd (cc (e))
+none_count (false ∷ bits) a = none_count bits (λ k d l. a (suc k) d (omega arith))
+
+pub none_of_them : (bits : List Bool) (n : ℕ) → n ≡ count_by (λ b. b) bits → (n ≡ 0) ↔ All (λ b. b ≡ false) bits
+none_of_them bits n is = (λ e. none_is bits (trues_are bits ∙ sym is ∙ e), λ a. is ∙ sym (trues_are bits) ∙ none_count bits a)
+
+pub ruleset kept = (all_kept, none_kept, kept_or_not, each_kept, none_of_them)

@@ -1,0 +1,227 @@
+//! A shared list of bits, cut with no copy.
+ghost use Rattle.std.specs.Prelude.{◌≡◌, ◌<◌, ◌≤◌, ◌↔◌, ◌*◌, ◌/◌, ◌&&◌, ◌||◌, ℕ, [], true, false, not, length, map, count_by, replicate, slice_index_or, slice_range, IsTrue, IfOk, All};
+ghost use Rattle.std.specs.List.{zip};
+ghost use Rattle.vortex_arrays_buffer.specs.Bits.{bits_of, bits_at, positions_of};
+
+use crate::bit::{bit, set_bit};
+use crate::buffer::Buffer;
+use std::alloc::{AllocError, Global};
+use std::marker::Model;
+use std::ops::Range;
+
+/// Part of a shared list of bits, packed eight to a byte, as Vortex's `BitBuffer`. A clone and a
+/// part share the bits.
+#[derive(Drop)]
+pub struct BitBuffer {
+    bytes: Buffer<u8>,
+    start: usize,
+    len: usize,
+}
+
+impl Model for BitBuffer {
+    ghost use Rattle.std.specs.Prelude.{List, Bool, ◌+◌, ◌*◌, ◌≤◌, ◌<◌, ◌^◌, length};
+    ghost use Rattle.vortex_arrays_buffer.specs.Bits.{bits_of};
+
+    ghost Value = { List Bool };
+
+    ghost view = { λ b. bits_of b.bytes b.start b.len };
+
+    ghost invariant = { λ b. (b.start + b.len ≤ 8 * length b.bytes) × (b.start + b.len < 2 ^ 64) };
+}
+
+impl BitBuffer {
+    /// So many bits of the bytes, the lowest of the first byte first.
+    fn of_bytes(bytes: Vec<u8>, len: usize) -> Result<BitBuffer, AllocError>
+        requires { len ≤ 8 * length bytes.items }
+        ensures { IfOk result (λ b. b ≡ bits_of bytes.items 0 len) }
+    {
+        let bytes = Buffer::from_vec(bytes)?;
+        Ok(BitBuffer {
+            bytes,
+            start: 0,
+            len,
+        })
+    }
+
+    /// So many bits, all of them true.
+    #[tactic(auto, using(crate::proofs::Built::all_set))]
+    pub fn new_set(alloc: Global, len: usize) -> Result<BitBuffer, AllocError>
+        ensures { IfOk result (λ b. b ≡ replicate len true) }
+    {
+        let bytes = vec![in alloc; 255; len.div_ceil(8)]?;
+        BitBuffer::of_bytes(bytes, len)
+    }
+
+    /// So many bits, all of them false.
+    #[tactic(auto, using(crate::proofs::Built::all_unset))]
+    pub fn new_unset(alloc: Global, len: usize) -> Result<BitBuffer, AllocError>
+        ensures { IfOk result (λ b. b ≡ replicate len false) }
+    {
+        let bytes = vec![in alloc; 0; len.div_ceil(8)]?;
+        BitBuffer::of_bytes(bytes, len)
+    }
+
+    /// So many bits, at each place what `f` says of it, as Vortex's `BitBuffer::collect_bool`.
+    #[tactic(auto, using(crate::proofs::Built::collected))]
+    pub fn collect_bool<F: Fn(usize) -> bool>(
+        alloc: Global,
+        len: usize,
+        f: F,
+    ) -> Result<BitBuffer, AllocError>
+        requires { (i : ℕ) → i < len → F.pre f i }
+        ensures count { IfOk result (λ b. length b ≡ len) }
+        ensures bits { IfOk result
+            (λ b. (i : ℕ) → i < len → F.post f i (slice_index_or b i false)) }
+    {
+        let mut bytes = vec![in alloc; 0; len.div_ceil(8)]?;
+        for i in 0..len {
+            if f(i) {
+                set_bit(&mut bytes, i);
+            }
+        }
+        BitBuffer::of_bytes(bytes, len)
+    }
+
+    /// These bits.
+    #[tactic(auto, using(crate::proofs::Built::fronts))]
+    pub fn from_bools(alloc: Global, bits: &[bool]) -> Result<BitBuffer, AllocError>
+        ensures { IfOk result (λ b. b ≡ bits.now) }
+    {
+        let mut bytes = vec![in alloc; 0; bits.len().div_ceil(8)]?;
+        for i in 0..bits.len() {
+            if bits[i] {
+                set_bit(&mut bytes, i);
+            }
+        }
+        BitBuffer::of_bytes(bytes, bits.len())
+    }
+
+    /// So many bits, of which those at the places are true, as Vortex's `BitBuffer::from_indices`.
+    #[tactic(auto, using(crate::proofs::Built::places_set))]
+    pub fn from_indices(
+        alloc: Global,
+        len: usize,
+        indices: &[usize],
+    ) -> Result<BitBuffer, AllocError>
+        requires { All (λ i. i < len) indices.now }
+        ensures { IfOk result (λ b. b ≡ bits_at len indices.now) }
+    {
+        let mut bytes = vec![in alloc; 0; len.div_ceil(8)]?;
+        for i in 0..indices.len() {
+            set_bit(&mut bytes, indices[i]);
+        }
+        BitBuffer::of_bytes(bytes, len)
+    }
+
+    /// How many bits there are.
+    #[tactic(auto, using(crate::proofs::BitLemmas::bits))]
+    pub fn len(&self) -> usize
+        ensures { result ≡ length self.now }
+    {
+        self.len
+    }
+
+    /// Whether there is no bit.
+    #[tactic(auto, using(crate::proofs::BitLemmas::bits))]
+    pub fn is_empty(&self) -> bool
+        ensures { IsTrue result ↔ (self.now ≡ []) }
+    {
+        self.len == 0
+    }
+
+    /// The bit at a place.
+    #[tactic(auto, using(crate::proofs::BitLemmas::bits))]
+    pub fn value(&self, i: usize) -> bool
+        requires { i < length self.now }
+        ensures { result ≡ slice_index_or self.now i false }
+    {
+        bit(self.bytes.as_slice(), self.start + i)
+    }
+
+    /// How many bits are true.
+    #[tactic(auto, using(crate::proofs::Positions::counted))]
+    pub fn true_count(&self) -> usize
+        ensures { result ≡ count_by (λ b. b) self.now }
+    {
+        let mut count = 0;
+        for i in 0..self.len() {
+            if self.value(i) {
+                count += 1;
+            }
+        }
+        count
+    }
+
+    /// The places of the true bits, ascending, as Vortex's `BitBuffer::set_indices`.
+    #[tactic(auto, using(crate::proofs::Positions::placed))]
+    pub fn set_indices(&self, alloc: Global) -> Result<Vec<usize>, AllocError>
+        ensures { IfOk result (λ places. places.items ≡ positions_of self.now) }
+    {
+        let mut places = Vec::with_capacity(alloc, self.true_count())?;
+        for i in 0..self.len() {
+            if self.value(i) {
+                places.push(i)?;
+            }
+        }
+        Ok(places)
+    }
+
+    /// The contrary of each bit.
+    pub fn not(&self, alloc: Global) -> Result<BitBuffer, AllocError>
+        ensures { IfOk result (λ b. b ≡ map not self.now) }
+    {
+        BitBuffer::collect_bool(alloc, self.len(), |i| !self.value(i))
+    }
+
+    /// The bits at the places, in the order of the places.
+    pub fn gather(&self, alloc: Global, places: &[usize]) -> Result<BitBuffer, AllocError>
+        requires { All (λ i. i < length self.now) places.now }
+        ensures { IfOk result (λ b. b ≡ map (λ i. slice_index_or self.now i false) places.now) }
+    {
+        BitBuffer::collect_bool(alloc, places.len(), |i| self.value(places[i]))
+    }
+
+    /// At each place, whether both have a true bit.
+    pub fn and(&self, alloc: Global, other: &BitBuffer) -> Result<BitBuffer, AllocError>
+        requires { length self.now ≡ length other.now }
+        ensures { IfOk result (λ b. b ≡ map (λ p. p.0 && p.1) (zip self.now other.now)) }
+    {
+        BitBuffer::collect_bool(alloc, self.len(), |i| self.value(i) && other.value(i))
+    }
+
+    /// At each place, whether one of both has a true bit.
+    pub fn or(&self, alloc: Global, other: &BitBuffer) -> Result<BitBuffer, AllocError>
+        requires { length self.now ≡ length other.now }
+        ensures { IfOk result (λ b. b ≡ map (λ p. p.0 || p.1) (zip self.now other.now)) }
+    {
+        BitBuffer::collect_bool(alloc, self.len(), |i| self.value(i) || other.value(i))
+    }
+
+    /// The bits at the places of the range. They are shared and not copied.
+    #[tactic(auto, using(crate::proofs::BitLemmas::bits))]
+    pub fn slice(&self, range: Range<usize>) -> Result<BitBuffer, AllocError>
+        requires order { range.start ≤ range.end }
+        requires within { range.end ≤ length self.now }
+        ensures { IfOk result (λ b. b ≡ slice_range self.now range.start range.end) }
+    {
+        let bytes = self.bytes.clone()?;
+        Ok(BitBuffer {
+            bytes,
+            start: self.start + range.start,
+            len: range.end - range.start,
+        })
+    }
+}
+
+impl Clone for BitBuffer {
+    ghost is_clone = { λ old new. new ≡ old };
+
+    fn clone(&self) -> Result<BitBuffer, AllocError> {
+        let bytes = self.bytes.clone()?;
+        Ok(BitBuffer {
+            bytes,
+            start: self.start,
+            len: self.len,
+        })
+    }
+}

@@ -1,0 +1,220 @@
+//! A shared list of integers of one of eight kinds.
+ghost use Rattle.std.specs.Prelude.{◌≡◌, ◌≢◌, ◌<◌, ◌≤◌, ◌↔◌, [], length, map, pos, slice_index_or, slice_range, IsTrue, IfOk, MatchOption, All};
+ghost use Rattle.vortex_model.specs.Valid.{InRange};
+ghost use Rattle.vortex_dtype_ptype.specs.Numbers.{integral};
+ghost use Rattle.vortex_dtype_ptype.specs.View.{number_kind_of};
+ghost use Rattle.vortex_scalar_value.specs.Numbers.{kind_of_number, integer_of};
+ghost use Rattle.vortex_arrays_buffer.specs.PrimitiveBuffers.{kind_of_numbers, integers_of};
+
+use crate::buffer::Buffer;
+use crate::element::Element;
+use std::alloc::{AllocError, Global};
+use std::ops::Range;
+use vortex_dtype_native::native::NativePType;
+use vortex_dtype_ptype::ptype::PType;
+use vortex_scalar_value::pvalue::PValue;
+
+/// A shared list of integers of one kind. A clone and a part share the items.
+pub enum PrimitiveBuffer {
+    U8(Buffer<u8>),
+    U16(Buffer<u16>),
+    U32(Buffer<u32>),
+    U64(Buffer<u64>),
+    I8(Buffer<i8>),
+    I16(Buffer<i16>),
+    I32(Buffer<i32>),
+    I64(Buffer<i64>),
+}
+
+impl Drop for PrimitiveBuffer {
+    fn drop(self) {
+        match self {
+            PrimitiveBuffer::U8(_items) => {}
+            PrimitiveBuffer::U16(_items) => {}
+            PrimitiveBuffer::U32(_items) => {}
+            PrimitiveBuffer::U64(_items) => {}
+            PrimitiveBuffer::I8(_items) => {}
+            PrimitiveBuffer::I16(_items) => {}
+            PrimitiveBuffer::I32(_items) => {}
+            PrimitiveBuffer::I64(_items) => {}
+        }
+    }
+}
+
+/// The kind of `T` holds each of the numbers. It changes nothing: what calls it is told so.
+#[tactic(auto, using(crate::proofs::NumberLemmas::held))]
+fn are_in_range<T: NativePType>(items: &[T])
+    ensures { All (InRange T.kind) (map T.integer items.now) }
+{
+    for i in 0..items.len() {
+        let _ = items[i].get();
+    }
+}
+
+impl PrimitiveBuffer {
+    /// The numbers of the list.
+    pub fn from_buffer<T: Element>(items: Buffer<T>) -> PrimitiveBuffer
+        ensures kind { kind_of_numbers result ≡ T.kind }
+        ensures numbers { integers_of result ≡ map T.integer items }
+    {
+        T::into_numbers(items)
+    }
+
+    /// The kind.
+    pub fn ptype(&self) -> PType
+        ensures { number_kind_of result ≡ integral (kind_of_numbers self.now) }
+    {
+        match self {
+            PrimitiveBuffer::U8(_) => PType::U8,
+            PrimitiveBuffer::U16(_) => PType::U16,
+            PrimitiveBuffer::U32(_) => PType::U32,
+            PrimitiveBuffer::U64(_) => PType::U64,
+            PrimitiveBuffer::I8(_) => PType::I8,
+            PrimitiveBuffer::I16(_) => PType::I16,
+            PrimitiveBuffer::I32(_) => PType::I32,
+            PrimitiveBuffer::I64(_) => PType::I64,
+        }
+    }
+
+    /// How many numbers there are.
+    pub fn len(&self) -> usize
+        ensures { result ≡ length (integers_of self.now) }
+    {
+        match self {
+            PrimitiveBuffer::U8(items) => items.len(),
+            PrimitiveBuffer::U16(items) => items.len(),
+            PrimitiveBuffer::U32(items) => items.len(),
+            PrimitiveBuffer::U64(items) => items.len(),
+            PrimitiveBuffer::I8(items) => items.len(),
+            PrimitiveBuffer::I16(items) => items.len(),
+            PrimitiveBuffer::I32(items) => items.len(),
+            PrimitiveBuffer::I64(items) => items.len(),
+        }
+    }
+
+    /// Whether there is no number.
+    pub fn is_empty(&self) -> bool
+        ensures { IsTrue result ↔ (integers_of self.now ≡ []) }
+    {
+        self.len() == 0
+    }
+
+    /// The number at a place.
+    pub fn get(&self, i: usize) -> i128
+        requires { i < length (integers_of self.now) }
+        ensures { result ≡ slice_index_or (integers_of self.now) i (pos 0) }
+    {
+        match self {
+            PrimitiveBuffer::U8(items) => i128::from(items.get(i)),
+            PrimitiveBuffer::U16(items) => i128::from(items.get(i)),
+            PrimitiveBuffer::U32(items) => i128::from(items.get(i)),
+            PrimitiveBuffer::U64(items) => i128::from(items.get(i)),
+            PrimitiveBuffer::I8(items) => i128::from(items.get(i)),
+            PrimitiveBuffer::I16(items) => i128::from(items.get(i)),
+            PrimitiveBuffer::I32(items) => i128::from(items.get(i)),
+            PrimitiveBuffer::I64(items) => i128::from(items.get(i)),
+        }
+    }
+
+    /// The number at a place, with its kind.
+    pub fn value(&self, i: usize) -> PValue
+        requires { i < length (integers_of self.now) }
+        ensures kind { kind_of_number result ≡ kind_of_numbers self.now }
+        ensures number { integer_of result ≡ slice_index_or (integers_of self.now) i (pos 0) }
+    {
+        match self {
+            PrimitiveBuffer::U8(items) => PValue::U8(items.get(i)),
+            PrimitiveBuffer::U16(items) => PValue::U16(items.get(i)),
+            PrimitiveBuffer::U32(items) => PValue::U32(items.get(i)),
+            PrimitiveBuffer::U64(items) => PValue::U64(items.get(i)),
+            PrimitiveBuffer::I8(items) => PValue::I8(items.get(i)),
+            PrimitiveBuffer::I16(items) => PValue::I16(items.get(i)),
+            PrimitiveBuffer::I32(items) => PValue::I32(items.get(i)),
+            PrimitiveBuffer::I64(items) => PValue::I64(items.get(i)),
+        }
+    }
+
+    /// The items, and `None` where `T` is of another kind.
+    pub fn as_slice<T: Element>(&self) -> Option<&[T]>
+        ensures { MatchOption result
+            (kind_of_numbers self.now ≢ T.kind)
+            (λ items. (kind_of_numbers self.now ≡ T.kind)
+            × (integers_of self.now ≡ map T.integer items.now)) }
+    {
+        T::items_of(self)
+    }
+
+    /// The kind holds each of the numbers. It changes nothing: what calls it is told so.
+    pub fn is_in_range(&self)
+        ensures { All (InRange (kind_of_numbers self.now)) (integers_of self.now) }
+    {
+        match self {
+            PrimitiveBuffer::U8(items) => are_in_range(items.as_slice()),
+            PrimitiveBuffer::U16(items) => are_in_range(items.as_slice()),
+            PrimitiveBuffer::U32(items) => are_in_range(items.as_slice()),
+            PrimitiveBuffer::U64(items) => are_in_range(items.as_slice()),
+            PrimitiveBuffer::I8(items) => are_in_range(items.as_slice()),
+            PrimitiveBuffer::I16(items) => are_in_range(items.as_slice()),
+            PrimitiveBuffer::I32(items) => are_in_range(items.as_slice()),
+            PrimitiveBuffer::I64(items) => are_in_range(items.as_slice()),
+        }
+    }
+
+    /// The numbers at the places of the range. They are shared and not copied.
+    #[tactic(auto, using(crate::proofs::NumberLemmas::part_of_naturals))]
+    pub fn slice(&self, range: Range<usize>) -> Result<PrimitiveBuffer, AllocError>
+        requires order { range.start ≤ range.end }
+        requires within { range.end ≤ length (integers_of self.now) }
+        ensures kind { IfOk result (λ n. kind_of_numbers n ≡ kind_of_numbers self.now) }
+        ensures numbers { IfOk result
+            (λ n. integers_of n ≡ slice_range (integers_of self.now) range.start range.end) }
+    {
+        match self {
+            PrimitiveBuffer::U8(items) => Ok(PrimitiveBuffer::U8(items.slice(range)?)),
+            PrimitiveBuffer::U16(items) => Ok(PrimitiveBuffer::U16(items.slice(range)?)),
+            PrimitiveBuffer::U32(items) => Ok(PrimitiveBuffer::U32(items.slice(range)?)),
+            PrimitiveBuffer::U64(items) => Ok(PrimitiveBuffer::U64(items.slice(range)?)),
+            PrimitiveBuffer::I8(items) => Ok(PrimitiveBuffer::I8(items.slice(range)?)),
+            PrimitiveBuffer::I16(items) => Ok(PrimitiveBuffer::I16(items.slice(range)?)),
+            PrimitiveBuffer::I32(items) => Ok(PrimitiveBuffer::I32(items.slice(range)?)),
+            PrimitiveBuffer::I64(items) => Ok(PrimitiveBuffer::I64(items.slice(range)?)),
+        }
+    }
+
+    /// The numbers at the places, in the order of the places.
+    pub fn gather(&self, alloc: Global, places: &[usize]) -> Result<PrimitiveBuffer, AllocError>
+        requires { All (λ i. i < length (integers_of self.now)) places.now }
+        ensures kind { IfOk result (λ n. kind_of_numbers n ≡ kind_of_numbers self.now) }
+        ensures numbers { IfOk result
+            (λ n. integers_of n
+            ≡ map (λ i. slice_index_or (integers_of self.now) i (pos 0)) places.now) }
+    {
+        match self {
+            PrimitiveBuffer::U8(items) => Ok(PrimitiveBuffer::U8(items.gather(alloc, places)?)),
+            PrimitiveBuffer::U16(items) => Ok(PrimitiveBuffer::U16(items.gather(alloc, places)?)),
+            PrimitiveBuffer::U32(items) => Ok(PrimitiveBuffer::U32(items.gather(alloc, places)?)),
+            PrimitiveBuffer::U64(items) => Ok(PrimitiveBuffer::U64(items.gather(alloc, places)?)),
+            PrimitiveBuffer::I8(items) => Ok(PrimitiveBuffer::I8(items.gather(alloc, places)?)),
+            PrimitiveBuffer::I16(items) => Ok(PrimitiveBuffer::I16(items.gather(alloc, places)?)),
+            PrimitiveBuffer::I32(items) => Ok(PrimitiveBuffer::I32(items.gather(alloc, places)?)),
+            PrimitiveBuffer::I64(items) => Ok(PrimitiveBuffer::I64(items.gather(alloc, places)?)),
+        }
+    }
+}
+
+impl Clone for PrimitiveBuffer {
+    ghost is_clone = { λ old new. new ≡ old };
+
+    fn clone(&self) -> Result<PrimitiveBuffer, AllocError> {
+        match self {
+            PrimitiveBuffer::U8(items) => Ok(PrimitiveBuffer::U8(items.clone()?)),
+            PrimitiveBuffer::U16(items) => Ok(PrimitiveBuffer::U16(items.clone()?)),
+            PrimitiveBuffer::U32(items) => Ok(PrimitiveBuffer::U32(items.clone()?)),
+            PrimitiveBuffer::U64(items) => Ok(PrimitiveBuffer::U64(items.clone()?)),
+            PrimitiveBuffer::I8(items) => Ok(PrimitiveBuffer::I8(items.clone()?)),
+            PrimitiveBuffer::I16(items) => Ok(PrimitiveBuffer::I16(items.clone()?)),
+            PrimitiveBuffer::I32(items) => Ok(PrimitiveBuffer::I32(items.clone()?)),
+            PrimitiveBuffer::I64(items) => Ok(PrimitiveBuffer::I64(items.clone()?)),
+        }
+    }
+}

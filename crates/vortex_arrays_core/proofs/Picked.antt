@@ -1,0 +1,117 @@
+-- What is picked from an array's parts.
+use Rattle.std.proofs.Common.{◌≡◌, ◌<◌, ◌≤◌, ◌+◌, ◌-◌, ◌*◌, ℕ, Bool, true, false, List, [], ℤ, pos, length, get_or, slice_range, Option, Some, None, refl, sym, ap, subst, ◌∙◌, arith}
+use Rattle.std.proofs.lemmas.Nat.{mul-le}
+use Rattle.vortex_model.specs.LogicalType.{LogicalType, IntKind, integer_type, Nullability, non_nullable, nullable, is_nullable, IsNullable, nullability_of, either_nullable}
+use Rattle.vortex_model.specs.Content.{Content, null, integer}
+use Rattle.vortex_model.specs.Valid.{InRange, IsContent}
+use Rattle.vortex_arrays_model.specs.Layout.{Strings, Layout, bools, numbers, strings, fixed_lists, Valid, required, all_valid, all_null, by_array, len_of, array_type_of, nullability_by, content_at, IsInteger, IsSound, HasLength}
+use Rattle.vortex_arrays_model.specs.Picks.{Picks, PicksValid, PicksSomeValid, position_of, is_valid_some}
+use Rattle.vortex_arrays_model.proofs.ValidRows.{rows_valid}
+use Rattle.vortex_arrays_model.proofs.PicksLemmas.{picks_all, picks_same, picks_bools, picks_numbers, picks_strings, picks_constant, picks_dictionary, picks_fixed_lists_from, picks_list_views_from, picks_records, get_or-part, length-part, All-part}
+use Rattle.vortex_arrays_model.proofs.SomeLemmas.{picks_some_dictionary}
+use Rattle.vortex_arrays_core.specs.Picking.{IsUnsigned}
+
+-- an array is the slice of all of its rows
+pub picks_whole : (a : Layout) (n start : ℕ) → IsSound a → start + n ≤ len_of a → n ≡ len_of a → Picks a a n (λ i. start + i)
+picks_whole a n start s fits all =
+    let p : Picks a a n (λ i. i) = subst (λ m. Picks a a m (λ i. i)) (sym all) (picks_all a s) in
+    picks_same a a n (λ i. i) (λ i. start + i) (λ i l. omega (arith, all)) p
+
+-- so many lists, and so many more
+more_lists : (s n m : ℕ) → (n + m) * s ≡ n * s + m * s
+more_lists s n m = omega arith
+
+elements_of_part : (s start end : ℕ) → start ≤ end → end * s ≡ start * s + (end - start) * s
+elements_of_part s start end order = let e : end ≡ start + (end - start) = omega arith in ap (λ n. n * s) e ∙ more_lists s start (end - start)
+
+-- the elements of neighbouring lists of one size, by where they begin and end
+pub picks_lists_between : (e r : Layout) (s m start end first last : ℕ) (v w : Valid) → start ≤ end → first ≡ start * s → last ≡ end * s → Picks e r (last - first) (λ i. first + i) → PicksValid v w (end - start) (λ i. start + i) → Picks (fixed_lists e s m v) (fixed_lists r s (end - start) w) (end - start) (λ i. start + i)
+picks_lists_between e r s m start end first last v w order begins ends p q =
+    let many : last - first ≡ (end - start) * s = omega (arith, begins, ends, elements_of_part s start end order) in
+    let here : Picks e r (last - first) (λ i. start * s + i) = subst (λ k. Picks e r (last - first) (λ i. k + i)) begins p in
+    picks_fixed_lists_from e r s m start v w (end - start) (subst (λ n. Picks e r n (λ i. start * s + i)) many here) q
+
+-- the first lists have no more elements than all lists
+pub elements_fit : (s n m count : ℕ) → n ≤ m → count ≡ m * s → n * s ≤ count
+elements_fit s n m count h e = subst (λ c. n * s ≤ c) (sym e) (mul-le n s m s h (omega arith))
+
+-- so many neighbouring rows have so many valid ones
+pub parts_fit : {X : Type 0} (xs : List X) (w : Valid) (start end : ℕ) → start ≤ end → end ≤ length xs → HasLength w (end - start) → HasLength w (length (slice_range xs start end))
+parts_fit xs w start end order within h = subst (HasLength w) (sym (length-part xs (end - start) start (omega arith))) h
+
+-- neighbouring rows of each layout
+pub slices_bools : (xs : List Bool) (v w : Valid) (start end : ℕ) → start ≤ end → end ≤ length xs → PicksValid v w (end - start) (λ i. start + i) → Picks (bools xs v) (bools (slice_range xs start end) w) (end - start) (λ i. start + i)
+slices_bools xs v w start end order within p = picks_bools xs (slice_range xs start end) v w (end - start) (λ i. start + i) (length-part xs (end - start) start (omega arith)) (λ i l. get_or-part xs (end - start) start false i l) p
+
+pub slices_numbers : (k : IntKind) (xs : List ℤ) (v w : Valid) (start end : ℕ) → IsSound (numbers k xs v) → start ≤ end → end ≤ length xs → PicksValid v w (end - start) (λ i. start + i) → Picks (numbers k xs v) (numbers k (slice_range xs start end) w) (end - start) (λ i. start + i)
+slices_numbers k xs v w start end s order within p =
+    let inside : start + (end - start) ≤ length xs = omega arith in
+    picks_numbers k xs (slice_range xs start end) v w (end - start) (λ i. start + i) (length-part xs (end - start) start inside) (All-part (InRange k) xs (end - start) start inside s.0) (λ i l. get_or-part xs (end - start) start (pos 0) i l) p
+
+pub slices_strings : (k : Strings) (xs bs : List (List ℕ)) (v w : Valid) (start end : ℕ) → IsSound (strings k xs bs v) → start ≤ end → end ≤ length xs → PicksValid v w (end - start) (λ i. start + i) → Picks (strings k xs bs v) (strings k (slice_range xs start end) bs w) (end - start) (λ i. start + i)
+slices_strings k xs bs v w start end s order within p =
+    picks_strings k xs (slice_range xs start end) bs v w (end - start) (λ i. start + i) s (length-part xs (end - start) start (omega arith)) (λ i l. omega arith) (λ i l. get_or-part xs (end - start) start [] i l) p
+
+pub ruleset picked = (slices_bools, slices_numbers, slices_strings, picks_constant, picks_dictionary, picks_lists_between, picks_list_views_from, picks_records)
+
+pub unsigned_are_integers : (k : LogicalType) → IsUnsigned k → IsInteger k
+unsigned_are_integers (integer_type i n) h = tt
+unsigned_are_integers k h = absurd h
+
+pub ruleset taken = (unsigned_are_integers, picks_some_dictionary)
+
+pub either_second : (m : Nullability) → either_nullable m nullable ≡ nullable
+either_second non_nullable = refl
+either_second nullable = refl
+
+pub either_first : (m n : Nullability) → is_nullable m ≡ true → either_nullable m n ≡ nullable
+either_first non_nullable n e = cc
+either_first nullable n e = refl
+
+pub not_nullable : (m : Nullability) → is_nullable m ≡ false → m ≡ non_nullable
+not_nullable non_nullable e = refl
+not_nullable nullable e = cc
+
+-- an integer that can't be null is a position
+is_position : (k : LogicalType) (c : Content) → IsInteger k → nullability_of k ≡ non_nullable → IsContent k c → is_valid_some required (position_of c) ≡ true
+is_position (integer_type i n) null g e h = absurd (let b : IsNullable non_nullable = subst IsNullable e h in b)
+is_position (integer_type i n) (integer z) g e h = refl
+is_position (integer_type i n) c g e h = absurd h
+is_position k c g e h = absurd g
+
+no_row_valid : (p : Option ℕ) → is_valid_some all_null p ≡ false
+no_row_valid None = refl
+no_row_valid (Some i) = refl
+
+valid_alike : (p : Option ℕ) → is_valid_some all_valid p ≡ is_valid_some required p
+valid_alike None = refl
+valid_alike (Some i) = refl
+
+-- which rows are null at positions, none of which is
+pub taken_required : (c : Layout) → IsSound c → IsInteger (array_type_of c) → nullability_of (array_type_of c) ≡ non_nullable → PicksSomeValid required required (nullability_of (array_type_of c)) (len_of c) (λ i. position_of (content_at c i))
+taken_required c s g e = record {
+  fits = tt;
+  nullability = sym (ap (λ m. either_nullable m non_nullable) e);
+  bits = λ i l. sym (is_position (array_type_of c) (content_at c i) g e (rows_valid c s i l));
+}
+
+pub taken_all_valid : (c : Layout) → IsSound c → IsInteger (array_type_of c) → nullability_of (array_type_of c) ≡ non_nullable → PicksSomeValid all_valid all_valid (nullability_of (array_type_of c)) (len_of c) (λ i. position_of (content_at c i))
+taken_all_valid c s g e = record {
+  fits = tt;
+  nullability = sym (either_second (nullability_of (array_type_of c)));
+  bits = λ i l. let p : is_valid_some required (position_of (content_at c i)) ≡ true = is_position (array_type_of c) (content_at c i) g e (rows_valid c s i l) in sym (valid_alike (position_of (content_at c i)) ∙ p);
+}
+
+-- of a null array each row is null at each position
+pub taken_all_null : (m : Nullability) (n : ℕ) (f : ℕ → Option ℕ) → PicksSomeValid all_null all_null m n f
+taken_all_null m n f = record { fits = tt; nullability = sym (either_second m); bits = λ i l. sym (no_row_valid (f i)) }
+
+-- which rows are null, said for each position
+pub taken_by_array : (v : Valid) (m : Nullability) (n : ℕ) (f : ℕ → Option ℕ) (a : Layout) (bs : List Bool) → either_nullable m (nullability_by v) ≡ nullable → a ≡ bools bs required → length bs ≡ n → ((i : ℕ) → i < n → get_or bs i false ≡ is_valid_some v (f i)) → PicksSomeValid v (by_array a) m n f
+taken_by_array v m n f a bs e made many same = subst (λ b. PicksSomeValid v (by_array b) m n f) (sym made) (record {
+  fits = (tt, many, refl);
+  nullability = sym e;
+  bits = λ i l. same i l;
+})
+
+pub ruleset rows_taken = (either_first, either_second, not_nullable, taken_required, taken_all_valid, taken_all_null)

@@ -1,0 +1,6 @@
+pub mod Faults
+pub mod Filter
+pub mod LayoutFalls
+pub mod LayoutOf
+pub mod Picking
+pub mod RawRows

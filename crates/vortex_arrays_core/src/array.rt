@@ -1,0 +1,205 @@
+//! Arrays.
+ghost use Rattle.std.specs.Prelude.{◌≡◌, ◌==◌, IfOk};
+ghost use Rattle.vortex_dtype_core.specs.View.{type_of};
+ghost use Rattle.vortex_arrays_model.specs.Layout.{len_of, array_type_of, IsSound};
+ghost use Rattle.vortex_arrays_core.specs.LayoutOf.{layout_of, NamesItsFields};
+
+use bytes::Bytes;
+use std::alloc::{AllocError, Global};
+use std::marker::Model;
+use std::rc::Rc;
+use vortex_arrays_buffer::bit_buffer::BitBuffer;
+use vortex_arrays_buffer::buffer::Buffer;
+use vortex_arrays_buffer::primitive_buffer::PrimitiveBuffer;
+use vortex_arrays_view::view::BinaryView;
+use vortex_dtype_core::dtype::DType;
+use vortex_dtype_ptype::field_names::FieldNames;
+use vortex_scalar_core::scalar::Scalar;
+
+/// A column of values of one type, in one of eight layouts, as Vortex's `ArrayRef`. A clone shares
+/// the column.
+///
+/// Clauses see the layout, whose parts always fit together.
+#[cycle(array)]
+#[derive(Drop)]
+pub struct ArrayRef {
+    pub(crate) data: Rc<ArrayData>,
+}
+
+/// A type, and the layout of its values.
+#[cycle(array)]
+#[derive(Drop)]
+pub struct ArrayData {
+    pub(crate) dtype: DType,
+    pub(crate) layout: ArrayLayout,
+}
+
+/// What stands for the values.
+#[cycle(array)]
+pub enum ArrayLayout {
+    /// Truth values.
+    Bool(BitBuffer, Validity),
+    /// Integers of one kind.
+    Primitive(PrimitiveBuffer, Validity),
+    /// Texts or bytes: a view for each value, and the buffers that long values lie in.
+    VarBinView(StringKind, Buffer<BinaryView>, Rc<Vec<Bytes>>, Validity),
+    /// One value, so many times.
+    Constant(Scalar, usize),
+    /// Codes, the values that they name by place, and whether each value is known to be named.
+    Dict(ArrayRef, ArrayRef, bool),
+    /// Lists of one size: the elements of all of them, the size, how many lists there are.
+    FixedSizeList(ArrayRef, u32, usize, Validity),
+    /// Lists of any size: elements, where each list begins, how many elements it has, and whether
+    /// each list is known to begin where the one before ends.
+    ListView(ArrayRef, ArrayRef, ArrayRef, bool, Validity),
+    /// Records: the fields' names, an array for each field, and how many records there are.
+    Struct(Rc<FieldNames>, Vec<ArrayRef>, usize, Validity),
+}
+
+impl Drop for ArrayLayout {
+    #[cycle(drop_array)]
+    fn drop(self) {
+        match self {
+            ArrayLayout::Bool(_bits, _validity) => {}
+            ArrayLayout::Primitive(_items, _validity) => {}
+            ArrayLayout::VarBinView(_, _views, _buffers, _validity) => {}
+            ArrayLayout::Constant(_scalar, _) => {}
+            ArrayLayout::Dict(_codes, _values, _) => {}
+            ArrayLayout::FixedSizeList(_elements, _, _, _validity) => {}
+            ArrayLayout::ListView(_elements, _offsets, _sizes, _, _validity) => {}
+            ArrayLayout::Struct(_names, _fields, _, _validity) => {}
+        }
+    }
+}
+
+/// Which rows of an array are null, as Vortex's `Validity`. A clone shares the array.
+#[cycle(array)]
+pub enum Validity {
+    /// No row can be null.
+    NonNullable,
+    /// No row is null.
+    AllValid,
+    /// Each row is null.
+    AllInvalid,
+    /// The rows where the array is false.
+    Array(ArrayRef),
+}
+
+impl Drop for Validity {
+    #[cycle(drop_array)]
+    fn drop(self) {
+        match self {
+            Validity::NonNullable => {}
+            Validity::AllValid => {}
+            Validity::AllInvalid => {}
+            Validity::Array(_valid) => {}
+        }
+    }
+}
+
+/// What views of sixteen bytes stand for.
+#[derive(Clone, Copy, Debug, PartialEq, Eq)]
+pub enum StringKind {
+    /// Texts.
+    Utf8,
+    /// Bytes.
+    Binary,
+}
+
+impl Model for ArrayRef {
+    ghost use Rattle.std.specs.Prelude.{◌≡◌};
+    ghost use Rattle.vortex_arrays_model.specs.Layout.{Layout, size_of, array_type_of, IsSound};
+    ghost use Rattle.vortex_arrays_model.specs.LayoutCode.{layout_code};
+
+    ghost Value = { Layout };
+
+    ghost coded = { layout_code };
+
+    ghost use Rattle.vortex_dtype_core.specs.View.{type_of};
+    ghost use Rattle.vortex_arrays_core.specs.LayoutOf.{layout_of, NamesItsFields};
+
+    ghost view = { λ a. layout_of a.data.value.layout };
+
+    ghost invariant = { λ a. IsSound (layout_of a.data.value.layout)
+        × (type_of a.data.value.dtype ≡ array_type_of (layout_of a.data.value.layout))
+        × NamesItsFields a.data.value.layout };
+
+    ghost size = { size_of };
+
+    ghost use Rattle.std.proofs.Common.{arith};
+    ghost use Rattle.vortex_arrays_core.specs.LayoutFalls.{depth_le-size};
+
+    ghost size_decreases = { λ a h. omega (arith, depth_le-size a.data.value.layout) };
+}
+
+impl ArrayRef {
+    /// The array of this type and this layout, for a caller that knows that they fit together.
+    pub fn new_unchecked(
+        alloc: Global,
+        dtype: DType,
+        layout: ArrayLayout,
+    ) -> Result<ArrayRef, AllocError>
+        requires sound { IsSound (layout_of layout) }
+        requires dtype { type_of dtype ≡ array_type_of (layout_of layout) }
+        requires named { NamesItsFields layout }
+        ensures { IfOk result (λ array. array ≡ layout_of layout) }
+    {
+        let data = Rc::new(alloc, ArrayData { dtype, layout })?;
+        Ok(ArrayRef { data })
+    }
+
+    /// How many rows there are.
+    pub fn len(&self) -> usize
+        ensures { result ≡ len_of self.now }
+    {
+        match &self.data.layout {
+            ArrayLayout::Bool(bits, _) => bits.len(),
+            ArrayLayout::Primitive(numbers, _) => numbers.len(),
+            ArrayLayout::VarBinView(_, views, _, _) => views.len(),
+            ArrayLayout::Constant(_, len) => *len,
+            ArrayLayout::Dict(codes, _, _) => codes.len(),
+            ArrayLayout::FixedSizeList(_, _, len, _) => *len,
+            ArrayLayout::ListView(_, offsets, _, _, _) => offsets.len(),
+            ArrayLayout::Struct(_, _, len, _) => *len,
+        }
+    }
+
+    /// Whether there is no row.
+    pub fn is_empty(&self) -> bool
+        ensures { result ≡ (len_of self.now == 0) }
+    {
+        self.len() == 0
+    }
+
+    /// The type of the values.
+    pub fn dtype(&self) -> &DType
+        ensures { type_of result.now ≡ array_type_of self.now }
+    {
+        &self.data.dtype
+    }
+
+    /// What stands for the values.
+    pub fn layout(&self) -> &ArrayLayout
+        ensures layout { layout_of result.now ≡ self.now }
+        ensures sound { IsSound (layout_of result.now) }
+        ensures named { NamesItsFields result.now }
+    {
+        &self.data.layout
+    }
+
+    /// Tells a proof that the parts fit together.
+    pub fn is_sound(&self)
+        ensures { IsSound self.now }
+    {
+        let _ = &self.data;
+    }
+}
+
+impl Clone for ArrayRef {
+    ghost is_clone = { λ old new. new ≡ old };
+
+    fn clone(&self) -> Result<ArrayRef, AllocError> {
+        let data = self.data.clone()?;
+        Ok(ArrayRef { data })
+    }
+}

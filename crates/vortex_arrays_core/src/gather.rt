@@ -1,0 +1,210 @@
+//! The rows at positions, in the order of the positions.
+ghost use Rattle.std.specs.Prelude.{◌≡◌, ◌<◌, pos, length, map, slice_index_or, IfOk, All};
+ghost use Rattle.vortex_model.specs.LogicalType.{u64};
+ghost use Rattle.vortex_arrays_model.specs.Layout.{len_of, IsSound, HasLength, HaveLength, bools, numbers, strings, required, by_array};
+ghost use Rattle.vortex_arrays_model.specs.Picks.{Picks, PicksValid, PicksColumns};
+ghost use Rattle.vortex_arrays_model.specs.Parts.{columns_of};
+ghost use Rattle.vortex_arrays_buffer.specs.PrimitiveBuffers.{kind_of_numbers, integers_of};
+ghost use Rattle.vortex_arrays_core.specs.LayoutOf.{valid_of, strings_of};
+
+use crate::array::{ArrayLayout, ArrayRef, StringKind, Validity};
+use bytes::Bytes;
+use std::alloc::{AllocError, Global};
+use std::rc::Rc;
+use vortex_arrays_buffer::bit_buffer::BitBuffer;
+use vortex_arrays_buffer::buffer::Buffer;
+use vortex_arrays_buffer::primitive_buffer::PrimitiveBuffer;
+use vortex_arrays_view::view::BinaryView;
+use vortex_dtype_ptype::field_names::FieldNames;
+
+impl ArrayRef {
+    /// The rows at positions within the array. Children that hold no row of their own are shared.
+    #[cycle(gather)]
+    #[tactic(auto, using(crate::proofs::Gathered::arms))]
+    pub(crate) fn gather(&self, alloc: Global, positions: &[usize]) -> Result<ArrayRef, AllocError>
+        requires { All (λ i. i < len_of self.now) positions.now }
+        ensures { IfOk result
+            (λ r. Picks self.now r (length positions.now) (λ i. slice_index_or positions.now i 0)) }
+    {
+        match &self.data.layout {
+            ArrayLayout::Bool(bits, validity) => gather_bools(alloc, bits, validity, positions),
+            ArrayLayout::Primitive(items, validity) => {
+                gather_numbers(alloc, items, validity, positions)
+            }
+            ArrayLayout::VarBinView(kind, views, buffers, validity) => {
+                gather_strings(alloc, *kind, views, buffers, validity, positions)
+            }
+            ArrayLayout::Constant(scalar, _) => {
+                ArrayRef::of_constant(alloc, scalar.clone()?, positions.len())
+            }
+            ArrayLayout::Dict(codes, values, _) => {
+                let codes = codes.gather(alloc, positions)?;
+                ArrayRef::of_dict(alloc, codes, values.clone()?, false)
+            }
+            ArrayLayout::FixedSizeList(_, _, _, _) => self.named_at(alloc, positions),
+            ArrayLayout::ListView(elements, offsets, sizes, _, validity) => {
+                let validity = validity.gather(alloc, positions, offsets.len())?;
+                let offsets = offsets.gather(alloc, positions)?;
+                let sizes = sizes.gather(alloc, positions)?;
+                ArrayRef::of_list_views(alloc, elements.clone()?, offsets, sizes, false, validity)
+            }
+            ArrayLayout::Struct(names, fields, len, validity) => {
+                let validity = validity.gather(alloc, positions, *len)?;
+                let fields = gather_fields(alloc, names, fields, *len, positions)?;
+                ArrayRef::of_records(alloc, names.clone()?, fields, positions.len(), validity)
+            }
+        }
+    }
+
+    /// A dictionary whose codes are the positions and whose values are this array.
+    fn named_at(&self, alloc: Global, positions: &[usize]) -> Result<ArrayRef, AllocError>
+        requires { All (λ i. i < len_of self.now) positions.now }
+        ensures { IfOk result
+            (λ r. Picks self.now r (length positions.now) (λ i. slice_index_or positions.now i 0)) }
+    {
+        let codes = position_codes(alloc, positions)?;
+        codes.is_sound();
+        self.is_sound();
+        ArrayRef::of_dict(alloc, codes, self.clone()?, false)
+    }
+}
+
+impl Validity {
+    /// Which of the rows at the positions are null, of an array of so many rows.
+    #[tactic(auto, using(crate::proofs::Gathered::valid))]
+    pub(crate) fn gather(
+        &self,
+        alloc: Global,
+        positions: &[usize],
+        len: usize,
+    ) -> Result<Validity, AllocError>
+        requires within { All (λ i. i < len) positions.now }
+        requires fits { HasLength (valid_of self.now) len }
+        ensures { IfOk result
+            (λ w. PicksValid (valid_of self.now) (valid_of w) (length positions.now)
+            (λ i. slice_index_or positions.now i 0)) }
+    {
+        match self {
+            Validity::NonNullable => Ok(Validity::NonNullable),
+            Validity::AllValid => Ok(Validity::AllValid),
+            Validity::AllInvalid => Ok(Validity::AllInvalid),
+            Validity::Array(bits) => Ok(Validity::Array(gather_truths(alloc, bits, positions)?)),
+        }
+    }
+}
+
+/// Whether true stands at each of the positions.
+fn gather_truths(
+    alloc: Global,
+    array: &ArrayRef,
+    positions: &[usize],
+) -> Result<ArrayRef, AllocError>
+    requires { All (λ i. i < len_of array.now) positions.now }
+    ensures { IfOk result (λ r. PicksValid (by_array array.now) (by_array r) (length positions.now)
+        (λ i. slice_index_or positions.now i 0)) }
+{
+    let bits = BitBuffer::collect_bool(alloc, positions.len(), |i| array.truth(positions[i]))?;
+    ArrayRef::of_bools(alloc, bits, Validity::NonNullable)
+}
+
+/// The truth values at the positions.
+#[tactic(auto, using(crate::proofs::Gathered::leaves))]
+fn gather_bools(
+    alloc: Global,
+    bits: &BitBuffer,
+    validity: &Validity,
+    positions: &[usize],
+) -> Result<ArrayRef, AllocError>
+    requires within { All (λ i. i < length bits.now) positions.now }
+    requires sound { IsSound (bools bits.now (valid_of validity.now)) }
+    ensures { IfOk result
+        (λ r. Picks (bools bits.now (valid_of validity.now)) r (length positions.now)
+        (λ i. slice_index_or positions.now i 0)) }
+{
+    let chosen = bits.gather(alloc, positions)?;
+    let validity = validity.gather(alloc, positions, bits.len())?;
+    ArrayRef::of_bools(alloc, chosen, validity)
+}
+
+/// The integers at the positions.
+#[tactic(auto, using(crate::proofs::Gathered::leaves))]
+fn gather_numbers(
+    alloc: Global,
+    items: &PrimitiveBuffer,
+    validity: &Validity,
+    positions: &[usize],
+) -> Result<ArrayRef, AllocError>
+    requires within { All (λ i. i < length (integers_of items.now)) positions.now }
+    requires sound { IsSound (numbers (kind_of_numbers items.now) (integers_of items.now)
+        (valid_of validity.now)) }
+    ensures { IfOk result
+        (λ r. Picks (numbers (kind_of_numbers items.now) (integers_of items.now)
+        (valid_of validity.now)) r
+        (length positions.now) (λ i. slice_index_or positions.now i 0)) }
+{
+    let chosen = items.gather(alloc, positions)?;
+    chosen.is_in_range();
+    let validity = validity.gather(alloc, positions, items.len())?;
+    ArrayRef::of_numbers(alloc, chosen, validity)
+}
+
+/// The texts or bytes at the positions, which lie in the same buffers.
+fn gather_strings(
+    alloc: Global,
+    kind: StringKind,
+    views: &Buffer<BinaryView>,
+    buffers: &Rc<Vec<Bytes>>,
+    validity: &Validity,
+    positions: &[usize],
+) -> Result<ArrayRef, AllocError>
+    requires within { All (λ i. i < length views.now) positions.now }
+    requires sound { IsSound (strings (strings_of kind) views.now buffers.now.value.items
+        (valid_of validity.now)) }
+    ensures { IfOk result
+        (λ r. Picks (strings (strings_of kind) views.now buffers.now.value.items
+        (valid_of validity.now)) r
+        (length positions.now) (λ i. slice_index_or positions.now i 0)) }
+{
+    let buffers = buffers.clone()?;
+    let validity = validity.gather(alloc, positions, views.len())?;
+    let chosen = views.gather(alloc, positions)?;
+    ArrayRef::of_strings(alloc, kind, chosen, buffers, validity)
+}
+
+/// The rows of each field at the positions.
+#[cycle(gather)]
+#[tactic(auto, using(vortex_arrays_model::proofs::PicksLemmas::fields_read))]
+fn gather_fields(
+    alloc: Global,
+    names: &FieldNames,
+    fields: &Vec<ArrayRef>,
+    len: usize,
+    positions: &[usize],
+) -> Result<Vec<ArrayRef>, AllocError>
+    requires within { All (λ i. i < len) positions.now }
+    requires fit { HaveLength (columns_of names.now fields.now.items) len }
+    ensures parts { IfOk result (λ parts. PicksColumns (columns_of names.now fields.now.items)
+        (columns_of names.now parts.items)
+        (length positions.now) (λ i. slice_index_or positions.now i 0)) }
+    ensures count { IfOk result (λ parts. length parts.items ≡ length fields.now.items) }
+{
+    let mut parts = Vec::with_capacity(alloc, fields.len())?;
+    for field in fields {
+        let part = field.gather(alloc, positions)?;
+        parts.push(part)?;
+    }
+    Ok(parts)
+}
+
+/// The positions as codes of a dictionary.
+fn position_codes(alloc: Global, positions: &[usize]) -> Result<ArrayRef, AllocError>
+    ensures { IfOk result (λ codes. codes ≡ numbers u64 (map pos positions.now) required) }
+{
+    let mut codes: Vec<u64> = Vec::with_capacity(alloc, positions.len())?;
+    for position in positions {
+        codes.push(*position as u64)?;
+    }
+    let codes = PrimitiveBuffer::U64(Buffer::from_vec(codes)?);
+    codes.is_in_range();
+    ArrayRef::of_numbers(alloc, codes, Validity::NonNullable)
+}

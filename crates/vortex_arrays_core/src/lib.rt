@@ -1,0 +1,12 @@
+//! Arrays of any layout.
+#![tactic(auto)]
+
+pub mod array;
+pub mod filter;
+mod gather;
+pub mod make;
+pub mod read;
+pub mod scalar;
+pub mod slice;
+pub mod take;
+pub mod validity;

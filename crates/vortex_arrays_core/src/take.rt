@@ -1,0 +1,148 @@
+//! The rows at positions.
+ghost use Rattle.std.specs.Prelude.{◌≡◌, ◌↔◌, IsTrue, IfOk, IfErr};
+ghost use Rattle.vortex_model.specs.LogicalType.{nullable, nullability_of, either_nullable};
+ghost use Rattle.vortex_arrays_model.specs.Layout.{len_of, array_type_of, nullability_by, content_at, IsInteger, IsCode, HasLength};
+ghost use Rattle.vortex_arrays_model.specs.Picks.{PicksSome, PicksSomeValid, position_of, is_valid_some};
+ghost use Rattle.vortex_arrays_core.specs.LayoutOf.{valid_of, integer_content};
+ghost use Rattle.vortex_arrays_core.specs.Picking.{IsUnsigned, IsTakeFault};
+ghost use Rattle.vortex_arrays_model.specs.Parts.{AreWithin};
+
+use crate::array::{ArrayRef, Validity};
+use std::alloc::{AllocError, Global};
+use vortex_arrays_buffer::bit_buffer::BitBuffer;
+use vortex_arrays_buffer::error::ArrayError;
+
+impl ArrayRef {
+    /// Whether the values are integers that are never below zero.
+    pub fn is_unsigned(&self) -> bool
+        ensures { IsTrue result ↔ IsUnsigned (array_type_of self.now) }
+    {
+        match self.dtype().as_ptype_opt() {
+            Some(ptype) => ptype.is_unsigned_int(),
+            None => false,
+        }
+    }
+
+    /// Whether each integer that is not null is a place among so many.
+    pub fn are_within(&self, count: usize) -> bool
+        requires { IsInteger (array_type_of self.now) }
+        ensures { IsTrue result ↔ AreWithin self.now count }
+    {
+        for i in 0..self.len() {
+            if let Some(place) = self.integer(i) {
+                if place < 0 || place >= count as i128 {
+                    return false;
+                }
+            }
+        }
+        true
+    }
+
+    /// The rows at the positions, and null where a position is null, as Vortex's
+    /// `ArrayRef::take`: a dictionary whose codes are the positions. `WrongType` unless the
+    /// positions are unsigned integers, `OutOfRange` where one that is not null is no row.
+    #[tactic(auto, using(crate::proofs::Picked::taken))]
+    pub fn take(&self, alloc: Global, indices: &ArrayRef) -> Result<ArrayRef, ArrayError>
+        ensures made { IfOk result (λ taken. IsUnsigned (array_type_of indices.now)
+            × AreWithin indices.now (len_of self.now)
+            × PicksSome self.now taken (nullability_of (array_type_of indices.now))
+            (len_of indices.now) (λ i. position_of (content_at indices.now i))) }
+        ensures refused { IfErr result (λ e. IsTakeFault e (len_of self.now) indices.now) }
+    {
+        if !indices.is_unsigned() {
+            return Err(ArrayError::WrongType);
+        }
+        if !indices.are_within(self.len()) {
+            return Err(ArrayError::OutOfRange);
+        }
+        indices.is_sound();
+        self.is_sound();
+        let taken = ArrayRef::of_dict(alloc, indices.clone()?, self.clone()?, false)?;
+        Ok(taken)
+    }
+}
+
+impl Validity {
+    /// Which of the rows at the positions are null, for an array of so many rows, as Vortex's
+    /// `Validity::take`: also those whose position is null. Refusals as of `ArrayRef::take`.
+    pub fn take(
+        &self,
+        alloc: Global,
+        indices: &ArrayRef,
+        len: usize,
+    ) -> Result<Validity, ArrayError>
+        requires { HasLength (valid_of self.now) len }
+        ensures made { IfOk result (λ taken. IsUnsigned (array_type_of indices.now)
+            × AreWithin indices.now len
+            × PicksSomeValid (valid_of self.now) (valid_of taken)
+            (nullability_of (array_type_of indices.now)) (len_of indices.now)
+            (λ i. position_of (content_at indices.now i))) }
+        ensures refused { IfErr result (λ e. IsTakeFault e len indices.now) }
+    {
+        if !indices.is_unsigned() {
+            return Err(ArrayError::WrongType);
+        }
+        if !indices.are_within(len) {
+            return Err(ArrayError::OutOfRange);
+        }
+        Ok(self.rows_at(alloc, indices, len)?)
+    }
+
+    /// Which of the rows at the positions are null, for an array of so many rows.
+    #[tactic(auto, using(crate::proofs::Picked::rows_taken))]
+    fn rows_at(&self, alloc: Global, indices: &ArrayRef, len: usize) -> Result<Validity, AllocError>
+        requires kind { IsInteger (array_type_of indices.now) }
+        requires within { AreWithin indices.now len }
+        requires fits { HasLength (valid_of self.now) len }
+        ensures { IfOk result (λ taken. PicksSomeValid (valid_of self.now) (valid_of taken)
+            (nullability_of (array_type_of indices.now)) (len_of indices.now)
+            (λ i. position_of (content_at indices.now i))) }
+    {
+        if indices.dtype().is_nullable() {
+            return self.array_at(alloc, indices, len);
+        }
+        indices.is_sound();
+        match self {
+            Validity::NonNullable => Ok(Validity::NonNullable),
+            Validity::AllValid => Ok(Validity::AllValid),
+            Validity::AllInvalid => Ok(Validity::AllInvalid),
+            Validity::Array(_) => self.array_at(alloc, indices, len),
+        }
+    }
+
+    /// The same by an array, where a row or a position can be null.
+    fn array_at(
+        &self,
+        alloc: Global,
+        indices: &ArrayRef,
+        len: usize,
+    ) -> Result<Validity, AllocError>
+        requires kind { IsInteger (array_type_of indices.now) }
+        requires within { AreWithin indices.now len }
+        requires fits { HasLength (valid_of self.now) len }
+        requires nullable { either_nullable (nullability_of (array_type_of indices.now))
+            (nullability_by (valid_of self.now)) ≡ nullable }
+        ensures { IfOk result (λ taken. PicksSomeValid (valid_of self.now) (valid_of taken)
+            (nullability_of (array_type_of indices.now)) (len_of indices.now)
+            (λ i. position_of (content_at indices.now i))) }
+    {
+        let bits = BitBuffer::collect_bool(alloc, indices.len(), |i| {
+            self.is_valid_at(indices.integer(i), len)
+        })?;
+        let rows = ArrayRef::of_bools(alloc, bits, Validity::NonNullable)?;
+        Ok(Validity::Array(rows))
+    }
+
+    /// Whether the row at the position is not null, for an array of so many rows; at none it is.
+    fn is_valid_at(&self, position: Option<i128>, len: usize) -> bool
+        requires within { IsCode len (integer_content position) }
+        requires fits { HasLength (valid_of self.now) len }
+        ensures { result ≡ is_valid_some (valid_of self.now)
+            (position_of (integer_content position)) }
+    {
+        match position {
+            Some(place) => self.is_valid(place as usize, len),
+            None => false,
+        }
+    }
+}

@@ -1,0 +1,4 @@
+pub mod Checked
+pub mod Leaves
+pub mod Made
+pub mod OptionLemmas

@@ -1,0 +1,6 @@
+pub mod Faults
+pub mod Options
+pub mod Shapes
+pub mod Strings
+pub mod ViewFaults
+pub mod builders

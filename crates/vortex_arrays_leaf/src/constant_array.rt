@@ -1,0 +1,152 @@
+//! One value, so many times.
+ghost use Rattle.std.specs.Prelude.{◌≡◌, ◌==◌, ◌↔◌, IsTrue, IfOk, MatchResult};
+ghost use Rattle.vortex_model.specs.LogicalType.{nullability_of};
+ghost use Rattle.vortex_dtype_ptype.specs.View.{nullability_of_flag};
+ghost use Rattle.vortex_dtype_core.specs.View.{type_of};
+ghost use Rattle.vortex_scalar_core.specs.Scalar.{scalar_type, scalar_raw};
+ghost use Rattle.vortex_arrays_model.specs.Layout.{constant, len_of, array_type_of};
+ghost use Rattle.vortex_arrays_leaf.specs.Shapes.{IsConstant};
+
+use std::alloc::{AllocError, Global};
+use std::marker::Model;
+use vortex_arrays_core::array::{ArrayLayout, ArrayRef};
+use vortex_dtype_core::dtype::DType;
+use vortex_dtype_ptype::nullability::Nullability;
+use vortex_scalar_core::scalar::Scalar;
+
+/// One value, so many times, as Vortex's `ConstantArray`. A clone shares the array.
+#[derive(Drop)]
+pub struct ConstantArray {
+    array: ArrayRef,
+}
+
+impl Model for ConstantArray {
+    ghost use Rattle.vortex_arrays_model.specs.Layout.{Layout};
+    ghost use Rattle.vortex_arrays_model.specs.LayoutCode.{layout_code};
+    ghost use Rattle.vortex_arrays_leaf.specs.Shapes.{IsConstant};
+
+    ghost Value = { Layout };
+
+    ghost coded = { layout_code };
+
+    ghost view = { λ a. a.array };
+
+    ghost invariant = { λ a. IsConstant a.array };
+}
+
+impl ConstantArray {
+    /// An array of so many rows with the value in each, as Vortex's `ConstantArray::new`.
+    pub fn new(alloc: Global, scalar: Scalar, len: usize) -> Result<ConstantArray, AllocError>
+        ensures { IfOk result (λ a. a ≡ constant (scalar_type scalar) (scalar_raw scalar) len) }
+    {
+        let array = ArrayRef::of_constant(alloc, scalar, len)?;
+        Ok(ConstantArray { array })
+    }
+
+    /// The array, where it is one of one value. Else it comes back as it was.
+    pub fn of_array(array: ArrayRef) -> Result<ConstantArray, ArrayRef>
+        ensures { MatchResult result
+            (λ a. (a ≡ array) × IsConstant array)
+            (λ other. (other ≡ array) × (IsConstant array → ⊥)) }
+    {
+        if is_constant(&array) {
+            Ok(ConstantArray { array })
+        } else {
+            Err(array)
+        }
+    }
+
+    /// The array of any layout.
+    pub fn into_array(self) -> ArrayRef
+        ensures array { result ≡ self }
+        ensures layout { IsConstant result }
+    {
+        self.array
+    }
+
+    /// The array of any layout.
+    pub fn as_array(&self) -> &ArrayRef
+        ensures array { result.now ≡ self.now }
+        ensures layout { IsConstant result.now }
+    {
+        &self.array
+    }
+
+    /// How many rows there are.
+    pub fn len(&self) -> usize
+        ensures { result ≡ len_of self.now }
+    {
+        self.array.len()
+    }
+
+    /// Whether there is no row.
+    pub fn is_empty(&self) -> bool
+        ensures { result ≡ (len_of self.now == 0) }
+    {
+        self.array.is_empty()
+    }
+
+    /// The type of the value.
+    pub fn dtype(&self) -> &DType
+        ensures { type_of result.now ≡ array_type_of self.now }
+    {
+        self.array.dtype()
+    }
+
+    /// Whether a row can be null.
+    pub fn nullability(&self) -> Nullability
+        ensures { nullability_of_flag result ≡ nullability_of (array_type_of self.now) }
+    {
+        self.array.dtype().nullability()
+    }
+
+    /// The value.
+    pub fn scalar(&self) -> &Scalar
+        ensures { self.now ≡ constant (scalar_type result.now) (scalar_raw result.now)
+            (len_of self.now) }
+    {
+        match self.array.layout() {
+            ArrayLayout::Constant(scalar, _) => scalar,
+            ArrayLayout::Bool(_, _) => unreachable!(),
+            ArrayLayout::Primitive(_, _) => unreachable!(),
+            ArrayLayout::VarBinView(_, _, _, _) => unreachable!(),
+            ArrayLayout::Dict(_, _, _) => unreachable!(),
+            ArrayLayout::FixedSizeList(_, _, _, _) => unreachable!(),
+            ArrayLayout::ListView(_, _, _, _, _) => unreachable!(),
+            ArrayLayout::Struct(_, _, _, _) => unreachable!(),
+        }
+    }
+
+    /// The value, as Vortex's `ConstantData::into_parts`.
+    pub fn into_parts(self) -> Result<Scalar, AllocError>
+        ensures { IfOk result (λ scalar. self ≡ constant (scalar_type scalar) (scalar_raw scalar)
+            (len_of self)) }
+    {
+        self.scalar().clone()
+    }
+}
+
+impl Clone for ConstantArray {
+    ghost is_clone = { λ old new. new ≡ old };
+
+    fn clone(&self) -> Result<ConstantArray, AllocError> {
+        let array = self.array.clone()?;
+        Ok(ConstantArray { array })
+    }
+}
+
+/// Whether the array is one of one value.
+fn is_constant(array: &ArrayRef) -> bool
+    ensures { IsTrue result ↔ IsConstant array.now }
+{
+    match array.layout() {
+        ArrayLayout::Constant(_, _) => true,
+        ArrayLayout::Bool(_, _) => false,
+        ArrayLayout::Primitive(_, _) => false,
+        ArrayLayout::VarBinView(_, _, _, _) => false,
+        ArrayLayout::Dict(_, _, _) => false,
+        ArrayLayout::FixedSizeList(_, _, _, _) => false,
+        ArrayLayout::ListView(_, _, _, _, _) => false,
+        ArrayLayout::Struct(_, _, _, _) => false,
+    }
+}

@@ -1,0 +1,11 @@
+//! Typed arrays of truth values, of integers, of texts and bytes, and of one value; and leaf arrays
+//! made of values.
+#![tactic(auto)]
+
+pub mod bool_array;
+pub mod builders;
+mod check_views;
+pub mod constant_array;
+pub mod options;
+pub mod primitive_array;
+pub mod view_array;

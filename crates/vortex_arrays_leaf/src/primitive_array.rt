@@ -1,0 +1,282 @@
+//! Integers of one kind.
+ghost use Rattle.std.specs.Prelude.{◌≡◌, ◌≢◌, ◌==◌, ◌↔◌, [], length, map, IsTrue, IfOk, IfErr, MatchOption, MatchResult};
+ghost use Rattle.vortex_model.specs.LogicalType.{nullability_of};
+ghost use Rattle.vortex_dtype_ptype.specs.Numbers.{integral};
+ghost use Rattle.vortex_dtype_ptype.specs.View.{nullability_of_flag, number_kind_of};
+ghost use Rattle.vortex_dtype_core.specs.View.{type_of};
+ghost use Rattle.vortex_arrays_buffer.specs.PrimitiveBuffers.{kind_of_numbers, integers_of};
+ghost use Rattle.vortex_arrays_model.specs.Layout.{numbers, len_of, array_type_of, IsSound, HasLength};
+ghost use Rattle.vortex_arrays_core.specs.Faults.{IsValidityFault};
+ghost use Rattle.vortex_arrays_core.specs.LayoutOf.{valid_of};
+ghost use Rattle.vortex_arrays_leaf.specs.Faults.{IsLeafFault};
+ghost use Rattle.vortex_arrays_leaf.specs.Shapes.{IsNumbers, type_in, integers_in, all_valid_by};
+ghost use Rattle.vortex_arrays_model.specs.Parts.{valid_in};
+
+use std::alloc::{AllocError, Global};
+use std::marker::Model;
+use vortex_arrays_buffer::buffer::Buffer;
+use vortex_arrays_buffer::element::Element;
+use vortex_arrays_buffer::error::ArrayError;
+use vortex_arrays_buffer::primitive_buffer::PrimitiveBuffer;
+use vortex_arrays_core::array::{ArrayLayout, ArrayRef, Validity};
+use vortex_dtype_core::dtype::DType;
+use vortex_dtype_ptype::nullability::Nullability;
+use vortex_dtype_ptype::ptype::PType;
+
+/// Integers of one kind, as Vortex's `PrimitiveArray`. A clone shares the array.
+#[derive(Drop)]
+pub struct PrimitiveArray {
+    array: ArrayRef,
+}
+
+/// What a `PrimitiveArray` is made of, as Vortex's `PrimitiveDataParts`.
+#[derive(Drop)]
+pub struct PrimitiveDataParts {
+    /// An integer for each row. That of a null row means nothing.
+    pub numbers: PrimitiveBuffer,
+    /// Which rows are null.
+    pub validity: Validity,
+}
+
+impl Model for PrimitiveArray {
+    ghost use Rattle.vortex_arrays_model.specs.Layout.{Layout};
+    ghost use Rattle.vortex_arrays_model.specs.LayoutCode.{layout_code};
+    ghost use Rattle.vortex_arrays_leaf.specs.Shapes.{IsNumbers};
+
+    ghost Value = { Layout };
+
+    ghost coded = { layout_code };
+
+    ghost view = { λ a. a.array };
+
+    ghost invariant = { λ a. IsNumbers a.array };
+}
+
+impl PrimitiveArray {
+    /// An array of these integers, as Vortex's `PrimitiveArray::try_new`.
+    ///
+    /// `WrongType` where the validity's array can hold something else than true and false, else
+    /// `LengthMismatch` where it has another length than the integers.
+    #[tactic(auto, using(crate::proofs::Leaves::leaf_fault))]
+    pub fn try_new(
+        alloc: Global,
+        items: PrimitiveBuffer,
+        validity: Validity,
+    ) -> Result<PrimitiveArray, ArrayError>
+        ensures made { IfOk result (λ a. a ≡ numbers (kind_of_numbers items) (integers_of items)
+            (valid_of validity)) }
+        ensures sound { IfOk result (λ a. IsSound a) }
+        ensures refused { IfErr result
+            (λ e. IsLeafFault e (valid_of validity) (length (integers_of items))) }
+    {
+        PrimitiveArray::validate(&items, &validity)?;
+        let array = PrimitiveArray::new_unchecked(alloc, items, validity)?;
+        Ok(array)
+    }
+
+    /// An array of the buffer's integers, for a caller that knows that the validity fits,
+    /// as Vortex's `PrimitiveArray::new`.
+    pub fn new<T: Element>(
+        alloc: Global,
+        items: Buffer<T>,
+        validity: Validity,
+    ) -> Result<PrimitiveArray, AllocError>
+        requires { HasLength (valid_of validity) (length items) }
+        ensures { IfOk result (λ a. a ≡ numbers T.kind (map T.integer items) (valid_of validity)) }
+    {
+        let numbers = PrimitiveBuffer::from_buffer(items);
+        numbers.is_in_range();
+        PrimitiveArray::new_unchecked(alloc, numbers, validity)
+    }
+
+    /// An array of these parts, as Vortex's `PrimitiveArray::new_unchecked`.
+    pub fn new_unchecked(
+        alloc: Global,
+        items: PrimitiveBuffer,
+        validity: Validity,
+    ) -> Result<PrimitiveArray, AllocError>
+        requires { IsSound
+            (numbers (kind_of_numbers items) (integers_of items) (valid_of validity)) }
+        ensures { IfOk result (λ a. a ≡ numbers (kind_of_numbers items) (integers_of items)
+            (valid_of validity)) }
+    {
+        let array = ArrayRef::of_numbers(alloc, items, validity)?;
+        Ok(PrimitiveArray { array })
+    }
+
+    /// An array of no integers, as Vortex's `PrimitiveArray::empty`.
+    pub fn empty<T: Element>(
+        alloc: Global,
+        nullability: Nullability,
+    ) -> Result<PrimitiveArray, AllocError>
+        ensures { IfOk result
+            (λ a. a ≡ numbers T.kind [] (all_valid_by (nullability_of_flag nullability))) }
+    {
+        let items: Buffer<T> = Buffer::empty(alloc)?;
+        PrimitiveArray::new(alloc, items, all_valid(nullability))
+    }
+
+    /// Tests that the parts fit together, as `try_new` does.
+    pub fn validate(items: &PrimitiveBuffer, validity: &Validity) -> Result<(), ArrayError>
+        ensures sound { IfOk result (λ _. IsSound
+            (numbers (kind_of_numbers items.now) (integers_of items.now) (valid_of validity.now))) }
+        ensures refused { IfErr result
+            (λ e. IsValidityFault e (valid_of validity.now) (length (integers_of items.now))) }
+    {
+        items.is_in_range();
+        validity.check_len(items.len())
+    }
+
+    /// The array, where it is one of integers of one kind. Else it comes back as it was.
+    pub fn of_array(array: ArrayRef) -> Result<PrimitiveArray, ArrayRef>
+        ensures { MatchResult result
+            (λ a. (a ≡ array) × IsNumbers array)
+            (λ other. (other ≡ array) × (IsNumbers array → ⊥)) }
+    {
+        if is_primitive(&array) {
+            Ok(PrimitiveArray { array })
+        } else {
+            Err(array)
+        }
+    }
+
+    /// The array of any layout.
+    pub fn into_array(self) -> ArrayRef
+        ensures array { result ≡ self }
+        ensures layout { IsNumbers result }
+    {
+        self.array
+    }
+
+    /// The array of any layout.
+    pub fn as_array(&self) -> &ArrayRef
+        ensures array { result.now ≡ self.now }
+        ensures layout { IsNumbers result.now }
+    {
+        &self.array
+    }
+
+    /// How many rows there are.
+    pub fn len(&self) -> usize
+        ensures { result ≡ len_of self.now }
+    {
+        self.array.len()
+    }
+
+    /// Whether there is no row.
+    pub fn is_empty(&self) -> bool
+        ensures { result ≡ (len_of self.now == 0) }
+    {
+        self.array.is_empty()
+    }
+
+    /// The type of the values.
+    pub fn dtype(&self) -> &DType
+        ensures { type_of result.now ≡ array_type_of self.now }
+    {
+        self.array.dtype()
+    }
+
+    /// Whether a row can be null.
+    pub fn nullability(&self) -> Nullability
+        ensures { nullability_of_flag result ≡ nullability_of (array_type_of self.now) }
+    {
+        self.parts().1.nullability()
+    }
+
+    /// Which rows are null.
+    pub fn validity(&self) -> Result<Validity, AllocError>
+        ensures { IfOk result (λ validity. valid_of validity ≡ valid_in self.now) }
+    {
+        self.parts().1.clone()
+    }
+
+    /// The kind of the integers.
+    pub fn ptype(&self) -> PType
+        ensures { number_kind_of result ≡ integral (type_in self.now) }
+    {
+        self.parts().0.ptype()
+    }
+
+    /// An integer for each row, and `None` where `T` is of another kind. That of a null row
+    /// means nothing.
+    pub fn as_slice<T: Element>(&self) -> Option<&[T]>
+        ensures { MatchOption result
+            (type_in self.now ≢ T.kind)
+            (λ items. (type_in self.now ≡ T.kind)
+            × (integers_in self.now ≡ map T.integer items.now)) }
+    {
+        self.parts().0.as_slice()
+    }
+
+    /// An integer for each row, shared with the array. That of a null row means nothing.
+    pub fn to_numbers(&self) -> Result<PrimitiveBuffer, AllocError>
+        ensures kind { IfOk result (λ items. kind_of_numbers items ≡ type_in self.now) }
+        ensures integers { IfOk result (λ items. integers_of items ≡ integers_in self.now) }
+    {
+        self.parts().0.clone()
+    }
+
+    /// The integers and the validity.
+    pub fn into_data_parts(self) -> Result<PrimitiveDataParts, AllocError>
+        ensures { IfOk result (λ parts. self
+            ≡ numbers (kind_of_numbers parts.numbers) (integers_of parts.numbers)
+            (valid_of parts.validity)) }
+    {
+        let numbers = self.to_numbers()?;
+        let validity = self.validity()?;
+        Ok(PrimitiveDataParts { numbers, validity })
+    }
+
+    /// The integers and the validity, where they lie.
+    fn parts(&self) -> (&PrimitiveBuffer, &Validity)
+        ensures { self.now ≡ numbers (kind_of_numbers result.0.now) (integers_of result.0.now)
+            (valid_of result.1.now) }
+    {
+        match self.array.layout() {
+            ArrayLayout::Primitive(items, validity) => (items, validity),
+            ArrayLayout::Bool(_, _) => unreachable!(),
+            ArrayLayout::VarBinView(_, _, _, _) => unreachable!(),
+            ArrayLayout::Constant(_, _) => unreachable!(),
+            ArrayLayout::Dict(_, _, _) => unreachable!(),
+            ArrayLayout::FixedSizeList(_, _, _, _) => unreachable!(),
+            ArrayLayout::ListView(_, _, _, _, _) => unreachable!(),
+            ArrayLayout::Struct(_, _, _, _) => unreachable!(),
+        }
+    }
+}
+
+impl Clone for PrimitiveArray {
+    ghost is_clone = { λ old new. new ≡ old };
+
+    fn clone(&self) -> Result<PrimitiveArray, AllocError> {
+        let array = self.array.clone()?;
+        Ok(PrimitiveArray { array })
+    }
+}
+
+/// Which rows are null where none is.
+fn all_valid(nullability: Nullability) -> Validity
+    ensures { valid_of result ≡ all_valid_by (nullability_of_flag nullability) }
+{
+    match nullability {
+        Nullability::NonNullable => Validity::NonNullable,
+        Nullability::Nullable => Validity::AllValid,
+    }
+}
+
+/// Whether the array is one of integers of one kind.
+fn is_primitive(array: &ArrayRef) -> bool
+    ensures { IsTrue result ↔ IsNumbers array.now }
+{
+    match array.layout() {
+        ArrayLayout::Primitive(_, _) => true,
+        ArrayLayout::Bool(_, _) => false,
+        ArrayLayout::VarBinView(_, _, _, _) => false,
+        ArrayLayout::Constant(_, _) => false,
+        ArrayLayout::Dict(_, _, _) => false,
+        ArrayLayout::FixedSizeList(_, _, _, _) => false,
+        ArrayLayout::ListView(_, _, _, _, _) => false,
+        ArrayLayout::Struct(_, _, _, _) => false,
+    }
+}

@@ -1,0 +1,4 @@
+pub mod BoundsLemmas
+pub mod CodeLemmas
+pub mod ListLemmas
+pub mod SliceLemmas

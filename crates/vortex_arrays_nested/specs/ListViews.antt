@@ -1,0 +1,35 @@
+-- Lists by an offset and a size each, and what refuses their parts.
+use Rattle.std.specs.Prelude.{◌≡◌, ◌<◌, ℕ}
+use Rattle.vortex_model.specs.LogicalType.{boolean_type, non_nullable}
+use Rattle.vortex_arrays_buffer.specs.declared.error.ArrayError.{ArrayError}
+use Rattle.vortex_arrays_buffer.specs.declared.error.ArrayError.TheVariants as error
+use Rattle.vortex_arrays_model.specs.Layout.{Layout, list_views, Valid, by_array, len_of, array_type_of, content_at, IsOffsets, IsView, HasLength}
+
+abbrev pub IsListViews : Layout → Type 0
+IsListViews (list_views e o s f v) = Unit {0}
+IsListViews a = ⊥
+
+-- nulls are told by truth values, which are never null themselves
+abbrev pub HasTruths : Valid → Type 0
+HasTruths (by_array a) = array_type_of a ≡ boolean_type non_nullable
+HasTruths v = Unit {0}
+
+-- offsets and sizes are integers and never null, and nulls are told by truth values
+abbrev pub AreTyped : Layout → Layout → Valid → Type 0
+AreTyped o s v = IsOffsets (array_type_of o) × IsOffsets (array_type_of s) × HasTruths v
+
+-- there are as many sizes as offsets, and the validity is of as many rows
+abbrev pub AreAsMany : Layout → Layout → Valid → Type 0
+AreAsMany o s v = (len_of s ≡ len_of o) × HasLength v (len_of o)
+
+-- each list lies within so many elements, also a null one
+abbrev pub LieWithin : ℕ → Layout → Layout → Type 0
+LieWithin n o s = (i : ℕ) → i < len_of o → IsView n (content_at o i) (content_at s i)
+
+-- why elements, offsets, sizes and a validity make no lists
+abbrev pub IsListViewFault : ArrayError → Layout → Layout → Layout → Valid → Type 0
+IsListViewFault error.Memory e o s v = Unit {0}
+IsListViewFault error.WrongType e o s v = ¬ AreTyped o s v
+IsListViewFault error.LengthMismatch e o s v = AreTyped o s v × (¬ AreAsMany o s v)
+IsListViewFault error.ViewOutOfRange e o s v = AreTyped o s v × AreAsMany o s v × (¬ LieWithin (len_of e) o s)
+IsListViewFault x e o s v = ⊥

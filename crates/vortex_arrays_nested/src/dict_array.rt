@@ -1,0 +1,260 @@
+//! Values that stand once and are named by codes.
+ghost use Rattle.std.specs.Prelude.{◌≡◌, ◌==◌, ◌↔◌, false, IsTrue, IfOk, IfErr, MatchResult};
+ghost use Rattle.vortex_model.specs.LogicalType.{nullability_of};
+ghost use Rattle.vortex_dtype_ptype.specs.View.{nullability_of_flag};
+ghost use Rattle.vortex_dtype_core.specs.View.{type_of};
+ghost use Rattle.vortex_arrays_model.specs.Layout.{dictionary, len_of, array_type_of, AllNamed, IsInteger, IsSound};
+ghost use Rattle.vortex_arrays_nested.specs.Faults.{IsCodesFault, IsDictFault};
+ghost use Rattle.vortex_arrays_model.specs.Parts.{AreWithin};
+ghost use Rattle.vortex_arrays_nested.specs.Shapes.{IsDictionary, codes_in, values_in, flag_in};
+
+use crate::codes::are_codes;
+use std::alloc::{AllocError, Global};
+use std::marker::Model;
+use vortex_arrays_buffer::error::ArrayError;
+use vortex_arrays_core::array::{ArrayLayout, ArrayRef};
+use vortex_dtype_core::dtype::DType;
+use vortex_dtype_ptype::nullability::Nullability;
+
+/// Codes, and the values that they name by place, as Vortex's `DictArray`. A clone shares the
+/// array.
+///
+/// A null code is a null row, and so is one that names a null.
+#[derive(Drop)]
+pub struct DictArray {
+    array: ArrayRef,
+}
+
+/// What a `DictArray` is made of, as Vortex's `DictParts`.
+#[derive(Drop)]
+pub struct DictParts {
+    /// For each row the place of its value.
+    pub codes: ArrayRef,
+    /// The values.
+    pub values: ArrayRef,
+}
+
+impl Model for DictArray {
+    ghost use Rattle.vortex_arrays_model.specs.Layout.{Layout};
+    ghost use Rattle.vortex_arrays_model.specs.LayoutCode.{layout_code};
+    ghost use Rattle.vortex_arrays_nested.specs.Shapes.{IsDictionary};
+
+    ghost Value = { Layout };
+
+    ghost coded = { layout_code };
+
+    ghost view = { λ a. a.array };
+
+    ghost invariant = { λ a. IsDictionary a.array };
+}
+
+impl DictArray {
+    /// A dictionary of these codes and values, as Vortex's `DictArray::try_new`. It says of no
+    /// value that it is named.
+    ///
+    /// `WrongType` where the codes are no integers, else `CodeOutOfRange` where one that is not
+    /// null names no value.
+    #[tactic(auto, using(crate::proofs::CodeLemmas::dict_fault))]
+    pub fn try_new(
+        alloc: Global,
+        codes: ArrayRef,
+        values: ArrayRef,
+    ) -> Result<DictArray, ArrayError>
+        ensures made { IfOk result (λ a. a ≡ dictionary codes values false) }
+        ensures sound { IfOk result (λ a. IsSound a) }
+        ensures refused { IfErr result (λ e. IsDictFault e codes values) }
+    {
+        DictArray::validate(&codes, &values)?;
+        let array = DictArray::new_unchecked(alloc, codes, values)?;
+        Ok(array)
+    }
+
+    /// A dictionary, for a caller that knows that each code is null or names a value,
+    /// as Vortex's `DictArray::new`.
+    #[tactic(auto, using(crate::proofs::CodeLemmas::unflagged))]
+    pub fn new(alloc: Global, codes: ArrayRef, values: ArrayRef) -> Result<DictArray, AllocError>
+        requires kind { IsInteger (array_type_of codes) }
+        requires named { AreWithin codes (len_of values) }
+        ensures { IfOk result (λ a. a ≡ dictionary codes values false) }
+    {
+        codes.is_sound();
+        values.is_sound();
+        DictArray::new_unchecked(alloc, codes, values)
+    }
+
+    /// A dictionary of these parts, as Vortex's `DictArray::new_unchecked`.
+    pub fn new_unchecked(
+        alloc: Global,
+        codes: ArrayRef,
+        values: ArrayRef,
+    ) -> Result<DictArray, AllocError>
+        requires { IsSound (dictionary codes values false) }
+        ensures { IfOk result (λ a. a ≡ dictionary codes values false) }
+    {
+        let array = ArrayRef::of_dict(alloc, codes, values, false)?;
+        Ok(DictArray { array })
+    }
+
+    /// Tests that the parts fit together, as `try_new` does.
+    #[tactic(auto, using(crate::proofs::CodeLemmas::unflagged))]
+    pub fn validate(codes: &ArrayRef, values: &ArrayRef) -> Result<(), ArrayError>
+        ensures sound { IfOk result (λ _. IsSound (dictionary codes.now values.now false)) }
+        ensures refused { IfErr result (λ e. IsCodesFault e codes.now values.now) }
+    {
+        codes.is_sound();
+        values.is_sound();
+        if !codes.is_integer() {
+            return Err(ArrayError::WrongType);
+        }
+        if !are_codes(codes, values.len()) {
+            return Err(ArrayError::CodeOutOfRange);
+        }
+        Ok(())
+    }
+
+    /// The array, where it is a dictionary. Else it comes back as it was.
+    pub fn of_array(array: ArrayRef) -> Result<DictArray, ArrayRef>
+        ensures { MatchResult result
+            (λ a. (a ≡ array) × IsDictionary array)
+            (λ other. (other ≡ array) × (IsDictionary array → ⊥)) }
+    {
+        if is_dict(&array) {
+            Ok(DictArray { array })
+        } else {
+            Err(array)
+        }
+    }
+
+    /// The array of any layout.
+    pub fn into_array(self) -> ArrayRef
+        ensures array { result ≡ self }
+        ensures layout { IsDictionary result }
+    {
+        self.array
+    }
+
+    /// The array of any layout.
+    pub fn as_array(&self) -> &ArrayRef
+        ensures array { result.now ≡ self.now }
+        ensures layout { IsDictionary result.now }
+    {
+        &self.array
+    }
+
+    /// How many rows there are.
+    pub fn len(&self) -> usize
+        ensures { result ≡ len_of self.now }
+    {
+        self.array.len()
+    }
+
+    /// Whether there is no row.
+    pub fn is_empty(&self) -> bool
+        ensures { result ≡ (len_of self.now == 0) }
+    {
+        self.array.is_empty()
+    }
+
+    /// The type of the rows, which can be null where a code or a value can.
+    pub fn dtype(&self) -> &DType
+        ensures { type_of result.now ≡ array_type_of self.now }
+    {
+        self.array.dtype()
+    }
+
+    /// Whether a row can be null.
+    pub fn nullability(&self) -> Nullability
+        ensures { nullability_of_flag result ≡ nullability_of (array_type_of self.now) }
+    {
+        self.array.dtype().nullability()
+    }
+
+    /// For each row the place of its value.
+    pub fn codes(&self) -> &ArrayRef
+        ensures { result.now ≡ codes_in self.now }
+    {
+        self.parts().0
+    }
+
+    /// The values.
+    pub fn values(&self) -> &ArrayRef
+        ensures { result.now ≡ values_in self.now }
+    {
+        self.parts().1
+    }
+
+    /// Whether each value is known to be named. One that is not known to be may be named all the
+    /// same.
+    pub fn has_all_values_referenced(&self) -> bool
+        ensures { result ≡ flag_in self.now }
+    {
+        self.parts().2
+    }
+
+    /// The same dictionary, which says of its values that each is named, or does not,
+    /// as Vortex's `DictArray::set_all_values_referenced`.
+    pub fn set_all_values_referenced(
+        self,
+        alloc: Global,
+        all_values_referenced: bool,
+    ) -> Result<DictArray, AllocError>
+        requires { IsTrue all_values_referenced → AllNamed (codes_in self) (values_in self) }
+        ensures { IfOk result
+            (λ a. a ≡ dictionary (codes_in self) (values_in self) all_values_referenced) }
+    {
+        self.array.is_sound();
+        let parts = self.into_parts()?;
+        let array = ArrayRef::of_dict(alloc, parts.codes, parts.values, all_values_referenced)?;
+        Ok(DictArray { array })
+    }
+
+    /// The codes and the values.
+    pub fn into_parts(self) -> Result<DictParts, AllocError>
+        ensures { IfOk result (λ parts. self ≡ dictionary parts.codes parts.values (flag_in self)) }
+    {
+        let codes = self.codes().clone()?;
+        let values = self.values().clone()?;
+        Ok(DictParts { codes, values })
+    }
+
+    /// The codes, the values and whether each value is known to be named, where they lie.
+    fn parts(&self) -> (&ArrayRef, &ArrayRef, bool)
+        ensures { self.now ≡ dictionary result.0.now result.1.now result.2 }
+    {
+        match self.array.layout() {
+            ArrayLayout::Dict(codes, values, all_named) => (codes, values, *all_named),
+            ArrayLayout::Bool(_, _) => unreachable!(),
+            ArrayLayout::Primitive(_, _) => unreachable!(),
+            ArrayLayout::VarBinView(_, _, _, _) => unreachable!(),
+            ArrayLayout::Constant(_, _) => unreachable!(),
+            ArrayLayout::FixedSizeList(_, _, _, _) => unreachable!(),
+            ArrayLayout::ListView(_, _, _, _, _) => unreachable!(),
+            ArrayLayout::Struct(_, _, _, _) => unreachable!(),
+        }
+    }
+}
+
+impl Clone for DictArray {
+    ghost is_clone = { λ old new. new ≡ old };
+
+    fn clone(&self) -> Result<DictArray, AllocError> {
+        let array = self.array.clone()?;
+        Ok(DictArray { array })
+    }
+}
+
+/// Whether the array is a dictionary.
+fn is_dict(array: &ArrayRef) -> bool
+    ensures { IsTrue result ↔ IsDictionary array.now }
+{
+    match array.layout() {
+        ArrayLayout::Dict(_, _, _) => true,
+        ArrayLayout::Bool(_, _) => false,
+        ArrayLayout::Primitive(_, _) => false,
+        ArrayLayout::VarBinView(_, _, _, _) => false,
+        ArrayLayout::Constant(_, _) => false,
+        ArrayLayout::FixedSizeList(_, _, _, _) => false,
+        ArrayLayout::ListView(_, _, _, _, _) => false,
+        ArrayLayout::Struct(_, _, _, _) => false,
+    }
+}

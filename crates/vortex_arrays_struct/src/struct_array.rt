@@ -1,0 +1,164 @@
+//! Records with a type of their own.
+ghost use Rattle.std.specs.Prelude.{◌≡◌, ◌==◌, length, IfOk, IfErr, OnOk};
+ghost use Rattle.vortex_dtype_core.specs.View.{type_of};
+ghost use Rattle.vortex_arrays_model.specs.Layout.{
+  IsSound,
+  len_of,
+  array_type_of,
+  records,
+  no_columns,
+  required,
+};
+ghost use Rattle.vortex_arrays_model.specs.Parts.{columns_of};
+ghost use Rattle.vortex_arrays_core.specs.LayoutOf.{valid_of};
+ghost use Rattle.vortex_arrays_struct.specs.Records.{AreRecords};
+ghost use Rattle.vortex_arrays_struct.specs.RecordFaults.{TellsNulls, FitTogether, IsRecordsFault};
+
+use crate::check::validate;
+use std::alloc::{AllocError, Global};
+use std::marker::Model;
+use std::rc::Rc;
+use vortex_arrays_buffer::error::ArrayError;
+use vortex_arrays_core::array::{ArrayLayout, ArrayRef, Validity};
+use vortex_dtype_core::dtype::DType;
+use vortex_dtype_ptype::field_names::FieldNames;
+
+/// Records, with an array for each field, as Vortex's `StructArray`. A clone shares the array.
+#[derive(Drop)]
+pub struct StructArray {
+    pub(crate) array: ArrayRef,
+}
+
+// A clause sees the layout of the array.
+impl Model for StructArray {
+    ghost use Rattle.vortex_arrays_model.specs.Layout.{Layout};
+    ghost use Rattle.vortex_arrays_model.specs.LayoutCode.{layout_code};
+
+    ghost Value = { Layout };
+
+    ghost coded = { layout_code };
+
+    ghost use Rattle.vortex_arrays_struct.specs.Records.{AreRecords};
+
+    ghost view = { λ a. a.array };
+
+    ghost invariant = { λ a. AreRecords a.array };
+}
+
+impl StructArray {
+    /// So many records of these fields. It is refused as by `validate`.
+    pub fn try_new(
+        alloc: Global,
+        names: Rc<FieldNames>,
+        fields: Vec<ArrayRef>,
+        len: usize,
+        validity: Validity,
+    ) -> Result<StructArray, ArrayError>
+        ensures made { IfOk result (λ a. a ≡ records (columns_of names.value fields.items) len
+            (valid_of validity)) }
+        ensures nulls { OnOk result (TellsNulls (valid_of validity)) }
+        ensures fit { OnOk result (FitTogether names.value fields.items len (valid_of validity)) }
+        ensures refused { IfErr result
+            (λ e. IsRecordsFault e names.value fields.items len (valid_of validity)) }
+    {
+        validate(&names, &fields, len, &validity)?;
+        let array = StructArray::new_unchecked(alloc, names, fields, len, validity)?;
+        Ok(array)
+    }
+
+    /// So many records of these fields, for a caller that knows that they fit together.
+    pub fn new_unchecked(
+        alloc: Global,
+        names: Rc<FieldNames>,
+        fields: Vec<ArrayRef>,
+        len: usize,
+        validity: Validity,
+    ) -> Result<StructArray, AllocError>
+        requires named { length names.value ≡ length fields.items }
+        requires sound { IsSound
+            (records (columns_of names.value fields.items) len (valid_of validity)) }
+        ensures { IfOk result (λ a. a ≡ records (columns_of names.value fields.items) len
+            (valid_of validity)) }
+    {
+        let array = ArrayRef::of_records(alloc, names, fields, len, validity)?;
+        Ok(StructArray { array })
+    }
+
+    /// So many records without a field, none of which can be null.
+    pub fn new_fieldless_with_len(alloc: Global, len: usize) -> Result<StructArray, AllocError>
+        ensures { IfOk result (λ a. a ≡ records no_columns len required) }
+    {
+        let names = Rc::new(alloc, FieldNames::empty(alloc))?;
+        let fields = Vec::new(alloc);
+        let array = StructArray::new_unchecked(alloc, names, fields, len, Validity::NonNullable)?;
+        Ok(array)
+    }
+
+    /// The array as one of records. It is given back where its layout is another.
+    pub fn of_array(array: ArrayRef) -> Result<StructArray, ArrayRef>
+        ensures made { IfOk result (λ a. a ≡ array) }
+        ensures records { OnOk result (AreRecords array) }
+        ensures back { IfErr result (λ same. same ≡ array) }
+        ensures others { IfErr result (λ _. ¬ AreRecords array) }
+    {
+        let is_struct = match array.layout() {
+            ArrayLayout::Struct(_, _, _, _) => true,
+            ArrayLayout::Bool(_, _) => false,
+            ArrayLayout::Primitive(_, _) => false,
+            ArrayLayout::VarBinView(_, _, _, _) => false,
+            ArrayLayout::Constant(_, _) => false,
+            ArrayLayout::Dict(_, _, _) => false,
+            ArrayLayout::FixedSizeList(_, _, _, _) => false,
+            ArrayLayout::ListView(_, _, _, _, _) => false,
+        };
+        if is_struct {
+            Ok(StructArray { array })
+        } else {
+            Err(array)
+        }
+    }
+
+    /// The array of any layout that it is.
+    pub fn into_array(self) -> ArrayRef
+        ensures { result ≡ self }
+    {
+        self.array
+    }
+
+    /// The array of any layout that it is.
+    pub fn as_array(&self) -> &ArrayRef
+        ensures { result.now ≡ self.now }
+    {
+        &self.array
+    }
+
+    /// How many records there are.
+    pub fn len(&self) -> usize
+        ensures { result ≡ len_of self.now }
+    {
+        self.array.len()
+    }
+
+    /// Whether there is no record.
+    pub fn is_empty(&self) -> bool
+        ensures { result ≡ (len_of self.now == 0) }
+    {
+        self.len() == 0
+    }
+
+    /// The type of the records.
+    pub fn dtype(&self) -> &DType
+        ensures { type_of result.now ≡ array_type_of self.now }
+    {
+        self.array.dtype()
+    }
+}
+
+impl Clone for StructArray {
+    ghost is_clone = { λ old new. new ≡ old };
+
+    fn clone(&self) -> Result<StructArray, AllocError> {
+        let array = self.array.clone()?;
+        Ok(StructArray { array })
+    }
+}

@@ -1,0 +1,126 @@
+//! Bytes in the fewest buffers, and views of the values.
+ghost use Rattle.std.specs.Prelude.{◌≡◌, ◌≤◌, length, map, sum, All, IfOk, OnOk, IfErr};
+ghost use Rattle.vortex_arrays_view.specs.Lengths.{counts_of, lengths_between, AddUp};
+ghost use Rattle.vortex_arrays_view.specs.Built.{limit_of, IsBuilt, IsPlaceFault, IsLimitFault, IsBuildFault};
+
+use crate::lengths::{counts, counts_between};
+use crate::view::BinaryView;
+use bytes::Bytes;
+use std::alloc::Global;
+use vortex_arrays_buffer::error::ArrayError;
+use vortex_dtype_native::native::NativePType;
+
+/// The most bytes of a buffer that views refer to.
+pub const MAX_BUFFER_LEN: usize = 2_147_483_647;
+
+/// Cuts bytes, in which values of these lengths stand end to end, into the fewest buffers within
+/// the limit, and makes a view of each value, as Vortex's `build_views`. Cuts are where values end,
+/// and the bytes are shared and not copied.
+///
+/// The buffers have indices from the first on. A limit above `MAX_BUFFER_LEN` is `MAX_BUFFER_LEN`.
+///
+/// `LengthMismatch` where a length is below zero or they do not add up to the bytes, and else
+/// `Total` where a value is longer than the limit or the index of a buffer would be past 32 bits.
+pub fn build_views<P: NativePType>(
+    alloc: Global,
+    start_buffer_index: u32,
+    max_buffer_len: usize,
+    bytes: Bytes,
+    lengths: &[P],
+) -> Result<(Vec<Bytes>, Vec<BinaryView>), ArrayError>
+    ensures add_up { OnOk result (AddUp (map P.integer lengths.now) (length bytes)) }
+    ensures built { IfOk result (λ made.
+        IsBuilt bytes (counts_of (map P.integer lengths.now)) start_buffer_index
+        (limit_of max_buffer_len) made.0.items made.1.items) }
+    ensures refused { IfErr result (λ e.
+        IsBuildFault e bytes (map P.integer lengths.now) start_buffer_index
+        (limit_of max_buffer_len)) }
+{
+    let counts = counts(alloc, lengths, bytes.len())?;
+    build_within(alloc, start_buffer_index, max_buffer_len, &bytes, &counts)
+}
+
+/// Buffers and views of values whose lengths are those from each offset to the next, as Vortex's
+/// `build_views_from_offsets`. `LengthMismatch` and `Total` as `build_views` answers them.
+pub fn build_views_from_offsets<P: NativePType>(
+    alloc: Global,
+    start_buffer_index: u32,
+    max_buffer_len: usize,
+    bytes: Bytes,
+    offsets: &[P],
+) -> Result<(Vec<Bytes>, Vec<BinaryView>), ArrayError>
+    ensures add_up { OnOk result
+        (AddUp (lengths_between (map P.integer offsets.now)) (length bytes)) }
+    ensures built { IfOk result (λ made.
+        IsBuilt bytes (counts_of (lengths_between (map P.integer offsets.now))) start_buffer_index
+        (limit_of max_buffer_len) made.0.items made.1.items) }
+    ensures refused { IfErr result (λ e.
+        IsBuildFault e bytes (lengths_between (map P.integer offsets.now)) start_buffer_index
+        (limit_of max_buffer_len)) }
+{
+    let counts = counts_between(alloc, offsets, bytes.len())?;
+    build_within(alloc, start_buffer_index, max_buffer_len, &bytes, &counts)
+}
+
+// Buffers and views of values of these lengths, which add up to the bytes.
+fn build_within(
+    alloc: Global,
+    first: u32,
+    max_buffer_len: usize,
+    bytes: &Bytes,
+    lengths: &[usize],
+) -> Result<(Vec<Bytes>, Vec<BinaryView>), ArrayError>
+    requires { sum lengths.now ≡ length bytes.now }
+    ensures built { IfOk result
+        (λ made. IsBuilt bytes.now lengths.now first (limit_of max_buffer_len) made.0.items
+        made.1.items) }
+    ensures refused { IfErr result
+        (λ e. IsLimitFault e bytes.now lengths.now first (limit_of max_buffer_len)) }
+{
+    let limit = max_buffer_len.min(MAX_BUFFER_LEN);
+    if lengths.iter().any(|&length| length > limit) {
+        return Err(ArrayError::Total);
+    }
+    place_values(alloc, first, limit, bytes, lengths)
+}
+
+/// The bytes in the fewest buffers within the limit, and a view of each of the values.
+fn place_values(
+    alloc: Global,
+    first: u32,
+    limit: usize,
+    bytes: &Bytes,
+    lengths: &[usize],
+) -> Result<(Vec<Bytes>, Vec<BinaryView>), ArrayError>
+    requires limit { limit ≤ 2147483647 }
+    requires within { All (λ count. count ≤ limit) lengths.now }
+    requires whole { sum lengths.now ≡ length bytes.now }
+    ensures built { IfOk result
+        (λ made. IsBuilt bytes.now lengths.now first limit made.0.items made.1.items) }
+    ensures refused { IfErr result (λ e. IsPlaceFault e bytes.now lengths.now first limit) }
+{
+    let all = bytes.as_slice();
+    let mut buffers = Vec::new(alloc);
+    let mut views = Vec::with_capacity(alloc, lengths.len())?;
+    let mut index = first;
+    let mut start = 0;
+    let mut stop = 0;
+    for i in 0..lengths.len() {
+        let end = stop + lengths[i];
+        let value = &all[stop..end];
+        if end > start + limit {
+            let Some(next) = index.checked_add(1) else {
+                return Err(ArrayError::Total);
+            };
+            index = next;
+            buffers.push(bytes.slice(start..stop)?)?;
+            start = stop;
+        }
+        views.push(BinaryView::make_view(value, index, (stop - start) as u32))?;
+        stop = end;
+    }
+    if start < stop {
+        buffers.push(bytes.slice(start..stop)?)?;
+    }
+    Ok((buffers, views))
+}

@@ -1,0 +1,32 @@
+//! Laws of views. Each function's clause is a law.
+ghost use Rattle.vortex_arrays_view.specs.Laws.{InlinedEquality, InlinedOrder, PrefixOrder, ShortViewsAreZeroPadded, ViewsHaveTheirParts, ViewsReadBack};
+
+/// Zero-padded views compare by prefix, tail and size as their values do byte by byte.
+pub fn inlined_views_are_in_order()
+    ensures { InlinedOrder }
+{}
+
+/// Zero-padded views are equal exactly where their values are.
+pub fn inlined_views_are_equal_as_values()
+    ensures { InlinedEquality }
+{}
+
+/// Of two values with unequal words the lower word belongs to the lower value.
+pub fn lower_prefixes_are_of_lower_values()
+    ensures { PrefixOrder }
+{}
+
+/// The view of a short value is zero-padded, and stands for the value.
+pub fn short_views_are_zero_padded()
+    ensures { ShortViewsAreZeroPadded }
+{}
+
+/// The view of a value has the value, beside buffers where it lies.
+pub fn views_read_back()
+    ensures { ViewsReadBack }
+{}
+
+/// The view of a value has the parts of the value.
+pub fn views_have_their_parts()
+    ensures { ViewsHaveTheirParts }
+{}

@@ -1,5 +1,0 @@
-use Rattle.vortex_binary_views.proofs.Ordered.{prefix_order}
-use Rattle.vortex_binary_views.proofs.laws.lower_prefixes_are_of_lower_values.Goals as goal
-
-pub returns : goal.returns
-returns c = prefix_order

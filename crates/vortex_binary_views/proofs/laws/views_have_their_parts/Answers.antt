@@ -1,5 +1,0 @@
-use Rattle.vortex_binary_views.proofs.Made.{views_have_their_parts}
-use Rattle.vortex_binary_views.proofs.laws.views_have_their_parts.Goals as goal
-
-pub returns : goal.returns
-returns c = views_have_their_parts

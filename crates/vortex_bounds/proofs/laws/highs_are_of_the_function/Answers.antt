@@ -1,5 +1,0 @@
-use Rattle.vortex_model.proofs.BoundFunctions.{high_by_function}
-use Rattle.vortex_bounds.proofs.laws.highs_are_of_the_function.Goals as goal
-
-pub returns : goal.returns
-returns c = high_by_function

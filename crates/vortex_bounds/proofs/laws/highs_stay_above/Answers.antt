@@ -1,5 +1,0 @@
-use Rattle.vortex_model.proofs.Bounded.{covered_high}
-use Rattle.vortex_bounds.proofs.laws.highs_stay_above.Goals as goal
-
-pub returns : goal.returns
-returns c = covered_high

@@ -1,5 +1,0 @@
-use Rattle.vortex_bounds.proofs.Unique.{low_same}
-use Rattle.vortex_bounds.proofs.laws.lows_are_unique.Goals as goal
-
-pub returns : goal.returns
-returns c = low_same

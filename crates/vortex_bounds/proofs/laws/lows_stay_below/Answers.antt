@@ -1,5 +1,0 @@
-use Rattle.vortex_model.proofs.Bounded.{covered_low}
-use Rattle.vortex_bounds.proofs.laws.lows_stay_below.Goals as goal
-
-pub returns : goal.returns
-returns c = covered_low

@@ -1,4 +1,0 @@
-pub mod BitLemmas
-pub mod Built
-pub mod Positions
-pub mod Windows

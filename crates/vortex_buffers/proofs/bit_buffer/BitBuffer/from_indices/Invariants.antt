@@ -1,5 +1,0 @@
-use Rattle.vortex_buffers.proofs.Built.{HasPlaces}
-use Rattle.vortex_buffers.proofs.bit_buffer.BitBuffer.from_indices.Given as goal
-
-abbrev pub invariant-loop-i : goal.invariant-loop-i
-invariant-loop-i l = HasPlaces l.bytes.items l.indices l.i l.len

@@ -1,5 +1,0 @@
-use Rattle.vortex_casts.proofs.Compared.{plain_values}
-use Rattle.vortex_casts.proofs.laws.plain_types_have_plain_values.Goals as goal
-
-pub returns : goal.returns
-returns c = plain_values

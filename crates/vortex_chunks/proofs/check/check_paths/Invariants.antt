@@ -1,9 +1,0 @@
-use Rattle.std.proofs.Common.{◌≡◌, drop, map}
-use Rattle.vortex_model.specs.Command.{paths_fault}
-use Rattle.vortex_types.specs.View.{kind_of}
-use Rattle.vortex_paths.specs.View.{steps_of}
-use Rattle.vortex_chunks.proofs.check.check_paths.Given as goal
-
-abbrev pub invariant-loop-index : goal.invariant-loop-index
-invariant-loop-index l =
-    paths_fault l.index (kind_of l.dtype) (map steps_of (drop l.index l.paths)) ≡ paths_fault 0 (kind_of l.dtype) (map steps_of l.paths)

@@ -1,0 +1,16 @@
+use Rattle.std.proofs.Common.{◌≡◌, drop, length}
+use Rattle.vortex_model.specs.LogicalType.{eq_fields, eq_variants}
+use Rattle.vortex_dtype_core.specs.View.{fields_of, variants_of}
+use Rattle.vortex_dtype_core.proofs.eq.+eq_type.Given as goal
+
+abbrev pub invariant-eq_parts-loop-i : goal.invariant-eq_parts-loop-i
+invariant-eq_parts-loop-i l = record {
+  eq_length : length l.xs ≡ length l.ys;
+  left : eq_fields (fields_of (drop l.i l.xs)) (fields_of (drop l.i l.ys)) ≡ eq_fields (fields_of l.xs) (fields_of l.ys);
+}
+
+abbrev pub invariant-eq_choices-loop-i : goal.invariant-eq_choices-loop-i
+invariant-eq_choices-loop-i l = record {
+  eq_length : length l.xs ≡ length l.ys;
+  left : eq_variants (variants_of (drop l.i l.xs)) (variants_of (drop l.i l.ys)) ≡ eq_variants (variants_of l.xs) (variants_of l.ys);
+}

@@ -1,0 +1,156 @@
+use Rattle.std.proofs.Common.{arith, rules, refl, sym, ◌∙◌}
+use Rattle.vortex_dtype_core.proofs.Forms.{bare_apart, of_booleans, of_numbers, of_decimals, of_texts, of_bytes, of_lists, of_fixed_lists, of_maps, of_records, of_unions, of_variants, of_extensions}
+use Rattle.vortex_dtype_core.proofs.Loops.{first_fails, second_fails, both_hold, first_of_three_fails, all_hold, differ, go_on, end, all_bare_fields, one_bare_field, more_bare_fields, all_bare_choices, one_bare_choice, more_bare_choices}
+use Rattle.vortex_dtype_core.proofs.Tests.{tests}
+use Rattle.vortex_dtype_core.proofs.eq_ignore_nullability.+eq_bare.Goals as goal
+
+pub eq_bare-returns-in_default-2 : goal.eq_bare-returns-in_default-2
+eq_bare-returns-in_default-2 t c = bare_apart of_booleans _ _ (_, c.in_default.is-0) (λ h. c.in_default.not-Bool-1 h.0 h.1)
+
+pub eq_bare-returns-in_default-3 : goal.eq_bare-returns-in_default-3
+eq_bare-returns-in_default-3 t c = bare_apart of_numbers _ _ (_, _, c.in_default.is-0) (λ h. c.in_default.not-Primitive-1 h.0 h.1 h.2)
+
+pub eq_bare-returns-in_default-4 : goal.eq_bare-returns-in_default-4
+eq_bare-returns-in_default-4 t c = bare_apart of_decimals _ _ (_, _, c.in_default.is-0) (λ h. c.in_default.not-Decimal-1 h.0 h.1 h.2)
+
+pub eq_bare-returns-in_default-5 : goal.eq_bare-returns-in_default-5
+eq_bare-returns-in_default-5 t c = bare_apart of_texts _ _ (_, c.in_default.is-0) (λ h. c.in_default.not-Utf8-1 h.0 h.1)
+
+pub eq_bare-returns-in_default-6 : goal.eq_bare-returns-in_default-6
+eq_bare-returns-in_default-6 t c = bare_apart of_bytes _ _ (_, c.in_default.is-0) (λ h. c.in_default.not-Binary-1 h.0 h.1)
+
+pub eq_bare-returns-in_default-7 : goal.eq_bare-returns-in_default-7
+eq_bare-returns-in_default-7 t c = bare_apart of_lists _ _ (_, _, c.in_default.is-0) (λ h. c.in_default.not-List-1 h.0 h.1 h.2)
+
+pub eq_bare-returns-in_default-8 : goal.eq_bare-returns-in_default-8
+eq_bare-returns-in_default-8 t c = bare_apart of_fixed_lists _ _ (_, _, _, c.in_default.is-0) (λ h. c.in_default.not-FixedSizeList-1 h.0 h.1 h.2 h.3)
+
+pub eq_bare-returns-in_default-9 : goal.eq_bare-returns-in_default-9
+eq_bare-returns-in_default-9 t c = bare_apart of_maps _ _ (_, _, c.in_default.is-0) (λ h. c.in_default.not-Map-1 h.0 h.1 h.2)
+
+pub eq_bare-returns-in_default-10 : goal.eq_bare-returns-in_default-10
+eq_bare-returns-in_default-10 t c = bare_apart of_records _ _ (_, _, c.in_default.is-0) (λ h. c.in_default.not-Struct-1 h.0 h.1 h.2)
+
+pub eq_bare-returns-in_default-11 : goal.eq_bare-returns-in_default-11
+eq_bare-returns-in_default-11 t c = bare_apart of_unions _ _ (_, _, c.in_default.is-0) (λ h. c.in_default.not-Union-1 h.0 h.1 h.2)
+
+pub eq_bare-returns-in_default-12 : goal.eq_bare-returns-in_default-12
+eq_bare-returns-in_default-12 t c = bare_apart of_variants _ _ (_, c.in_default.is-0) (λ h. c.in_default.not-Variant-1 h.0 h.1)
+
+pub eq_bare-returns-in_default-13 : goal.eq_bare-returns-in_default-13
+eq_bare-returns-in_default-13 t c = bare_apart of_extensions _ _ (_, c.in_default.is-0) (λ h. c.in_default.not-Extension-1 h.0 h.1)
+
+pub eq_bare-returns-in-Primitive-Primitive : goal.eq_bare-returns-in-Primitive-Primitive
+eq_bare-returns-in-Primitive-Primitive t c = grind (arith, tests)
+
+pub eq_bare-returns-in-List-List : goal.eq_bare-returns-in-List-List
+eq_bare-returns-in-List-List t c = grind (arith, tests)
+
+pub eq_bare-returns-then-eq_bare : goal.eq_bare-returns-then-eq_bare
+eq_bare-returns-then-eq_bare t c = grind (arith, tests)
+
+pub eq_bare-returns-else-eq_bare : goal.eq_bare-returns-else-eq_bare
+eq_bare-returns-else-eq_bare t c = grind (arith, tests)
+
+pub eq_bare-returns-in-Struct-Struct : goal.eq_bare-returns-in-Struct-Struct
+eq_bare-returns-in-Struct-Struct t c = grind (arith, tests)
+
+pub eq_bare-returns-in-Union-Union : goal.eq_bare-returns-in-Union-Union
+eq_bare-returns-in-Union-Union t c = grind (arith, tests)
+
+pub eq_bare-returns-else-has_same_name : goal.eq_bare-returns-else-has_same_name
+eq_bare-returns-else-has_same_name t c = grind (arith, tests)
+
+pub eq_bare_choices-returns-then-xs-ys : goal.eq_bare_choices-returns-then-xs-ys
+eq_bare_choices-returns-then-xs-ys t c = grind (arith, tests)
+
+pub eq_bare_choices-loop-i-init : goal.eq_bare_choices-loop-i-init
+eq_bare_choices-loop-i-init t c = grind (arith, tests)
+
+pub eq_bare_choices-offset_bounds-xs-i : goal.eq_bare_choices-offset_bounds-xs-i
+eq_bare_choices-offset_bounds-xs-i t c = grind (arith, tests)
+
+pub eq_bare_choices-bounds-xs-i : goal.eq_bare_choices-bounds-xs-i
+eq_bare_choices-bounds-xs-i t c = grind (arith, tests)
+
+pub eq_bare_choices-offset_bounds-ys-i : goal.eq_bare_choices-offset_bounds-ys-i
+eq_bare_choices-offset_bounds-ys-i t c = grind (arith, tests)
+
+pub eq_bare_choices-bounds-ys-i : goal.eq_bare_choices-bounds-ys-i
+eq_bare_choices-bounds-ys-i t c = grind (arith, tests)
+
+pub eq_bare_choices-loop-i-smaller : goal.eq_bare_choices-loop-i-smaller
+eq_bare_choices-loop-i-smaller t c = grind (arith, tests)
+
+pub eq_bare_parts-returns-then-xs-ys : goal.eq_bare_parts-returns-then-xs-ys
+eq_bare_parts-returns-then-xs-ys t c = grind (arith, tests)
+
+pub eq_bare_parts-loop-i-init : goal.eq_bare_parts-loop-i-init
+eq_bare_parts-loop-i-init t c = grind (arith, tests)
+
+pub eq_bare_parts-offset_bounds-xs-i : goal.eq_bare_parts-offset_bounds-xs-i
+eq_bare_parts-offset_bounds-xs-i t c = grind (arith, tests)
+
+pub eq_bare_parts-bounds-xs-i : goal.eq_bare_parts-bounds-xs-i
+eq_bare_parts-bounds-xs-i t c = grind (arith, tests)
+
+pub eq_bare_parts-offset_bounds-ys-i : goal.eq_bare_parts-offset_bounds-ys-i
+eq_bare_parts-offset_bounds-ys-i t c = grind (arith, tests)
+
+pub eq_bare_parts-bounds-ys-i : goal.eq_bare_parts-bounds-ys-i
+eq_bare_parts-bounds-ys-i t c = grind (arith, tests)
+
+pub eq_bare_parts-loop-i-smaller : goal.eq_bare_parts-loop-i-smaller
+eq_bare_parts-loop-i-smaller t c = grind (arith, tests)
+
+pub eq_bare_parts-returns-then-ne : goal.eq_bare_parts-returns-then-ne
+eq_bare_parts-returns-then-ne t c =
+    differ all_bare_fields one_bare_field refl more_bare_fields c.args.xs.now c.args.ys.now c.loop-i.i
+    c.index-xs-i.result c.index-ys-i.result c.loop-i-test.true c.loop-i.invariant.eq_length c.index-xs-i.is c.index-ys-i.is
+    (first_fails _ _ (sym c.ne.ensures ∙ c.if-ne.true)) c.loop-i.invariant.left
+
+pub eq_bare_parts-returns-then-not-eq_bare : goal.eq_bare_parts-returns-then-not-eq_bare
+eq_bare_parts-returns-then-not-eq_bare t c =
+    differ all_bare_fields one_bare_field refl more_bare_fields c.args.xs.now c.args.ys.now c.loop-i.i
+    c.index-xs-i.result c.index-ys-i.result c.loop-i-test.true c.loop-i.invariant.eq_length c.index-xs-i.is c.index-ys-i.is
+    (second_fails _ _ (sym c.eq_bare.ensures ∙ c.if-not-eq_bare.true)) c.loop-i.invariant.left
+
+pub eq_bare_parts-loop-i-preserved : goal.eq_bare_parts-loop-i-preserved
+eq_bare_parts-loop-i-preserved t c = record {
+  eq_length = c.loop-i.invariant.eq_length;
+  left =
+      go_on all_bare_fields one_bare_field refl more_bare_fields c.args.xs.now c.args.ys.now c.loop-i.i
+      c.index-xs-i.result c.index-ys-i.result c.loop-i-test.true c.loop-i.invariant.eq_length c.index-xs-i.is c.index-ys-i.is
+      (both_hold _ _ (sym c.ne.ensures ∙ c.if-ne.false) (sym c.eq_bare.ensures ∙ c.if-not-eq_bare.false)) c.loop-i.invariant.left;
+}
+
+pub eq_bare_parts-returns : goal.eq_bare_parts-returns
+eq_bare_parts-returns t c =
+    end all_bare_fields one_bare_field refl more_bare_fields c.args.xs.now c.args.ys.now c.loop-i.i
+    c.loop-i-test.false c.loop-i.invariant.eq_length c.loop-i.invariant.left
+
+pub eq_bare_choices-returns-then-ne : goal.eq_bare_choices-returns-then-ne
+eq_bare_choices-returns-then-ne t c =
+    differ all_bare_choices one_bare_choice refl more_bare_choices c.args.xs.now c.args.ys.now c.loop-i.i
+    c.index-xs-i.result c.index-ys-i.result c.loop-i-test.true c.loop-i.invariant.eq_length c.index-xs-i.is c.index-ys-i.is
+    (first_of_three_fails _ _ _ (sym c.ne.ensures ∙ c.if-ne.true)) c.loop-i.invariant.left
+
+pub eq_bare_choices-returns-then-not-eq_bare : goal.eq_bare_choices-returns-then-not-eq_bare
+eq_bare_choices-returns-then-not-eq_bare t c =
+    differ all_bare_choices one_bare_choice refl more_bare_choices c.args.xs.now c.args.ys.now c.loop-i.i
+    c.index-xs-i.result c.index-ys-i.result c.loop-i-test.true c.loop-i.invariant.eq_length c.index-xs-i.is c.index-ys-i.is
+    (second_fails _ _ (sym c.eq_bare.ensures ∙ c.if-not-eq_bare.true)) c.loop-i.invariant.left
+
+pub eq_bare_choices-loop-i-preserved : goal.eq_bare_choices-loop-i-preserved
+eq_bare_choices-loop-i-preserved t c = record {
+  eq_length = c.loop-i.invariant.eq_length;
+  left =
+      go_on all_bare_choices one_bare_choice refl more_bare_choices c.args.xs.now c.args.ys.now c.loop-i.i
+      c.index-xs-i.result c.index-ys-i.result c.loop-i-test.true c.loop-i.invariant.eq_length c.index-xs-i.is c.index-ys-i.is
+      (all_hold _ _ _ (sym c.ne.ensures ∙ c.if-ne.false) (search rules) (sym c.eq_bare.ensures ∙ c.if-not-eq_bare.false)) c.loop-i.invariant.left;
+}
+
+pub eq_bare_choices-returns : goal.eq_bare_choices-returns
+eq_bare_choices-returns t c =
+    end all_bare_choices one_bare_choice refl more_bare_choices c.args.xs.now c.args.ys.now c.loop-i.i
+    c.loop-i-test.false c.loop-i.invariant.eq_length c.loop-i.invariant.left

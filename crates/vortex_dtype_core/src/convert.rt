@@ -1,0 +1,53 @@
+//! Types from kinds of numbers, and back.
+ghost use Rattle.std.specs.Prelude.{◌≡◌, option_map, IfErr};
+ghost use Rattle.std.specs.Result.{result_ok};
+ghost use Rattle.vortex_model.specs.LogicalType.{integer_type, non_nullable, u8};
+ghost use Rattle.vortex_dtype_ptype.specs.Numbers.{type_of_numbers};
+ghost use Rattle.vortex_dtype_ptype.specs.View.{number_kind_of};
+ghost use Rattle.vortex_dtype_ptype.specs.declared.error.DTypeError.TheVariants.{Malformed};
+ghost use Rattle.vortex_dtype_core.specs.View.{type_of};
+ghost use Rattle.vortex_dtype_core.specs.Parts.{numbers_in_type};
+
+use crate::dtype::DType;
+use vortex_dtype_ptype::error::DTypeError;
+use vortex_dtype_ptype::nullability::Nullability;
+use vortex_dtype_ptype::ptype::PType;
+
+impl DType {
+    /// Single bytes without null.
+    pub const BYTES: DType = DType::Primitive(PType::U8, Nullability::NonNullable);
+
+    /// `BYTES`, of which no clause can speak by its name.
+    #[tactic(auto, using(crate::proofs::Views::one_level))]
+    pub fn bytes() -> DType
+        ensures { type_of result ≡ integer_type u8 non_nullable }
+    {
+        DType::BYTES
+    }
+}
+
+/// Numbers of the kind, without null.
+impl From<PType> for DType {
+    ghost from_gives = { λ ptype dtype. type_of dtype
+        ≡ type_of_numbers (number_kind_of ptype) non_nullable };
+
+    #[tactic(auto, using(crate::proofs::Views::one_level))]
+    fn from(ptype: PType) -> DType {
+        DType::Primitive(ptype, Nullability::NonNullable)
+    }
+}
+
+/// The kind of the type's numbers. `Malformed` where the values are no numbers.
+impl TryFrom<&DType> for PType {
+    type Error = DTypeError;
+
+    ghost try_from_gives = { λ dtype result. (option_map number_kind_of (result_ok result)
+        ≡ numbers_in_type (type_of dtype.now)) × IfErr result (λ e. e ≡ Malformed) };
+
+    fn try_from(dtype: &DType) -> Result<PType, DTypeError> {
+        match dtype.as_ptype_opt() {
+            Some(ptype) => Ok(ptype),
+            None => Err(DTypeError::Malformed),
+        }
+    }
+}

@@ -1,0 +1,145 @@
+//! Types with a meaning of their own over another type's values.
+ghost use Rattle.std.specs.Prelude.{◌≡◌, ◌&&◌, IfOk, IsTrue};
+ghost use Rattle.std.specs.Str.{bytes_eq};
+ghost use Rattle.vortex_model.specs.LogicalType.{extension, nullability_of, is_nullable, with_nullability, non_nullable};
+ghost use Rattle.vortex_dtype_ptype.specs.View.{nullability_of_flag};
+ghost use Rattle.vortex_dtype_core.specs.View.{type_of, extension_type};
+ghost use Rattle.vortex_dtype_core.specs.Parts.{id_of, metadata_of, storage_of, can_be_nonnullable};
+
+use crate::dtype::DType;
+use crate::{BufferString, ByteBuffer};
+use std::alloc::{AllocError, Global};
+use std::rc::Rc;
+use vortex_dtype_ptype::nullability::Nullability;
+
+/// An extension type, as Vortex's `ExtDTypeRef`. A clone copies nothing.
+#[derive(Drop)]
+#[cycle(dtype)]
+pub struct ExtDTypeRef {
+    alloc: Global,
+    id: BufferString,
+    metadata: ByteBuffer,
+    pub(crate) storage: Rc<DType>,
+}
+
+impl ExtDTypeRef {
+    /// The extension of this id and metadata, over the values of `storage`.
+    #[tactic(auto, using(crate::proofs::Views::one_level))]
+    pub fn new(
+        alloc: Global,
+        id: BufferString,
+        metadata: ByteBuffer,
+        storage: DType,
+    ) -> Result<ExtDTypeRef, AllocError>
+        ensures { IfOk result (λ made. extension_type made
+            ≡ extension id metadata (type_of storage)) }
+    {
+        let storage = Rc::new(alloc, storage)?;
+        Ok(ExtDTypeRef {
+            alloc,
+            id,
+            metadata,
+            storage,
+        })
+    }
+
+    /// What the extension is called.
+    #[tactic(auto, using(crate::proofs::Views::one_level))]
+    pub fn id(&self) -> &BufferString
+        ensures { result.now ≡ id_of (extension_type self.now) }
+    {
+        &self.id
+    }
+
+    /// The bytes that tell extensions of one id apart.
+    #[tactic(auto, using(crate::proofs::Views::one_level))]
+    pub fn serialize_metadata(&self) -> &ByteBuffer
+        ensures { result.now ≡ metadata_of (extension_type self.now) }
+    {
+        &self.metadata
+    }
+
+    /// The type whose values the extension has.
+    #[tactic(auto, using(crate::proofs::Views::one_level))]
+    pub fn storage_dtype(&self) -> &DType
+        ensures { type_of result.now ≡ storage_of (extension_type self.now) }
+    {
+        &self.storage
+    }
+
+    /// Whether null is a value, which it is where the storage has it.
+    #[tactic(auto, using(crate::proofs::Views::one_level))]
+    pub fn nullability(&self) -> Nullability
+        ensures { nullability_of_flag result ≡ nullability_of (extension_type self.now) }
+    {
+        self.storage.nullability()
+    }
+
+    /// Whether null is a value.
+    pub fn is_nullable(&self) -> bool
+        ensures { result ≡ is_nullable (nullability_of (extension_type self.now)) }
+    {
+        self.nullability().is_nullable()
+    }
+
+    /// The extension with this nullability of its storage.
+    #[tactic(auto, using(crate::proofs::Views::nullabilities))]
+    pub fn with_nullability(&self, nullability: Nullability) -> Result<ExtDTypeRef, AllocError>
+        requires { nullability_of_flag nullability ≡ non_nullable
+            → IsTrue (can_be_nonnullable (extension_type self.now)) }
+        ensures kind { IfOk result (λ made. extension_type made
+            ≡ with_nullability (nullability_of_flag nullability) (extension_type self.now)) }
+        ensures outer { IfOk result (λ made. nullability_of (extension_type made)
+            ≡ nullability_of_flag nullability) }
+    {
+        let storage = self.storage.with_nullability(nullability)?;
+        let all = self.with_storage(storage)?;
+        Ok(all)
+    }
+
+    /// Whether the other has this id and metadata.
+    #[tactic(auto, using(crate::proofs::Views::one_level))]
+    pub(crate) fn has_same_name(&self, other: &ExtDTypeRef) -> bool
+        ensures { result ≡ bytes_eq (id_of (extension_type self.now))
+            (id_of (extension_type other.now))
+            && bytes_eq (metadata_of (extension_type self.now))
+            (metadata_of (extension_type other.now)) }
+    {
+        self.id == other.id && self.metadata == other.metadata
+    }
+
+    /// The extension of the same id and metadata over other values.
+    #[tactic(auto, using(crate::proofs::Views::one_level))]
+    pub(crate) fn with_storage(&self, storage: DType) -> Result<ExtDTypeRef, AllocError>
+        ensures { IfOk result (λ made. extension_type made
+            ≡ extension (id_of (extension_type self.now)) (metadata_of (extension_type self.now))
+            (type_of storage)) }
+    {
+        let id = self.id.clone()?;
+        let metadata = self.metadata.clone()?;
+        let storage = Rc::new(self.alloc, storage)?;
+        Ok(ExtDTypeRef {
+            alloc: self.alloc,
+            id,
+            metadata,
+            storage,
+        })
+    }
+}
+
+impl Clone for ExtDTypeRef {
+    ghost is_clone = { λ old new. extension_type new ≡ extension_type old };
+
+    #[tactic(auto, using(crate::proofs::Views::one_level))]
+    fn clone(&self) -> Result<ExtDTypeRef, AllocError> {
+        let id = self.id.clone()?;
+        let metadata = self.metadata.clone()?;
+        let storage = self.storage.clone()?;
+        Ok(ExtDTypeRef {
+            alloc: self.alloc,
+            id,
+            metadata,
+            storage,
+        })
+    }
+}

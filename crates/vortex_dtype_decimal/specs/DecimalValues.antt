@@ -1,0 +1,39 @@
+-- The integers that store decimals.
+use Rattle.std.specs.Prelude.{ℕ, ℤ, ◌-◌, ◌^◌, ◌≤◌, ◌&&◌, nat_le, Bool, List, codes}
+use Rattle.vortex_dtype_ptype.specs.Numbers.{is_decimal_shape}
+use Rattle.vortex_dtype_decimal.specs.declared.decimal_type.DecimalType.{DecimalType}
+use Rattle.vortex_dtype_decimal.specs.declared.decimal_type.DecimalType.TheVariants as stored
+
+-- how many bits a value takes, one of them its sign
+abbrev pub bits_of : DecimalType → ℕ
+bits_of stored.I8 = 8
+bits_of stored.I16 = 16
+bits_of stored.I32 = 32
+bits_of stored.I64 = 64
+bits_of stored.I128 = 128
+bits_of stored.I256 = 256
+
+abbrev pub greatest_value : DecimalType → ℕ
+greatest_value t = 2 ^ (bits_of t - 1) - 1
+
+-- the type has each number of so many digits
+abbrev pub HoldsDigits : ℕ → DecimalType → Type 0
+HoldsDigits digits t = 10 ^ digits - 1 ≤ greatest_value t
+
+-- the first type that has each number of so many digits
+pub record IsSmallest (digits : ℕ) (t : DecimalType) : Type 0 where
+  pub holds : HoldsDigits digits t
+  pub first : (u : DecimalType) → HoldsDigits digits u → bits_of t ≤ bits_of u
+
+-- the shape of decimals of which the type has each
+abbrev pub is_held_shape : DecimalType → ℕ → ℤ → Bool
+is_held_shape t precision scale = is_decimal_shape precision scale && nat_le (10 ^ precision - 1) (greatest_value t)
+
+-- the name in lower case
+abbrev pub name_of_type : DecimalType → List ℕ
+name_of_type stored.I8 = codes "i8"
+name_of_type stored.I16 = codes "i16"
+name_of_type stored.I32 = codes "i32"
+name_of_type stored.I64 = codes "i64"
+name_of_type stored.I128 = codes "i128"
+name_of_type stored.I256 = codes "i256"

@@ -1,0 +1,233 @@
+//! The machine's integers as values of decimals.
+ghost use Rattle.std.specs.Prelude.{◌≡◌, ◌≤◌, ℤ};
+ghost use Rattle.std.proofs.Common.{lit≤};
+ghost use Rattle.vortex_dtype_decimal.specs.declared.decimal_type.DecimalType.{DecimalType};
+ghost use Rattle.vortex_dtype_decimal.specs.declared.decimal_type.DecimalType.TheVariants.{I8, I16, I32, I64, I128};
+ghost use Rattle.vortex_dtype_decimal.specs.DecimalValues.{bits_of};
+
+use crate::decimal_type::DecimalType;
+
+/// An integer of the machine that stores decimals, as Vortex's `NativeDecimalType`.
+pub trait NativeDecimalType: Copy + Drop {
+    // The integers that it is one of.
+    ghost stored: { DecimalType };
+
+    // The number.
+    ghost integer: { Self → ℤ };
+
+    /// The integers that it is one of.
+    fn decimal_type() -> DecimalType
+        ensures { result ≡ stored };
+
+    /// The number.
+    fn to_i128(self) -> i128
+        ensures { result ≡ integer self };
+
+    /// What is made of values of this type.
+    fn downcast<V: DecimalTypeDowncast>(visitor: V) -> V::Output
+        requires { V.can_downcast stored visitor }
+        ensures { V.downcast_gives stored visitor result };
+
+    /// What is made from values of this type.
+    fn upcast<V: DecimalTypeUpcast>(input: V::Input) -> V
+        requires { V.can_upcast stored input }
+        ensures { V.upcast_gives stored input result };
+
+    // Wider values are names alone.
+    ghost narrow: { bits_of stored ≤ 128 };
+}
+
+/// What holds values of one of the types, as Vortex's `DecimalTypeDowncast`, and can be taken as
+/// just that one.
+pub trait DecimalTypeDowncast: Sized {
+    /// What it is then, whichever type was asked for.
+    type Output;
+
+    // Whether it holds values of the type.
+    ghost can_downcast: { DecimalType → Self → Type 0 };
+
+    // What it is, taken as one of the type.
+    ghost downcast_gives: { DecimalType → Self → Self.Output → Type 0 };
+
+    /// What it is, taken as one of `i8`.
+    fn into_i8(self) -> Self::Output
+        requires { can_downcast I8 self }
+        ensures { downcast_gives I8 self result };
+
+    /// What it is, taken as one of `i16`.
+    fn into_i16(self) -> Self::Output
+        requires { can_downcast I16 self }
+        ensures { downcast_gives I16 self result };
+
+    /// What it is, taken as one of `i32`.
+    fn into_i32(self) -> Self::Output
+        requires { can_downcast I32 self }
+        ensures { downcast_gives I32 self result };
+
+    /// What it is, taken as one of `i64`.
+    fn into_i64(self) -> Self::Output
+        requires { can_downcast I64 self }
+        ensures { downcast_gives I64 self result };
+
+    /// What it is, taken as one of `i128`.
+    fn into_i128(self) -> Self::Output
+        requires { can_downcast I128 self }
+        ensures { downcast_gives I128 self result };
+}
+
+/// What is made from values of any of the types, as Vortex's `DecimalTypeUpcast`.
+pub trait DecimalTypeUpcast: Sized {
+    /// What it is made from, whichever type that is of.
+    type Input;
+
+    // Whether the input is one of the type.
+    ghost can_upcast: { DecimalType → Self.Input → Type 0 };
+
+    // What is made from an input of the type.
+    ghost upcast_gives: { DecimalType → Self.Input → Self → Type 0 };
+
+    /// What is made from one of `i8`.
+    fn from_i8(input: Self::Input) -> Self
+        requires { can_upcast I8 input }
+        ensures { upcast_gives I8 input result };
+
+    /// What is made from one of `i16`.
+    fn from_i16(input: Self::Input) -> Self
+        requires { can_upcast I16 input }
+        ensures { upcast_gives I16 input result };
+
+    /// What is made from one of `i32`.
+    fn from_i32(input: Self::Input) -> Self
+        requires { can_upcast I32 input }
+        ensures { upcast_gives I32 input result };
+
+    /// What is made from one of `i64`.
+    fn from_i64(input: Self::Input) -> Self
+        requires { can_upcast I64 input }
+        ensures { upcast_gives I64 input result };
+
+    /// What is made from one of `i128`.
+    fn from_i128(input: Self::Input) -> Self
+        requires { can_upcast I128 input }
+        ensures { upcast_gives I128 input result };
+}
+
+impl NativeDecimalType for i8 {
+    ghost stored = { I8 };
+
+    ghost integer = { λ number. number };
+
+    ghost narrow = { lit≤ tt };
+
+    fn decimal_type() -> DecimalType {
+        DecimalType::I8
+    }
+
+    fn to_i128(self) -> i128 {
+        i128::from(self)
+    }
+
+    fn downcast<V: DecimalTypeDowncast>(visitor: V) -> V::Output {
+        visitor.into_i8()
+    }
+
+    fn upcast<V: DecimalTypeUpcast>(input: V::Input) -> V {
+        V::from_i8(input)
+    }
+}
+
+impl NativeDecimalType for i16 {
+    ghost stored = { I16 };
+
+    ghost integer = { λ number. number };
+
+    ghost narrow = { lit≤ tt };
+
+    fn decimal_type() -> DecimalType {
+        DecimalType::I16
+    }
+
+    fn to_i128(self) -> i128 {
+        i128::from(self)
+    }
+
+    fn downcast<V: DecimalTypeDowncast>(visitor: V) -> V::Output {
+        visitor.into_i16()
+    }
+
+    fn upcast<V: DecimalTypeUpcast>(input: V::Input) -> V {
+        V::from_i16(input)
+    }
+}
+
+impl NativeDecimalType for i32 {
+    ghost stored = { I32 };
+
+    ghost integer = { λ number. number };
+
+    ghost narrow = { lit≤ tt };
+
+    fn decimal_type() -> DecimalType {
+        DecimalType::I32
+    }
+
+    fn to_i128(self) -> i128 {
+        i128::from(self)
+    }
+
+    fn downcast<V: DecimalTypeDowncast>(visitor: V) -> V::Output {
+        visitor.into_i32()
+    }
+
+    fn upcast<V: DecimalTypeUpcast>(input: V::Input) -> V {
+        V::from_i32(input)
+    }
+}
+
+impl NativeDecimalType for i64 {
+    ghost stored = { I64 };
+
+    ghost integer = { λ number. number };
+
+    ghost narrow = { lit≤ tt };
+
+    fn decimal_type() -> DecimalType {
+        DecimalType::I64
+    }
+
+    fn to_i128(self) -> i128 {
+        i128::from(self)
+    }
+
+    fn downcast<V: DecimalTypeDowncast>(visitor: V) -> V::Output {
+        visitor.into_i64()
+    }
+
+    fn upcast<V: DecimalTypeUpcast>(input: V::Input) -> V {
+        V::from_i64(input)
+    }
+}
+
+impl NativeDecimalType for i128 {
+    ghost stored = { I128 };
+
+    ghost integer = { λ number. number };
+
+    ghost narrow = { lit≤ tt };
+
+    fn decimal_type() -> DecimalType {
+        DecimalType::I128
+    }
+
+    fn to_i128(self) -> i128 {
+        self
+    }
+
+    fn downcast<V: DecimalTypeDowncast>(visitor: V) -> V::Output {
+        visitor.into_i128()
+    }
+
+    fn upcast<V: DecimalTypeUpcast>(input: V::Input) -> V {
+        V::from_i128(input)
+    }
+}

@@ -1,0 +1,5 @@
+pub mod Hashing
+pub mod Iterators
+pub mod Laws
+pub mod Records
+pub mod Widths

@@ -1,0 +1,73 @@
+//! Types compared up to nullability, and how many bytes a value takes.
+ghost use Rattle.std.specs.Prelude.{◌≡◌, ◌↔◌, IsTrue, true, false, IfOk, OnOk, IfErr};
+ghost use Rattle.std.specs.List.{fold};
+ghost use Rattle.vortex_model.specs.LogicalType.{LogicalType};
+ghost use Rattle.vortex_dtype_ptype.specs.declared.error.DTypeError.TheVariants.{Width};
+ghost use Rattle.vortex_dtype_core.specs.View.{type_of};
+ghost use Rattle.vortex_dtype_fields.specs.Hashing.{type_writes};
+ghost use Rattle.vortex_dtype_fields.specs.Widths.{FitsInto, is_fixed, width_of, is_countable};
+
+use crate::hash::hash_type;
+use crate::widths::{counted_bytes, has_fixed_width};
+use std::hash::Hasher;
+use vortex_dtype_core::dtype::DType;
+use vortex_dtype_ptype::error::DTypeError;
+
+/// What can be asked of a type beside its parts.
+pub trait DTypeExt {
+    ghost kind: { Self → LogicalType };
+
+    /// Whether the types are equal, nullability aside at every depth, and this one is nullable only
+    /// if the other is.
+    fn eq_with_nullability_subset(&self, other: &Self) -> bool
+        ensures { IsTrue result ↔ FitsInto (kind self.now) (kind other.now) };
+
+    /// Whether the types are equal, nullability aside at every depth, and the other is nullable
+    /// only if this one is.
+    fn eq_with_nullability_superset(&self, other: &Self) -> bool
+        ensures { IsTrue result ↔ FitsInto (kind other.now) (kind self.now) };
+
+    /// How many bytes a value takes, and `None` where that isn't the same for all. `Width` where
+    /// the bytes, or those of a part that they are counted from, are more than can be counted.
+    fn element_size(&self) -> Result<Option<usize>, DTypeError>
+        ensures size { IfOk result (λ size. size ≡ width_of (kind self.now)) }
+        ensures counted { OnOk result (is_fixed (kind self.now) ≡ true
+            → is_countable (kind self.now) ≡ true) }
+        ensures refused { IfErr result (λ e. (e ≡ Width) × (is_fixed (kind self.now) ≡ true)
+            × (is_countable (kind self.now) ≡ false)) };
+
+    /// Feeds a hasher. Types that are equal up to nullability feed it equally.
+    fn hash_ignore_nullability<H: Hasher>(&self, state: &mut H)
+        ensures { state.new ≡ fold H.write state.old (type_writes (kind self.now)) };
+}
+
+impl DTypeExt for DType {
+    ghost kind = { type_of };
+
+    #[tactic(auto, using(crate::proofs::Fits::fits))]
+    fn eq_with_nullability_subset(&self, other: &DType) -> bool {
+        if !self.eq_ignore_nullability(other) {
+            return false;
+        }
+        !self.is_nullable() || other.is_nullable()
+    }
+
+    #[tactic(auto, using(crate::proofs::Fits::fits))]
+    fn eq_with_nullability_superset(&self, other: &DType) -> bool {
+        other.eq_with_nullability_subset(self)
+    }
+
+    fn element_size(&self) -> Result<Option<usize>, DTypeError> {
+        if !has_fixed_width(self) {
+            return Ok(None);
+        }
+        match counted_bytes(self) {
+            Some(bytes) => Ok(Some(bytes)),
+            None => Err(DTypeError::Width),
+        }
+    }
+
+    fn hash_ignore_nullability<H: Hasher>(&self, state: &mut H) {
+        hash_type(self, state);
+    }
+}

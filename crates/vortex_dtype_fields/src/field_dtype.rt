@@ -1,0 +1,125 @@
+//! The types of fields, one after the other.
+ghost use Rattle.std.specs.Prelude.{◌≡◌, map, IfOk};
+ghost use Rattle.std.specs.Iterator.{YieldsFirstBy, YieldsFirstRef, item_count};
+ghost use Rattle.vortex_dtype_core.specs.View.{type_of, fields_of};
+ghost use Rattle.vortex_dtype_fields.specs.Records.{types_of};
+
+use std::alloc::AllocError;
+use std::iter::ExactSizeIterator;
+use vortex_dtype_core::dtype::DType;
+use vortex_dtype_core::struct_fields::StructField;
+
+/// The type of a field, as Vortex's `FieldDType`.
+#[derive(Drop)]
+pub struct FieldDType<'a> {
+    dtype: &'a DType,
+}
+
+impl<'a> FieldDType<'a> {
+    ghost use Rattle.vortex_dtype_fields.specs.Iterators.{value_of};
+
+    /// The type, which shares what stands inside.
+    pub fn value(&self) -> Result<DType, AllocError>
+        ensures { IfOk result (λ dtype. type_of dtype ≡ type_of (value_of self.now)) }
+    {
+        let dtype = self.dtype.clone()?;
+        Ok(dtype)
+    }
+}
+
+/// The type stands where it was.
+impl<'a> From<&'a DType> for FieldDType<'a> {
+    ghost use Rattle.vortex_dtype_fields.specs.Iterators.{value_of};
+
+    ghost from_gives = { λ dtype field. value_of field ≡ dtype.now };
+
+    fn from(dtype: &'a DType) -> FieldDType<'a> {
+        FieldDType { dtype }
+    }
+}
+
+/// The types of a record's fields in order.
+#[derive(Drop)]
+pub struct FieldTypesIter<'a> {
+    fields: &'a [StructField],
+}
+
+impl<'a> FieldTypesIter<'a> {
+    ghost use Rattle.vortex_dtype_fields.specs.Iterators.{types_left};
+
+    #[tactic(auto, using(crate::proofs::Pieces::types_in_order))]
+    pub(crate) fn new(fields: &'a [StructField]) -> FieldTypesIter<'a>
+        ensures { map type_of (types_left result) ≡ types_of (fields_of fields.now) }
+    {
+        FieldTypesIter { fields }
+    }
+}
+
+impl<'a> Iterator for FieldTypesIter<'a> {
+    ghost use Rattle.vortex_dtype_fields.specs.Iterators.{types_left};
+
+    type Item = &'a DType;
+
+    ghost next_gives = { YieldsFirstRef types_left };
+
+    ghost remaining = { item_count types_left };
+
+    fn next(&mut self) -> Option<&'a DType> {
+        let (first, others) = self.fields.split_first()?;
+        self.fields = others;
+        Some(&first.dtype)
+    }
+
+    fn size_hint(&self) -> (usize, Option<usize>) {
+        let len = self.fields.len();
+        (len, Some(len))
+    }
+}
+
+impl<'a> ExactSizeIterator for FieldTypesIter<'a> {
+    fn len(&self) -> usize {
+        self.fields.len()
+    }
+}
+
+/// The types of a record's fields in order, each as a `FieldDType`.
+#[derive(Drop)]
+pub struct FieldDTypesIter<'a> {
+    types: FieldTypesIter<'a>,
+}
+
+impl<'a> FieldDTypesIter<'a> {
+    ghost use Rattle.vortex_dtype_fields.specs.Iterators.{types_left, dtypes_left};
+
+    pub(crate) fn new(types: FieldTypesIter<'a>) -> FieldDTypesIter<'a>
+        ensures { dtypes_left result ≡ types_left types.entry }
+    {
+        FieldDTypesIter { types }
+    }
+}
+
+impl<'a> Iterator for FieldDTypesIter<'a> {
+    ghost use Rattle.vortex_dtype_fields.specs.Iterators.{value_of, dtypes_left};
+
+    type Item = FieldDType<'a>;
+
+    ghost next_gives = { YieldsFirstBy value_of dtypes_left };
+
+    ghost remaining = { item_count dtypes_left };
+
+    fn next(&mut self) -> Option<FieldDType<'a>> {
+        let dtype = self.types.next()?;
+        Some(FieldDType { dtype })
+    }
+
+    fn size_hint(&self) -> (usize, Option<usize>) {
+        let len = self.types.len();
+        (len, Some(len))
+    }
+}
+
+impl<'a> ExactSizeIterator for FieldDTypesIter<'a> {
+    fn len(&self) -> usize {
+        self.types.len()
+    }
+}

@@ -1,0 +1,39 @@
+//! Laws over the definitions alone. Each function's clause is a law.
+ghost use Rattle.vortex_dtype_fields.specs.Laws.{
+  EqualityIgnoringNullabilityIsAnEquivalence,
+  EqualTypesAreFedAlike,
+  FittingIsReflexive,
+  FittingIsTransitive,
+  ProjectionsHaveTheNames,
+};
+ghost use Rattle.vortex_dtype_fields.specs.Records.{TagsLeadBack};
+
+/// Equality up to nullability is an equivalence.
+pub fn equality_ignoring_nullability_is_an_equivalence()
+    ensures { EqualityIgnoringNullabilityIsAnEquivalence }
+{}
+
+/// Types that are equal up to nullability feed a hasher equally.
+pub fn equal_types_are_fed_alike()
+    ensures { EqualTypesAreFedAlike }
+{}
+
+/// A type fits into itself.
+pub fn fitting_is_reflexive()
+    ensures { FittingIsReflexive }
+{}
+
+/// What fits into a type fits into all that the type fits into.
+pub fn fitting_is_transitive()
+    ensures { FittingIsTransitive }
+{}
+
+/// A projection has the names that were asked for, in their order.
+pub fn projections_have_the_names()
+    ensures { ProjectionsHaveTheNames }
+{}
+
+/// Where no tag repeats, the tag at a place leads back to the place.
+pub fn tags_lead_back()
+    ensures { TagsLeadBack }
+{}

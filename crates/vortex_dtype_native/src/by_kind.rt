@@ -1,0 +1,131 @@
+//! What is done by the type of a kind that is known only when the program runs.
+ghost use Rattle.std.specs.Prelude.{◌≡◌, ◌↔◌, IfOk, IfErr, IsTrue, length};
+ghost use Rattle.vortex_dtype_ptype.specs.declared.error.DTypeError.TheVariants.{Length};
+ghost use Rattle.vortex_dtype_ptype.specs.Numbers.{integral, is_integral, is_signed, is_unsigned, HasByteWidth, Has, IsGreatest};
+ghost use Rattle.vortex_dtype_ptype.specs.View.{number_kind_of};
+ghost use Rattle.vortex_dtype_native.specs.NativeBytes.{AreBytesOf, AreBytesOfKind};
+
+use crate::native::{IntegerPType, NativePType};
+use vortex_dtype_ptype::error::DTypeError;
+use vortex_dtype_ptype::ptype::PType;
+
+/// Calls the function, with the native type of the kind as its type argument, as
+/// `match_each_native_ptype!(ptype, f(x))`. The kind is one of integers: there is no native type of
+/// floats.
+#[macro_export]
+macro_rules! match_each_native_ptype {
+    ($ptype:expr, $($function:ident)::+ ($($argument:expr),*)) => {
+        $crate::match_each_integer_ptype!($ptype, $($function)::+ ($($argument),*))
+    };
+}
+
+/// Calls the function, with the integer type of the kind as its type argument. The kind is one of
+/// integers.
+#[macro_export]
+macro_rules! match_each_integer_ptype {
+    ($ptype:expr, $($function:ident)::+ ($($argument:expr),*)) => {
+        match $ptype {
+            $crate::ptype::PType::U8 => $($function)::+::<u8>($($argument),*),
+            $crate::ptype::PType::U16 => $($function)::+::<u16>($($argument),*),
+            $crate::ptype::PType::U32 => $($function)::+::<u32>($($argument),*),
+            $crate::ptype::PType::U64 => $($function)::+::<u64>($($argument),*),
+            $crate::ptype::PType::I8 => $($function)::+::<i8>($($argument),*),
+            $crate::ptype::PType::I16 => $($function)::+::<i16>($($argument),*),
+            $crate::ptype::PType::I32 => $($function)::+::<i32>($($argument),*),
+            $crate::ptype::PType::I64 => $($function)::+::<i64>($($argument),*),
+            $crate::ptype::PType::F16 | $crate::ptype::PType::F32 | $crate::ptype::PType::F64 =>
+                unreachable!(),
+        }
+    };
+}
+
+/// Calls the function, with the unsigned integer type of the kind as its type argument. The kind is
+/// one of unsigned integers.
+#[macro_export]
+macro_rules! match_each_unsigned_integer_ptype {
+    ($ptype:expr, $($function:ident)::+ ($($argument:expr),*)) => {
+        match $ptype {
+            $crate::ptype::PType::U8 => $($function)::+::<u8>($($argument),*),
+            $crate::ptype::PType::U16 => $($function)::+::<u16>($($argument),*),
+            $crate::ptype::PType::U32 => $($function)::+::<u32>($($argument),*),
+            $crate::ptype::PType::U64 => $($function)::+::<u64>($($argument),*),
+            _ => unreachable!(),
+        }
+    };
+}
+
+/// Calls the function, with the signed integer type of the kind as its type argument. The kind is
+/// one of signed integers.
+#[macro_export]
+macro_rules! match_each_signed_integer_ptype {
+    ($ptype:expr, $($function:ident)::+ ($($argument:expr),*)) => {
+        match $ptype {
+            $crate::ptype::PType::I8 => $($function)::+::<i8>($($argument),*),
+            $crate::ptype::PType::I16 => $($function)::+::<i16>($($argument),*),
+            $crate::ptype::PType::I32 => $($function)::+::<i32>($($argument),*),
+            $crate::ptype::PType::I64 => $($function)::+::<i64>($($argument),*),
+            _ => unreachable!(),
+        }
+    };
+}
+
+/// The number of type `T` that these bytes are.
+fn number_of<T: NativePType>(bytes: &[u8]) -> Result<i128, DTypeError>
+    ensures read { IfOk result (λ number. AreBytesOf T.kind number bytes.now
+        × Has (integral T.kind) number) }
+    ensures refused { IfErr result
+        (λ e. (e ≡ Length) × ¬ HasByteWidth (integral T.kind) (length bytes.now)) }
+{
+    let number = T::try_from_le_bytes(bytes)?;
+    Ok(number.get())
+}
+
+/// The number of the kind whose bytes these are, the least first. `Length` where they are not as
+/// many as a number takes.
+pub fn number_from_le_bytes(ptype: PType, bytes: &[u8]) -> Result<i128, DTypeError>
+    requires { IsTrue (is_integral (number_kind_of ptype)) }
+    ensures read { IfOk result (λ number. AreBytesOfKind (number_kind_of ptype) number bytes.now
+        × Has (number_kind_of ptype) number) }
+    ensures refused { IfErr result (λ e. (e ≡ Length) × ¬ HasByteWidth (number_kind_of ptype)
+        (length bytes.now)) }
+{
+    match_each_native_ptype!(ptype, number_of(bytes))
+}
+
+/// Whether `T` has the number.
+fn has_number<T: NativePType>(number: i128) -> bool
+    ensures { IsTrue result ↔ Has (integral T.kind) number }
+{
+    T::of(number).is_some()
+}
+
+/// Whether the kind has the number.
+pub fn holds_number(ptype: PType, number: i128) -> bool
+    requires { IsTrue (is_integral (number_kind_of ptype)) }
+    ensures { IsTrue result ↔ Has (number_kind_of ptype) number }
+{
+    match_each_integer_ptype!(ptype, has_number(number))
+}
+
+/// The greatest number that `T` has.
+fn greatest<T: IntegerPType>() -> u64
+    ensures { IsGreatest (integral T.kind) result }
+{
+    T::max_value_as_u64()
+}
+
+/// The greatest number of a kind of unsigned integers.
+pub fn greatest_unsigned(ptype: PType) -> u64
+    requires { IsTrue (is_unsigned (number_kind_of ptype)) }
+    ensures { IsGreatest (number_kind_of ptype) result }
+{
+    match_each_unsigned_integer_ptype!(ptype, greatest())
+}
+
+/// The greatest number of a kind of signed integers.
+pub fn greatest_signed(ptype: PType) -> u64
+    requires { IsTrue (is_signed (number_kind_of ptype)) }
+    ensures { IsGreatest (number_kind_of ptype) result }
+{
+    match_each_signed_integer_ptype!(ptype, greatest())
+}

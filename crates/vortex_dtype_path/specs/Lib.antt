@@ -1,0 +1,7 @@
+pub mod Coverage
+pub mod Laws
+pub mod Masks
+pub mod Resolve
+pub mod Sets
+pub mod Steps
+pub mod View

@@ -1,0 +1,20 @@
+-- The type that a path leads to.
+use Rattle.std.specs.Prelude.{List, [], ◌∷◌, Option, Some, None, option_and_then}
+use Rattle.vortex_model.specs.LogicalType.{LogicalType, list, fixed_list, struct}
+use Rattle.vortex_model.specs.Path.{Step, name, element, position_named, field_at}
+
+-- a name goes to a record's first field of that name, and the other step to a list's elements
+abbrev pub part_along : LogicalType → Step → Option LogicalType
+part_along (struct fs n) (name x) = option_and_then (field_at fs) (position_named fs x)
+part_along (list k n) element = Some k
+part_along (fixed_list k m n) element = Some k
+part_along k s = None
+
+-- a path goes along its steps in turn
+abbrev pub type_along : Option LogicalType → List Step → Option LogicalType
+type_along None p = None
+type_along (Some k) [] = Some k
+type_along (Some k) (s ∷ p) = type_along (part_along k s) p
+
+abbrev pub resolved : LogicalType → List Step → Option LogicalType
+resolved k p = type_along (Some k) p

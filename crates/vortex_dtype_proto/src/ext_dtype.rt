@@ -1,0 +1,164 @@
+//! Extension types with a meaning that the program knows.
+ghost use Rattle.std.specs.Prelude.{◌≡◌, ◌≢◌, Some, None, IfSome, true, false, IfOk, OnOk, IfErr, IsTrue};
+ghost use Rattle.vortex_model.specs.LogicalType.{extension, with_nullability, non_nullable};
+ghost use Rattle.vortex_dtype_ptype.specs.View.{nullability_of_flag};
+ghost use Rattle.vortex_dtype_ptype.specs.declared.error.DTypeError.TheVariants.{Memory, Plugin};
+ghost use Rattle.vortex_dtype_core.specs.View.{type_of, extension_type};
+ghost use Rattle.vortex_dtype_core.specs.Parts.{id_of, metadata_of, storage_of, can_be_nonnullable};
+
+use crate::vtable::ExtVTable;
+use std::alloc::{AllocError, Global};
+use vortex_dtype_core::dtype::DType;
+use vortex_dtype_core::extension::ExtDTypeRef;
+use vortex_dtype_core::{BufferString, ByteBuffer};
+use vortex_dtype_ptype::error::DTypeError;
+use vortex_dtype_ptype::nullability::Nullability;
+
+/// An extension type whose meaning is known, as Vortex's `ExtDType`.
+#[derive(Drop)]
+pub struct ExtDType<V: ExtVTable> {
+    vtable: V,
+    metadata: V::Metadata,
+    storage: DType,
+    ghost fitting: { IsTrue (V.fits vtable metadata (type_of storage)) },
+}
+
+impl<V: ExtVTable> ExtDType<V> {
+    /// The extension type of this metadata over this storage. `Plugin` where the storage doesn't
+    /// fit.
+    pub fn try_with_vtable(
+        vtable: V,
+        metadata: V::Metadata,
+        storage: DType,
+    ) -> Result<ExtDType<V>, DTypeError>
+        ensures made { IfOk result (λ made. (made.vtable ≡ vtable) × (made.metadata ≡ metadata)
+            × (made.storage ≡ storage)) }
+        ensures accepted { OnOk result (IsTrue (V.fits vtable metadata (type_of storage))) }
+        ensures refused { IfErr result
+            (λ e. (e ≡ Plugin) × (V.fits vtable metadata (type_of storage) ≡ false)) }
+    {
+        if !vtable.fits(&metadata, &storage) {
+            return Err(DTypeError::Plugin);
+        }
+        Ok(ExtDType {
+            vtable,
+            metadata,
+            storage,
+        })
+    }
+
+    /// The id.
+    pub fn id(&self) -> &str
+        ensures { result.now ≡ V.name self.now.vtable }
+    {
+        self.vtable.id()
+    }
+
+    /// What the extensions of the id are.
+    pub fn vtable(&self) -> &V
+        ensures { result.now ≡ self.now.vtable }
+    {
+        &self.vtable
+    }
+
+    /// What tells the type from others of the id.
+    pub fn metadata(&self) -> &V::Metadata
+        ensures { result.now ≡ self.now.metadata }
+    {
+        &self.metadata
+    }
+
+    /// The type whose values the extension has.
+    pub fn storage_dtype(&self) -> &DType
+        ensures { result.now ≡ self.now.storage }
+    {
+        &self.storage
+    }
+
+    /// The bytes that say the metadata.
+    pub fn serialize_metadata(&self, alloc: Global) -> Result<ByteBuffer, AllocError>
+        ensures { IfOk result (λ bytes. bytes ≡ V.writes self.now.vtable self.now.metadata) }
+    {
+        let bytes = self.vtable.serialize_metadata(alloc, &self.metadata)?;
+        Ok(bytes)
+    }
+
+    /// The same type with its metadata as bytes.
+    pub fn erased(&self, alloc: Global) -> Result<ExtDTypeRef, AllocError>
+        ensures { IfOk result (λ made. extension_type made
+            ≡ extension (V.name self.now.vtable) (V.writes self.now.vtable self.now.metadata)
+            (type_of self.now.storage)) }
+    {
+        let id = BufferString::copy_from_str(alloc, self.id())?;
+        let metadata = self.serialize_metadata(alloc)?;
+        let storage = self.storage.clone()?;
+        let made = ExtDTypeRef::new(alloc, id, metadata, storage)?;
+        Ok(made)
+    }
+
+    /// The type with this nullability of its storage.
+    pub fn with_nullability(self, nullability: Nullability) -> Result<ExtDType<V>, AllocError>
+        requires { nullability_of_flag nullability ≡ non_nullable
+            → IsTrue (can_be_nonnullable (type_of self.storage)) }
+        ensures meaning { IfOk result (λ made. (made.vtable ≡ self.vtable)
+            × (made.metadata ≡ self.metadata)) }
+        ensures storage { IfOk result (λ made. type_of made.storage
+            ≡ with_nullability (nullability_of_flag nullability) (type_of self.storage)) }
+    {
+        let storage = self.storage.with_nullability(nullability)?;
+        Ok(ExtDType {
+            vtable: self.vtable,
+            metadata: self.metadata,
+            storage,
+        })
+    }
+}
+
+impl<V: ExtVTable + Default> ExtDType<V> {
+    /// The extension type of this metadata over this storage. `Plugin` where the storage doesn't
+    /// fit.
+    pub fn try_new(metadata: V::Metadata, storage: DType) -> Result<ExtDType<V>, DTypeError>
+        ensures made { IfOk result (λ made. V.is_default made.vtable × (made.metadata ≡ metadata)
+            × (made.storage ≡ storage)) }
+        ensures refused { IfErr result (λ e. (e ≡ Plugin)
+            × ((v : V) × V.is_default v × (V.fits v metadata (type_of storage) ≡ false))) }
+    {
+        let made = ExtDType::try_with_vtable(V::default(), metadata, storage)?;
+        Ok(made)
+    }
+}
+
+/// The extension with the meaning that `vtable` gives it, and `None` where it has another id, or
+/// metadata or a storage that the meaning doesn't have.
+pub fn try_downcast<V: ExtVTable>(
+    alloc: Global,
+    extension: &ExtDTypeRef,
+    vtable: V,
+) -> Result<Option<ExtDType<V>>, AllocError>
+    ensures made { IfOk result (λ found. IfSome found (λ made. (made.vtable ≡ vtable)
+        × (V.name vtable ≡ id_of (extension_type extension.now))
+        × (V.reads vtable (metadata_of (extension_type extension.now)) ≡ Some made.metadata)
+        × (type_of made.storage ≡ storage_of (extension_type extension.now)))) }
+    ensures none { IfOk result (λ found. found ≡ None → (m : V.Metadata)
+        → V.name vtable ≡ id_of (extension_type extension.now)
+        → V.reads vtable (metadata_of (extension_type extension.now)) ≡ Some m
+        → V.fits vtable m (storage_of (extension_type extension.now)) ≡ false) }
+{
+    if vtable.id() != extension.id().as_str() {
+        return Ok(None);
+    }
+    let metadata = match vtable.deserialize_metadata(alloc, extension.serialize_metadata()) {
+        Ok(metadata) => metadata,
+        Err(DTypeError::Memory) => return Err(AllocError),
+        Err(_) => return Ok(None),
+    };
+    let storage = extension.storage_dtype().clone()?;
+    if !vtable.fits(&metadata, &storage) {
+        return Ok(None);
+    }
+    Ok(Some(ExtDType {
+        vtable,
+        metadata,
+        storage,
+    }))
+}

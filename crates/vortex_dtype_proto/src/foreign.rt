@@ -1,0 +1,115 @@
+//! Extensions of ids that the program doesn't know.
+ghost use Rattle.std.specs.Prelude.{◌≡◌, Some, true, refl, IfOk};
+ghost use Rattle.vortex_model.specs.LogicalType.{extension};
+ghost use Rattle.vortex_dtype_core.specs.View.{type_of, extension_type};
+
+use crate::vtable::ExtVTable;
+use std::alloc::{AllocError, Global};
+use std::marker::Model;
+use vortex_dtype_core::dtype::DType;
+use vortex_dtype_core::extension::ExtDTypeRef;
+use vortex_dtype_core::{BufferString, ByteBuffer};
+use vortex_dtype_ptype::error::DTypeError;
+
+/// Metadata of which nothing is known, as Vortex's `ForeignExtMetadata`.
+#[derive(Drop)]
+pub struct ForeignExtMetadata {
+    bytes: ByteBuffer,
+}
+
+// A clause sees the bytes.
+impl Model for ForeignExtMetadata {
+    ghost use Rattle.std.specs.Prelude.{ℕ, List};
+
+    ghost Value = { List ℕ };
+
+    ghost view = { λ metadata. metadata.bytes };
+}
+
+impl ForeignExtMetadata {
+    /// These bytes.
+    pub fn new(bytes: ByteBuffer) -> ForeignExtMetadata
+        ensures { result ≡ bytes }
+    {
+        ForeignExtMetadata { bytes }
+    }
+
+    /// The bytes.
+    pub fn as_slice(&self) -> &[u8]
+        ensures { result.now ≡ self.now }
+    {
+        self.bytes.as_slice()
+    }
+}
+
+/// What the extensions are of an id that the program doesn't know: any metadata, over any storage.
+/// As Vortex's `ForeignExtDType`.
+#[derive(Drop)]
+pub struct ForeignExtDType {
+    id: BufferString,
+}
+
+impl ForeignExtDType {
+    /// The extensions of this id.
+    pub fn new(id: BufferString) -> ForeignExtDType
+        ensures { result.id ≡ id }
+    {
+        ForeignExtDType { id }
+    }
+
+    /// The extension of this id and metadata over this storage.
+    pub fn from_parts(
+        alloc: Global,
+        id: BufferString,
+        metadata: ByteBuffer,
+        storage: DType,
+    ) -> Result<ExtDTypeRef, AllocError>
+        ensures { IfOk result (λ made. extension_type made
+            ≡ extension id metadata (type_of storage)) }
+    {
+        let made = ExtDTypeRef::new(alloc, id, metadata, storage)?;
+        Ok(made)
+    }
+}
+
+impl ExtVTable for ForeignExtDType {
+    type Metadata = ForeignExtMetadata;
+
+    ghost name = { λ v. v.id };
+
+    ghost writes = { λ _ m. m };
+
+    ghost reads = { λ _ bytes. Some bytes };
+
+    ghost fits = { λ _ _ _. true };
+
+    ghost reads_what_it_writes = { λ _ _. refl };
+
+    ghost outer_aside = { λ _ _ _ _. refl };
+
+    fn id(&self) -> &str {
+        self.id.as_str()
+    }
+
+    fn serialize_metadata(
+        &self,
+        _alloc: Global,
+        metadata: &ForeignExtMetadata,
+    ) -> Result<ByteBuffer, AllocError> {
+        metadata.bytes.clone()
+    }
+
+    fn deserialize_metadata(
+        &self,
+        _alloc: Global,
+        bytes: &ByteBuffer,
+    ) -> Result<ForeignExtMetadata, DTypeError> {
+        Ok(ForeignExtMetadata {
+            bytes: bytes.clone()?,
+        })
+    }
+
+    fn fits(&self, _metadata: &ForeignExtMetadata, _storage: &DType) -> bool {
+        true
+    }
+}

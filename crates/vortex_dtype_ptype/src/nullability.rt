@@ -1,0 +1,87 @@
+//! Whether a column may hold null.
+ghost use Rattle.std.specs.Prelude.{◌≡◌, Some};
+ghost use Rattle.vortex_model.specs.LogicalType.{either_nullable, is_nullable};
+ghost use Rattle.vortex_dtype_ptype.specs.View.{nullability_of_flag, is_nullable_flag, mark_of_flag};
+
+use std::fmt;
+use std::ops::{BitOr, BitOrAssign};
+
+/// Whether null is among a type's values, as Vortex's `Nullability`.
+#[derive(Clone, Copy, Debug, PartialEq, Eq)]
+pub enum Nullability {
+    /// Each value is there.
+    NonNullable,
+    /// A value may be null.
+    Nullable,
+}
+
+impl Nullability {
+    /// Whether null is a value.
+    pub fn is_nullable(self) -> bool
+        ensures { result ≡ is_nullable (nullability_of_flag self) }
+    {
+        match self {
+            Nullability::NonNullable => false,
+            Nullability::Nullable => true,
+        }
+    }
+}
+
+/// Nullable, if one of the two is.
+impl BitOr for Nullability {
+    type Output = Nullability;
+
+    ghost bitor_gives = { λ a b c. nullability_of_flag c
+        ≡ either_nullable (nullability_of_flag a) (nullability_of_flag b) };
+
+    fn bitor(self, other: Nullability) -> Nullability {
+        match self {
+            Nullability::NonNullable => other,
+            Nullability::Nullable => Nullability::Nullable,
+        }
+    }
+}
+
+/// Nullable, if one of the two is.
+impl BitOrAssign for Nullability {
+    ghost bitor_assign_gives = { λ a b c. nullability_of_flag c
+        ≡ either_nullable (nullability_of_flag a) (nullability_of_flag b) };
+
+    fn bitor_assign(&mut self, other: Nullability) {
+        *self = *self | other;
+    }
+}
+
+/// A question mark where null is a value, else nothing.
+impl fmt::Display for Nullability {
+    ghost output = { λ n. Some (mark_of_flag n) };
+
+    fn fmt<W: fmt::Write>(&self, f: &mut fmt::Formatter<W>) -> fmt::Result {
+        match self {
+            Nullability::NonNullable => f.write_str(""),
+            Nullability::Nullable => f.write_str("?"),
+        }
+    }
+}
+
+/// True is nullable.
+impl From<bool> for Nullability {
+    ghost from_gives = { λ b n. is_nullable_flag n ≡ b };
+
+    fn from(nullable: bool) -> Nullability {
+        if nullable {
+            Nullability::Nullable
+        } else {
+            Nullability::NonNullable
+        }
+    }
+}
+
+/// True is nullable.
+impl From<Nullability> for bool {
+    ghost from_gives = { λ n b. b ≡ is_nullable_flag n };
+
+    fn from(nullability: Nullability) -> bool {
+        nullability.is_nullable()
+    }
+}

@@ -1,4 +1,0 @@
-pub mod Items
-pub mod Classes
-pub mod Checks
-pub mod Truths

@@ -1,6 +1,0 @@
-use Rattle.std.proofs.Common.{arith}
-use Rattle.std.proofs.lemmas.Grind.{common_steps}
-use Rattle.vortex_layouts.proofs.array.ArrayRef.of_fixed_lists.Goals as goal
-
-pub same-elements : goal.same-elements
-same-elements c = grind (arith, common_steps)

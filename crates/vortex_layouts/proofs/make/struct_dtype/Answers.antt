@@ -1,6 +1,0 @@
-use Rattle.std.proofs.Common.{arith}
-use Rattle.vortex_layouts.proofs.Makers.{of_records}
-use Rattle.vortex_layouts.proofs.make.struct_dtype.Goals as goal
-
-pub returns : goal.returns
-returns c = grind (arith, of_records)

@@ -1,4 +1,0 @@
-pub mod Leaves
-pub mod OptionLemmas
-pub mod Checked
-pub mod Made

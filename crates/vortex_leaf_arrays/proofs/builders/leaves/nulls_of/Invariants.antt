@@ -1,8 +1,0 @@
-use Rattle.std.proofs.Common.{◌≡◌, map, take}
-use Rattle.vortex_model.specs.Kind.{nullable}
-use Rattle.vortex_values.specs.View.{raw_at}
-use Rattle.vortex_leaf_arrays.specs.builders.Plain.{is_there}
-use Rattle.vortex_leaf_arrays.proofs.builders.leaves.nulls_of.Given as goal
-
-abbrev pub invariant-loop-value : goal.invariant-loop-value
-invariant-loop-value l = l.bits.items ≡ map (is_there nullable) (map raw_at (take l.value-index l.values))

@@ -1,7 +1,0 @@
-use Rattle.std.proofs.Common.{ℕ, ◌<◌}
-use Rattle.vortex_layouts.specs.LayoutOf.{valid_of, strings_of}
-use Rattle.vortex_leaf_arrays.specs.Strings.{HoldsAt}
-use Rattle.vortex_leaf_arrays.proofs.check.check_values.Given as goal
-
-abbrev pub invariant-loop-i : goal.invariant-loop-i
-invariant-loop-i l = (k : ℕ) → k < l.i → HoldsAt (strings_of l.kind) l.views l.buffers (valid_of l.validity) k

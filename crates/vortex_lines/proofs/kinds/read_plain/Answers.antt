@@ -1,5 +1,0 @@
-use Rattle.std.proofs.Common.{rules}
-use Rattle.vortex_lines.proofs.kinds.read_plain.Goals as goal
-
-pub returns : goal.returns
-returns c = search rules

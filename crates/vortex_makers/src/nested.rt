@@ -1,4 +1,0 @@
-//! Values of lists, records, maps, unions and extensions with their type, made of their parts.
-mod children;
-pub mod makers;
-mod values;

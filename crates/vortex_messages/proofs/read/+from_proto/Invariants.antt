@@ -1,9 +1,0 @@
-use Rattle.vortex_messages.specs.Sessions.{session_of}
-use Rattle.vortex_messages.proofs.Readings.{IsLeft}
-use Rattle.vortex_messages.specs.contracts.read.from_proto as contract
-use Rattle.vortex_messages.proofs.read.+from_proto.Given as goal
-
-abbrev pub invariant-loop-child : goal.invariant-loop-child
-invariant-loop-child g l =
-    IsLeft (session_of (λ b. ((contract.dyn-1-ghosts g.dyn-1).0.entry b.vtable).1.name b.value) (λ b. ((contract.dyn-1-ghosts g.dyn-1).0.entry b.vtable).1.meaning b.value) l.session.plugins.items) l.child-items l.child-index
-    l.children.items

@@ -1,4 +1,0 @@
-pub mod Messages
-pub mod Sessions
-pub mod Shapes
-pub mod View

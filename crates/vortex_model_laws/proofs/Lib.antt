@@ -1,0 +1,9 @@
+pub mod Alone
+mod Binding
+pub mod Complete
+mod Counts
+mod Exact
+mod Examples
+pub mod Members
+mod Retyping
+pub mod Tighter

@@ -1,0 +1,4 @@
+pub mod Binding
+pub mod Exact
+pub mod Laws
+pub mod Tighter

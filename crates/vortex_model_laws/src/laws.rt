@@ -1,0 +1,68 @@
+//! Laws over the definitions alone. Each function's clause is a law.
+ghost use Rattle.vortex_model_laws.specs.Laws.{
+  RetypingTwiceIsRetypingAtOnce,
+  RetypingCarriesBounds,
+  ScansAreCountedWithin,
+};
+ghost use Rattle.vortex_model_laws.specs.Binding.{BoundFalsifiersAreSound, BoundSatisfiersAreSound};
+ghost use Rattle.vortex_model_laws.specs.Exact.{
+  FalsifiersAreComplete,
+  ExactlyTheHopelessAreSkipped,
+};
+ghost use Rattle.vortex_model_laws.specs.Tighter.{ProofsStayTrue, GroupsChangeNothing};
+
+use vortex_model::laws::{conversions_compose, tests_of_conversion_are_right};
+
+/// Retyping to one type and then to another leaves what retyping at once does.
+pub fn retyping_twice_is_retyping_at_once()
+    ensures { RetypingTwiceIsRetypingAtOnce }
+{
+    conversions_compose();
+    tests_of_conversion_are_right();
+}
+
+/// A leaf that stays at its positions through a retype keeps its bounds and counts.
+pub fn retyping_carries_bounds()
+    ensures { RetypingCarriesBounds }
+{}
+
+/// A scan tries at most one proof a group of two or more chunks and two a chunk, and tests no row
+/// twice.
+pub fn scans_are_counted_within()
+    ensures { ScansAreCountedWithin }
+{}
+
+/// A built-in proof that is true of zone maps is true of those that tell more: whose bounds lie
+/// within theirs or are new, and that tell of nulls where they do.
+pub fn proofs_stay_true()
+    ensures { ProofsStayTrue }
+{}
+
+/// A scan that looks at groups first skips, takes whole and tests the chunks that it would by
+/// looking at each alone.
+pub fn groups_change_nothing()
+    ensures { GroupsChangeNothing }
+{}
+
+/// A sound falsifier, bound by an honest binder, is true only where no row satisfies the predicate.
+pub fn bound_falsifiers_are_sound()
+    ensures { BoundFalsifiersAreSound }
+{}
+
+/// A sound satisfier, bound by an honest binder, is true only where each row does.
+pub fn bound_satisfiers_are_sound()
+    ensures { BoundSatisfiersAreSound }
+{}
+
+/// A chunk that has both bounds of each column of a predicate of ranges is skipped exactly where no
+/// choice of values between them makes the predicate true. It has comparisons, BETWEEN with its
+/// ends and truth values, joined by AND and OR, and no column stands twice.
+pub fn exactly_the_hopeless_are_skipped()
+    ensures { ExactlyTheHopelessAreSkipped }
+{}
+
+/// Where a chunk has all bounds of a predicate of ranges and its falsifier is not true of them,
+/// some choice of values between them makes the predicate true.
+pub fn falsifiers_are_complete()
+    ensures { FalsifiersAreComplete }
+{}

@@ -1,4 +1,0 @@
-pub mod BoundsLemmas
-pub mod ListLemmas
-pub mod SliceLemmas
-pub mod CodeLemmas

@@ -1,6 +1,0 @@
-use Rattle.std.proofs.Common.{arith}
-use Rattle.vortex_nested_arrays.proofs.BoundsLemmas.{bounds}
-use Rattle.vortex_nested_arrays.proofs.bounds.element_bounds.Goals as goal
-
-pub loop-i-preserved : goal.loop-i-preserved
-loop-i-preserved c = grind (arith, bounds, c.well_formed, c.ranges)

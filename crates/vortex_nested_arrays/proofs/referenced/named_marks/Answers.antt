@@ -1,7 +1,0 @@
-use Rattle.std.proofs.Common.{arith}
-use Rattle.vortex_array_model.proofs.ReferencedLemmas.{marks}
-use borrow.Author.Differences.{ints}
-use Rattle.vortex_nested_arrays.proofs.referenced.named_marks.Goals as goal
-
-pub loop-i-init : goal.loop-i-init
-loop-i-init c = grind (ints, arith, marks)

@@ -1,5 +1,0 @@
-use Rattle.vortex_numbers.proofs.NumberLemmas.{HoldsFront}
-use Rattle.vortex_numbers.proofs.numbers.are_in_range.Given as goal
-
-abbrev pub invariant-loop-i : goal.invariant-loop-i
-invariant-loop-i g l = HoldsFront g.T.Sealed.kind g.T.Sealed.integer l.items l.i

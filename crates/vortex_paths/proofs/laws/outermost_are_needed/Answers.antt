@@ -1,5 +1,0 @@
-use Rattle.vortex_paths.proofs.Coverage.{outermost_needed}
-use Rattle.vortex_paths.proofs.laws.outermost_are_needed.Goals as goal
-
-pub returns : goal.returns
-returns c = outermost_needed

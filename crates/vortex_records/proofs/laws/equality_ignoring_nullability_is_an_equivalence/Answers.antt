@@ -1,5 +1,0 @@
-use Rattle.vortex_records.proofs.Lawful.{equal_equiv}
-use Rattle.vortex_records.proofs.laws.equality_ignoring_nullability_is_an_equivalence.Goals as goal
-
-pub returns : goal.returns
-returns c = equal_equiv

@@ -1,5 +1,0 @@
-use Rattle.vortex_records.proofs.Lawful.{fits_on}
-use Rattle.vortex_records.proofs.laws.fitting_is_transitive.Goals as goal
-
-pub returns : goal.returns
-returns c = fits_on

@@ -1,5 +1,0 @@
-use Rattle.vortex_records.proofs.Lawful.{projected_names}
-use Rattle.vortex_records.proofs.laws.projections_have_the_names.Goals as goal
-
-pub returns : goal.returns
-returns c = projected_names

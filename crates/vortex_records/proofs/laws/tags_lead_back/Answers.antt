@@ -1,5 +1,0 @@
-use Rattle.vortex_records.proofs.Choices.{lead_back}
-use Rattle.vortex_records.proofs.laws.tags_lead_back.Goals as goal
-
-pub returns : goal.returns
-returns c = lead_back

@@ -1,7 +1,0 @@
-use Rattle.std.proofs.Common.{◌≡◌, ◌++◌, drop}
-use Rattle.vortex_types.specs.View.{variants_of}
-use Rattle.vortex_records.specs.Records.{tags_of}
-use Rattle.vortex_records.proofs.union_variants_ext.tags_in.Given as goal
-
-abbrev pub invariant-loop-variant : goal.invariant-loop-variant
-invariant-loop-variant l = l.tags.items ++ tags_of (variants_of (drop l.variant-index l.variants)) ≡ tags_of (variants_of l.variants)

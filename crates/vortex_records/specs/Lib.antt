@@ -1,5 +1,0 @@
-pub mod Feeding
-pub mod Iterators
-pub mod Laws
-pub mod Records
-pub mod Widths

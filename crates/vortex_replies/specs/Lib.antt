@@ -1,3 +1,0 @@
-pub mod Text
-pub mod Answers
-pub mod type_texts

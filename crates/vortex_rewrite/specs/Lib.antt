@@ -1,4 +1,0 @@
-pub mod Literals
-pub mod Guards
-pub mod Classes
-pub mod Stats

@@ -1,5 +1,0 @@
-pub mod Reading
-mod Compared
-mod Converted
-mod Steps
-pub mod Told

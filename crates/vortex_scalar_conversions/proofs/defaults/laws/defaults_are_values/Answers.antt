@@ -1,5 +1,0 @@
-use Rattle.vortex_scalar_conversions.proofs.defaults.Zeros.{defaults_are_values}
-use Rattle.vortex_scalar_conversions.proofs.defaults.laws.defaults_are_values.Goals as goal
-
-pub returns : goal.returns
-returns c = defaults_are_values

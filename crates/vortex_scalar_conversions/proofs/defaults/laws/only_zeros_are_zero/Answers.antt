@@ -1,5 +1,0 @@
-use Rattle.vortex_scalar_conversions.proofs.defaults.Zeros.{only_zeros_are_zero}
-use Rattle.vortex_scalar_conversions.proofs.defaults.laws.only_zeros_are_zero.Goals as goal
-
-pub returns : goal.returns
-returns c = only_zeros_are_zero

@@ -1,5 +1,0 @@
-use Rattle.vortex_scalar_conversions.proofs.defaults.Zeros.{zeros_are_zero}
-use Rattle.vortex_scalar_conversions.proofs.defaults.laws.zeros_are_zero.Goals as goal
-
-pub returns : goal.returns
-returns c = zeros_are_zero

@@ -1,5 +1,0 @@
-use Rattle.vortex_scalar_conversions.proofs.defaults.Zeros.{zeros_exist}
-use Rattle.vortex_scalar_conversions.proofs.defaults.laws.zeros_exist.Goals as goal
-
-pub returns : goal.returns
-returns c = zeros_exist

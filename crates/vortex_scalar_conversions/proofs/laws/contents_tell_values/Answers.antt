@@ -1,6 +1,0 @@
-use Rattle.vortex_model.specs.Kind.{stored}
-use Rattle.vortex_scalar_conversions.proofs.Told.{told}
-use Rattle.vortex_scalar_conversions.proofs.laws.contents_tell_values.Goals as goal
-
-pub returns : goal.returns
-returns c = λ k r s h g e. told (stored k) r s h g e

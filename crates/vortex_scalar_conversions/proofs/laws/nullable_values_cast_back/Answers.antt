@@ -1,9 +1,0 @@
-use Rattle.std.proofs.Common.{refl}
-use Rattle.vortex_model.specs.Kind.{stored}
-use Rattle.vortex_model.specs.Content.{content_of}
-use Rattle.vortex_model.proofs.Contents.{said}
-use Rattle.vortex_scalar_conversions.proofs.Converted.{from_nullable}
-use Rattle.vortex_scalar_conversions.proofs.laws.nullable_values_cast_back.Goals as goal
-
-pub returns : goal.returns
-returns c = λ k r h. (from_nullable k (content_of r) (said (stored k) r h), h, refl)

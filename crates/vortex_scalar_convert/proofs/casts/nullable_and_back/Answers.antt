@@ -1,0 +1,22 @@
+use Rattle.std.proofs.Common.{◌≡◌, true, ap, subst, ◌∙◌, rules}
+use Rattle.vortex_model.specs.LogicalType.{nullable, with_nullability}
+use Rattle.vortex_model.specs.Valid.{valid}
+use Rattle.vortex_model.specs.Convert.{converts}
+use Rattle.vortex_dtype_core.specs.View.{type_of}
+use Rattle.vortex_scalar_value.specs.declared.error.ScalarError.TheVariants.{Memory}
+use Rattle.vortex_scalar_core.specs.Scalar.{scalar_type, scalar_raw, scalar_content}
+use Rattle.vortex_scalar_convert.proofs.Steps.{comes_back, only_memory}
+use Rattle.vortex_scalar_convert.proofs.casts.nullable_and_back.Goals as goal
+
+pub returns-in_err-back-clause-refused : goal.returns-in_err-back-clause-refused
+returns-in_err-back-clause-refused c =
+    let scalar = c.args.scalar.now in
+    let made = c.in_ok-nullable.nullable in
+    let copy = c.in_ok-copy.ensures.cases in
+    let is_there : valid (scalar_type scalar) (scalar_raw scalar) ≡ true = subst (λ r. valid (scalar_type scalar) r ≡ true) c.value.ensures.value c.value.ensures.is_valid in
+    let back : converts (scalar_type made) (type_of c.dtype.result.now) (scalar_content made) ≡ true
+    = comes_back c.tests_of_conversion_are_right.ensures (scalar_type scalar) (scalar_type made) (type_of c.dtype.result.now) (scalar_raw scalar) (scalar_raw made) is_there
+    (c.in_ok-nullable.ensures.dtype ∙ ap (λ k. with_nullability nullable k) copy.0) c.dtype.ensures (c.in_ok-nullable.ensures.value ∙ copy.1) in
+    let why : c.in_err-back.field-0.0 ≡ Memory = only_memory c.in_err-back.field-0.0 (converts (scalar_type made) (type_of c.dtype.result.now) (scalar_content made)) back c.in_err-back.ensures.refused in
+    let gives = c.from_residual-in_err-back.ensures.1 in
+    search (rules, why, gives)

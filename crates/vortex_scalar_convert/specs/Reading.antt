@@ -1,0 +1,65 @@
+-- What is read of values with their type. A number is read whatever its kind, and null as none.
+use Rattle.std.specs.Prelude.{◌≡◌, ◌≢◌, map, Bool, true, false, ◌&&◌, Option, Some, None, Result, IfOk, IfErr, Vec}
+use Rattle.std.specs.declared.alloc.Global.{Global}
+use Rattle.vortex_model.specs.LogicalType.{LogicalType, IntKind}
+use Rattle.vortex_model.specs.Content.{Content, null, boolean, integer, text, byte_string, tuple, Contents, nothing, first, contents_from}
+use Rattle.vortex_model.specs.Valid.{in_range}
+use Rattle.vortex_dtype_core.specs.Parts.{is_boolean_type, is_primitive_type, is_utf8_type, is_binary_type}
+use Rattle.vortex_scalar_value.specs.declared.error.ScalarError.{ScalarError}
+use Rattle.vortex_scalar_value.specs.declared.error.ScalarError.TheVariants.{Memory, Invalid}
+
+-- the content has the form asked
+abbrev pub is_truth : Content → Bool
+is_truth (boolean b) = true
+is_truth c = false
+
+abbrev pub is_whole_of : IntKind → Content → Bool
+is_whole_of i (integer z) = in_range i z
+is_whole_of i c = false
+
+abbrev pub is_text : Content → Bool
+is_text (text bs) = true
+is_text c = false
+
+abbrev pub is_blob : Content → Bool
+is_blob (byte_string bs) = true
+is_blob c = false
+
+-- a content of the type is read
+abbrev pub reads_truth : LogicalType → Content → Bool
+reads_truth k c = is_boolean_type k && is_truth c
+
+abbrev pub reads_number : IntKind → LogicalType → Content → Bool
+reads_number i k c = is_primitive_type k && is_whole_of i c
+
+abbrev pub reads_text : LogicalType → Content → Bool
+reads_text k c = is_utf8_type k && is_text c
+
+abbrev pub reads_bytes : LogicalType → Content → Bool
+reads_bytes k c = is_binary_type k && is_blob c
+
+-- of a list, each of its elements is
+abbrev pub all_read : (LogicalType → Content → Bool) → LogicalType → Contents → Bool
+all_read reads k nothing = true
+all_read reads k (first c cs) = reads k c && all_read reads k cs
+
+abbrev pub reads_list : (LogicalType → Content → Bool) → Option LogicalType → Content → Bool
+reads_list reads (Some k) (tuple cs) = all_read reads k cs
+reads_list reads o c = false
+
+-- what is read as `None` says null
+abbrev pub says_or_null : {A : Type 0} → (A → Content) → Option A → Content
+says_or_null says None = null
+says_or_null says (Some a) = says a
+
+-- What is read says the content, which is one that is read, and a refusal means that it is none; no memory is taken.
+abbrev pub IsFound : {A : Type 0} → (A → Content) → Bool → Content → Result A ScalarError → Type 0
+IsFound says reads c r = (IfOk r (λ a. (reads ≡ true) × (says a ≡ c))) × (IfErr r (λ e. (e ≡ Invalid) × (reads ≡ false)))
+
+-- the same, where memory is
+abbrev pub IsRead : {A : Type 0} → (A → Content) → Bool → Content → Result A ScalarError → Type 0
+IsRead says reads c r = (IfOk r (λ a. (reads ≡ true) × (says a ≡ c))) × (IfErr r (λ e. e ≢ Memory → (e ≡ Invalid) × (reads ≡ false)))
+
+-- the same of several
+abbrev pub AreRead : {A : Type 0} → (A → Content) → Bool → Contents → Result (Vec A Global) ScalarError → Type 0
+AreRead says reads cs r = (IfOk r (λ all. (reads ≡ true) × (contents_from (map says all.items) ≡ cs))) × (IfErr r (λ e. e ≢ Memory → (e ≡ Invalid) × (reads ≡ false)))

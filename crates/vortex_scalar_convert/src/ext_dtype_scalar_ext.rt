@@ -1,0 +1,33 @@
+//! Values of extension types whose meaning is known.
+ghost use Rattle.std.specs.Prelude.{◌≡◌, is_ok, IfErr};
+ghost use Rattle.vortex_model.specs.LogicalType.{LogicalType};
+ghost use Rattle.vortex_model.specs.Valid.{valid};
+ghost use Rattle.vortex_dtype_core.specs.View.{type_of};
+ghost use Rattle.vortex_scalar_value.specs.View.{raw_at};
+ghost use Rattle.vortex_scalar_value.specs.declared.error.ScalarError.TheVariants.{Invalid};
+
+use vortex_dtype_proto::ext_dtype::ExtDType;
+use vortex_dtype_proto::vtable::ExtVTable;
+use vortex_scalar_core::scalar::Scalar;
+use vortex_scalar_value::error::ScalarError;
+use vortex_scalar_value::scalar_value::ScalarValue;
+
+/// What can be asked of an extension type about values.
+pub trait ExtDTypeScalarExt {
+    // The type that stores the values.
+    ghost storage: { Self → LogicalType };
+
+    /// Whether the type's storage has the value, as a refusal by `Invalid` where it does not.
+    /// `None` is null.
+    fn validate_scalar_value(&self, value: Option<&ScalarValue>) -> Result<(), ScalarError>
+        ensures when { is_ok result ≡ valid (storage self.now) (raw_at value.entry) }
+        ensures refused { IfErr result (λ e. e ≡ Invalid) };
+}
+
+impl<V: ExtVTable> ExtDTypeScalarExt for ExtDType<V> {
+    ghost storage = { λ dtype. type_of dtype.storage };
+
+    fn validate_scalar_value(&self, value: Option<&ScalarValue>) -> Result<(), ScalarError> {
+        Scalar::validate(self.storage_dtype(), value)
+    }
+}

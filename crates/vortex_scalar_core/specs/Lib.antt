@@ -1,0 +1,4 @@
+pub mod Equality
+pub mod Native
+pub mod Reinterpreted
+pub mod Scalar

@@ -1,0 +1,73 @@
+//! The keys of a map's value, one after the other.
+ghost use Rattle.std.specs.Prelude.{◌≡◌, IsTrue};
+ghost use Rattle.std.specs.Iterator.{item_count};
+ghost use Rattle.vortex_model.specs.Valid.{entries_have};
+ghost use Rattle.vortex_dtype_core.specs.View.{entries_in};
+ghost use Rattle.vortex_scalar_value.specs.View.{raws_in};
+ghost use Rattle.vortex_scalar_views.specs.Views.{typed_scalar};
+ghost use Rattle.vortex_scalar_nested.specs.Entries.{each_key};
+
+use std::alloc::AllocError;
+use std::iter::ExactSizeIterator;
+use vortex_dtype_core::map_dtype::MapDType;
+use vortex_scalar_core::scalar::Scalar;
+use vortex_scalar_nested::copies::pair_of;
+use vortex_scalar_value::scalar_value::ScalarValue;
+use vortex_scalar_views::copies::scalar_of;
+
+/// Copies of a map's keys in the order of its entries. A key whose copy is refused memory is passed
+/// over.
+#[derive(Drop)]
+pub struct MapKeysIter<'a> {
+    types: &'a MapDType,
+    entries: &'a [Option<ScalarValue>],
+    ghost is_valid: { IsTrue (entries_have (entries_in types.now).key (entries_in types.now).value
+        (raws_in entries.now)) },
+}
+
+impl<'a> MapKeysIter<'a> {
+    ghost use Rattle.vortex_scalar_iter.specs.Iterators.{keys_left};
+
+    /// The keys of the entries with keys and values of these types.
+    pub(crate) fn new(types: &'a MapDType, entries: &'a [Option<ScalarValue>]) -> MapKeysIter<'a>
+        requires { IsTrue (entries_have (entries_in types.now).key (entries_in types.now).value
+            (raws_in entries.now)) }
+        ensures { keys_left result ≡ each_key (entries_in types.now).key (raws_in entries.now) }
+    {
+        MapKeysIter { types, entries }
+    }
+}
+
+impl<'a> Iterator for MapKeysIter<'a> {
+    ghost use Rattle.vortex_scalar_iter.specs.Iterators.{YieldsCopy, keys_left};
+
+    type Item = Result<Scalar, AllocError>;
+
+    ghost next_gives = { YieldsCopy typed_scalar keys_left };
+
+    ghost remaining = { item_count keys_left };
+
+    #[tactic(auto, using(crate::proofs::Entries::first_key_of))]
+    fn next(&mut self) -> Option<Result<Scalar, AllocError>> {
+        let (entry, entries) = self.entries.split_first()?;
+        let types = self.types;
+        *self = MapKeysIter { types, entries };
+        match pair_of(entry.as_ref()) {
+            Some((key, _)) => Some(scalar_of(types.key_dtype(), key)),
+            None => unreachable!(),
+        }
+    }
+
+    #[tactic(auto, using(crate::proofs::Entries::counted))]
+    fn size_hint(&self) -> (usize, Option<usize>) {
+        let len = self.entries.len();
+        (len, Some(len))
+    }
+}
+
+impl<'a> ExactSizeIterator for MapKeysIter<'a> {
+    #[tactic(auto, using(crate::proofs::Entries::counted))]
+    fn len(&self) -> usize {
+        self.entries.len()
+    }
+}

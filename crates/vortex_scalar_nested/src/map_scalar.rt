@@ -1,0 +1,218 @@
+//! Maps with their type.
+ghost use Rattle.std.specs.Prelude.{◌≡◌, ◌==◌, IsTrue, Some, IfOk, map, option_map};
+ghost use Rattle.vortex_model.specs.Content.{content_of, is_null};
+ghost use Rattle.vortex_model.specs.Valid.{valid, entries_have};
+ghost use Rattle.vortex_dtype_core.specs.Parts.{is_map_type, entries_in_type};
+ghost use Rattle.vortex_dtype_core.specs.View.{type_of, entries_in};
+ghost use Rattle.vortex_scalar_value.specs.View.{raw_at, raws_in};
+ghost use Rattle.vortex_scalar_views.specs.Forms.{GivesView};
+ghost use Rattle.vortex_scalar_views.specs.Views.{typed_scalar};
+ghost use Rattle.vortex_scalar_nested.specs.Held.{raw_of_items};
+ghost use Rattle.vortex_scalar_nested.specs.Places.{part_count};
+ghost use Rattle.vortex_scalar_nested.specs.Entries.{entry_at, each_key, each_value, keys_of, values_of};
+
+use crate::copies::{pair_of, value_at};
+use std::alloc::{AllocError, Global};
+use vortex_dtype_core::dtype::DType;
+use vortex_dtype_core::map_dtype::MapDType;
+use vortex_scalar_core::scalar::Scalar;
+use vortex_scalar_ops::validate::validate;
+use vortex_scalar_value::error::ScalarError;
+use vortex_scalar_value::scalar_value::ScalarValue;
+use vortex_scalar_views::copies::scalar_of;
+
+/// A map or null with its type, as Vortex's `MapScalar`.
+#[derive(Drop)]
+pub struct MapScalar<'a> {
+    dtype: &'a DType,
+    value: Option<&'a ScalarValue>,
+    ghost is_map: { IsTrue (is_map_type (type_of dtype.now)) },
+    ghost is_valid: { IsTrue (valid (type_of dtype.now) (raw_at value)) },
+}
+
+impl<'a> MapScalar<'a> {
+    ghost use Rattle.vortex_scalar_nested.specs.Nested.{typed_map};
+
+    /// The value as one of the type. `Invalid` where the type isn't of maps, or does not have the
+    /// value.
+    pub fn try_new(
+        dtype: &'a DType,
+        value: Option<&'a ScalarValue>,
+    ) -> Result<MapScalar<'a>, ScalarError>
+        ensures { GivesView typed_map is_map_type (type_of dtype.now) (raw_at value.entry) result }
+    {
+        if !dtype.is_map() || !validate(dtype, value) {
+            return Err(ScalarError::Invalid);
+        }
+        Ok(MapScalar::new(dtype, value))
+    }
+
+    /// The view of a value that the type has.
+    pub(crate) fn new(dtype: &'a DType, value: Option<&'a ScalarValue>) -> MapScalar<'a>
+        requires kind { IsTrue (is_map_type (type_of dtype.now)) }
+        requires valid { IsTrue (valid (type_of dtype.now) (raw_at value)) }
+        ensures { typed_map result ≡ (type_of dtype.now, raw_at value.entry) }
+    {
+        MapScalar { dtype, value }
+    }
+
+    /// The type.
+    pub fn dtype(&self) -> &'a DType
+        ensures { type_of result.now ≡ (typed_map self.now).0 }
+    {
+        self.dtype
+    }
+
+    /// The value itself. `None` is null.
+    pub fn value(&self) -> Option<&'a ScalarValue>
+        ensures value { raw_at result ≡ (typed_map self.now).1 }
+        ensures is_valid { IsTrue (valid (typed_map self.now).0 (raw_at result)) }
+    {
+        self.value
+    }
+
+    // The parts, and `None` of null.
+    #[tactic(auto, using(crate::proofs::Pairs::held))]
+    fn items(&self) -> Option<&'a [Option<ScalarValue>]>
+        ensures value { raw_of_items result ≡ (typed_map self.now).1 }
+        ensures is_valid { IsTrue (valid (typed_map self.now).0 (raw_of_items result)) }
+    {
+        match self.value {
+            Some(value) => value.as_list(),
+            None => None,
+        }
+    }
+
+    /// The types of keys and values.
+    pub fn map_dtype(&self) -> &'a MapDType
+        ensures { entries_in_type (typed_map self.now).0 ≡ Some (entries_in result.now) }
+    {
+        match self.dtype.as_map_opt() {
+            Some(map) => map,
+            None => unreachable!(),
+        }
+    }
+
+    /// Whether the value is null.
+    #[tactic(auto, using(vortex_scalar_value::proofs::Nulls::never_null))]
+    pub fn is_null(&self) -> bool
+        ensures { result ≡ is_null (content_of (typed_map self.now).1) }
+    {
+        self.value.is_none()
+    }
+
+    /// How many entries there are. Null has none.
+    #[tactic(auto, using(crate::proofs::Elements::counted))]
+    pub fn len(&self) -> usize
+        ensures { result ≡ part_count (typed_map self.now).1 }
+    {
+        match self.items() {
+            Some(entries) => entries.len(),
+            None => 0,
+        }
+    }
+
+    /// Whether there are no entries.
+    pub fn is_empty(&self) -> bool
+        ensures { result ≡ (part_count (typed_map self.now).1 == 0) }
+    {
+        self.len() == 0
+    }
+
+    /// Copies of the key and the value of the entry at this index, and `None` past the end. Null
+    /// has no entries.
+    #[tactic(auto, using(crate::proofs::Pairs::placed))]
+    pub fn entry(&self, index: usize) -> Result<Option<(Scalar, Scalar)>, AllocError>
+        ensures { IfOk result
+            (λ entry. option_map (λ pair. (typed_scalar pair.0, typed_scalar pair.1)) entry
+            ≡ entry_at (typed_map self.now) index) }
+    {
+        let Some(entries) = self.items() else {
+            return Ok(None);
+        };
+        let Some(entry) = value_at(entries, index) else {
+            return Ok(None);
+        };
+        let Some((key, value)) = pair_of(entry) else {
+            return Ok(None);
+        };
+        let types = self.map_dtype();
+        let key = scalar_of(types.key_dtype(), key)?;
+        let value = scalar_of(types.value_dtype(), value)?;
+        Ok(Some((key, value)))
+    }
+
+    /// Copies of the keys in order, and `None` of null.
+    #[tactic(auto, using(crate::proofs::Pairs::all))]
+    pub fn keys(&self, alloc: Global) -> Result<Option<Vec<Scalar>>, AllocError>
+        ensures { IfOk result (λ all. option_map (λ keys. map typed_scalar keys.items) all
+            ≡ keys_of (typed_map self.now)) }
+    {
+        let Some(entries) = self.items() else {
+            return Ok(None);
+        };
+        let all = key_copies(alloc, self.map_dtype(), entries)?;
+        Ok(Some(all))
+    }
+
+    /// Copies of the values in the order of their keys, and `None` of null.
+    #[tactic(auto, using(crate::proofs::Pairs::all))]
+    pub fn values(&self, alloc: Global) -> Result<Option<Vec<Scalar>>, AllocError>
+        ensures { IfOk result (λ all. option_map (λ values. map typed_scalar values.items) all
+            ≡ values_of (typed_map self.now)) }
+    {
+        let Some(entries) = self.items() else {
+            return Ok(None);
+        };
+        let all = value_copies(alloc, self.map_dtype(), entries)?;
+        Ok(Some(all))
+    }
+}
+
+#[tactic(auto, using(crate::proofs::Pairs::copied))]
+fn key_copies(
+    alloc: Global,
+    types: &MapDType,
+    entries: &[Option<ScalarValue>],
+) -> Result<Vec<Scalar>, AllocError>
+    requires { IsTrue (entries_have (entries_in types.now).key (entries_in types.now).value
+        (raws_in entries.now)) }
+    ensures { IfOk result (λ keys. map typed_scalar keys.items ≡ each_key (entries_in types.now).key
+        (raws_in entries.now)) }
+{
+    let mut keys = Vec::with_capacity(alloc, entries.len())?;
+    for entry in entries {
+        match pair_of(entry.as_ref()) {
+            Some((key, _)) => {
+                let key = scalar_of(types.key_dtype(), key)?;
+                keys.push(key)?;
+            }
+            None => unreachable!(),
+        }
+    }
+    Ok(keys)
+}
+
+#[tactic(auto, using(crate::proofs::Pairs::copied))]
+fn value_copies(
+    alloc: Global,
+    types: &MapDType,
+    entries: &[Option<ScalarValue>],
+) -> Result<Vec<Scalar>, AllocError>
+    requires { IsTrue (entries_have (entries_in types.now).key (entries_in types.now).value
+        (raws_in entries.now)) }
+    ensures { IfOk result (λ values. map typed_scalar values.items
+        ≡ each_value (entries_in types.now).value (raws_in entries.now)) }
+{
+    let mut values = Vec::with_capacity(alloc, entries.len())?;
+    for entry in entries {
+        match pair_of(entry.as_ref()) {
+            Some((_, value)) => {
+                let value = scalar_of(types.value_dtype(), value)?;
+                values.push(value)?;
+            }
+            None => unreachable!(),
+        }
+    }
+    Ok(values)
+}

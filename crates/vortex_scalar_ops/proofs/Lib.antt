@@ -1,0 +1,15 @@
+pub mod Casts
+pub mod Compared
+pub mod Fed
+pub mod Forms
+pub mod Items
+pub mod KeptValues
+pub mod LeafValues
+pub mod ListValues
+pub mod NativeValues
+pub mod Nullable
+pub mod Ordered
+pub mod Sameness
+pub mod Tags
+pub mod Validity
+pub mod Views

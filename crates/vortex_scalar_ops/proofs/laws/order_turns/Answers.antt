@@ -1,0 +1,5 @@
+use Rattle.vortex_scalar_ops.proofs.Ordered.{reversed}
+use Rattle.vortex_scalar_ops.proofs.laws.order_turns.Goals as goal
+
+pub returns : goal.returns
+returns c = reversed

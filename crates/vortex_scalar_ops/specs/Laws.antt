@@ -1,0 +1,49 @@
+-- Laws of values that are compared and fed to hashers.
+use Rattle.std.specs.Prelude.{◌≡◌, ◌↔◌, true, false, Some, option_map, is_some}
+use Rattle.std.specs.Cmp.{IsEquivalence}
+use Rattle.std.specs.declared.cmp.Ordering.TheVariants.{Less, Equal}
+use Rattle.std.specs.Ordering.{ordering_reverse, is_le}
+use Rattle.vortex_model.specs.LogicalType.{LogicalType, EqualIgnoringNullability}
+use Rattle.vortex_model.specs.Content.{Content}
+use Rattle.vortex_model.specs.Order.{content_cmp, is_known}
+use Rattle.vortex_model.specs.Valid.{IsContent}
+use Rattle.vortex_scalar_ops.specs.Hashing.{content_writes}
+use Rattle.vortex_scalar_ops.specs.Equality.{eq_content, holds_variant, has_variant}
+
+-- being the same is reflexive, symmetric and transitive
+abbrev pub SamenessIsAnEquivalence : Type 0
+SamenessIsAnEquivalence = IsEquivalence eq_content
+
+-- values that are the same feed a hasher equally
+abbrev pub SameValuesAreFedAlike : Type 0
+SameValuesAreFedAlike = (c d : Content) → eq_content c d ≡ true → content_writes c ≡ content_writes d
+
+-- Values without a variant's in them compare as equal exactly where they are the same. Those of a type without Variant anywhere are such values.
+abbrev pub TiedValuesAreTheSame : Type 0
+TiedValuesAreTheSame = (c d : Content) → holds_variant c ≡ false → (content_cmp c d ≡ Some Equal) ↔ (eq_content c d ≡ true)
+
+abbrev pub PlainTypesHavePlainValues : Type 0
+PlainTypesHavePlainValues = (k : LogicalType) (c : Content) → has_variant k ≡ false → IsContent k c → holds_variant c ≡ false
+
+-- two values of one type without Variant, nullability aside, compare
+abbrev pub ValuesOfATypeCompare : Type 0
+ValuesOfATypeCompare = (k l : LogicalType) (c d : Content) → EqualIgnoringNullability k l → has_variant k ≡ false → IsContent k c → IsContent l d → is_some (content_cmp c d) ≡ true
+
+-- the other way round the answer is reversed
+abbrev pub OrderTurns : Type 0
+OrderTurns = (c d : Content) → content_cmp d c ≡ option_map ordering_reverse (content_cmp c d)
+
+-- c is below d, or at most d
+abbrev pub IsBelow : Content → Content → Type 0
+IsBelow c d = content_cmp c d ≡ Some Less
+
+abbrev pub IsNotAbove : Content → Content → Type 0
+IsNotAbove c d = is_known is_le (content_cmp c d) ≡ true
+
+-- what is below chains, and what is not above
+abbrev pub OrderIsTransitive : Type 0
+OrderIsTransitive = (c d e : Content) → (IsBelow c d → IsBelow d e → IsBelow c e) × (IsNotAbove c d → IsNotAbove d e → IsNotAbove c e)
+
+-- values that are the same compare alike with any other
+abbrev pub SameValuesCompareAlike : Type 0
+SameValuesCompareAlike = (c d e : Content) → eq_content c d ≡ true → content_cmp c e ≡ content_cmp d e

@@ -1,0 +1,6 @@
+pub mod Converting
+pub mod Equality
+pub mod Hashing
+pub mod Laws
+pub mod Native
+pub mod Tagged

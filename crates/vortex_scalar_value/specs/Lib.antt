@@ -1,0 +1,4 @@
+pub mod Errors
+pub mod Numbers
+pub mod Parts
+pub mod View

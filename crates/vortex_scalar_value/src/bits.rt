@@ -1,0 +1,53 @@
+//! Integers of all kinds as bytes.
+ghost use Rattle.std.specs.Prelude.{◌≡◌, ◌≤◌, take};
+ghost use Rattle.vortex_dtype_ptype.specs.Numbers.{integral, HasByteWidth};
+ghost use Rattle.vortex_dtype_ptype.specs.View.{number_kind_of};
+ghost use Rattle.vortex_dtype_native.specs.NativeBytes.{AreBytesOf};
+ghost use Rattle.vortex_scalar_value.specs.Numbers.{kind_of_number, integer_of, IsAsWide, HaveSameBytes};
+
+use crate::match_each_pvalue;
+use crate::pvalue::PValue;
+use vortex_dtype_native::by_kind::number_from_le_bytes;
+use vortex_dtype_native::native::NativePType;
+use vortex_dtype_ptype::ptype::PType;
+
+// The bytes of the number, the least first, and how many they are.
+#[tactic(auto, using(crate::proofs::Widths::at_most_eight))]
+fn bytes_of<T: NativePType>(number: T) -> ([u8; 8], usize)
+    ensures width { HasByteWidth (integral T.kind) result.1 }
+    ensures within { result.1 ≤ 8 }
+    ensures bytes { AreBytesOf T.kind (T.integer number) (take result.1 result.0) }
+{
+    number.to_le_bytes()
+}
+
+impl PValue {
+    /// The bytes, the least first, and how many of the eight are the number's. The others say
+    /// nothing.
+    pub fn to_le_bytes(self) -> ([u8; 8], usize)
+        ensures width { HasByteWidth (integral (kind_of_number self)) result.1 }
+        ensures within { result.1 ≤ 8 }
+        ensures bytes { AreBytesOf (kind_of_number self) (integer_of self)
+            (take result.1 result.0) }
+    {
+        match_each_pvalue!(self, bytes_of())
+    }
+
+    /// The number of the other kind that has the same bytes. The kind is as wide, and one below
+    /// zero is its two's complement.
+    pub fn reinterpret_cast(self, ptype: PType) -> PValue
+        requires { IsAsWide (kind_of_number self) (number_kind_of ptype) }
+        ensures kind { integral (kind_of_number result) ≡ number_kind_of ptype }
+        ensures bytes { HaveSameBytes (kind_of_number self) (integer_of self)
+            (kind_of_number result) (integer_of result) }
+    {
+        let (bytes, width) = self.to_le_bytes();
+        match number_from_le_bytes(ptype, &bytes[..width]) {
+            Ok(number) => match PValue::of(ptype, number) {
+                Some(value) => value,
+                None => unreachable!(),
+            },
+            Err(_) => unreachable!(),
+        }
+    }
+}

@@ -1,0 +1,15 @@
+//! Why a value of a column can't be made.
+#![tactic(auto)]
+
+pub mod bits;
+pub mod clone;
+pub mod cmp;
+pub mod error;
+mod from_numbers;
+mod from_values;
+pub mod natives;
+pub mod parts;
+pub mod pvalue;
+pub mod scalar_value;
+pub mod union_value;
+pub mod variant_value;

@@ -1,0 +1,4 @@
+pub mod Choices
+pub mod Leaves
+pub mod Numbers
+pub mod Whichever

@@ -1,0 +1,10 @@
+pub mod Choices
+pub mod Compared
+pub mod Equal
+pub mod Forms
+pub mod Held
+pub mod Laws
+pub mod Numeric
+pub mod Ordered
+pub mod UnionViews
+pub mod Views

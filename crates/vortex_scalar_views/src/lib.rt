@@ -1,0 +1,19 @@
+//! Values of unions and of variants with their type, seen as the one value that they hold.
+#![tactic(auto)]
+
+pub mod arithmetic;
+pub mod binary_scalar;
+pub mod bool_scalar;
+pub mod cmp;
+pub mod conversions;
+pub mod copies;
+pub mod hashing;
+pub mod numeric_operator;
+pub mod ordering;
+pub mod primitive_scalar;
+pub mod scalar_views;
+pub mod union_cmp;
+pub mod union_conversions;
+pub mod union_scalar;
+pub mod utf8_scalar;
+pub mod variant_scalar;

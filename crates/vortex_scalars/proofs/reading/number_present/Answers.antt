@@ -1,9 +1,0 @@
-use Rattle.std.proofs.Common.{arith}
-use Rattle.vortex_scalars.proofs.Natives.{present}
-use Rattle.vortex_scalars.proofs.reading.number_present.Goals as goal
-
-pub returns-in-Some : goal.returns-in-Some
-returns-in-Some c = grind (arith, present)
-
-pub returns-in-None : goal.returns-in-None
-returns-in-None c = grind (arith, present)

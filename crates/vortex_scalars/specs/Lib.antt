@@ -1,4 +1,0 @@
-pub mod Native
-pub mod Reinterpreted
-pub mod Same
-pub mod Scalar

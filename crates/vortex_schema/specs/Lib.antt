@@ -1,4 +1,0 @@
-pub mod Fault
-pub mod Leaves
-pub mod Answer
-pub mod Cut

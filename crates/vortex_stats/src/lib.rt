@@ -1,0 +1,14 @@
+//! Predicates over rows, and the proofs over statistics that are made of them.
+//!
+//! A reader of predicates alone depends on this crate; nothing below it does.
+#![tactic(auto)]
+
+pub use vortex_stats_expr::aggregate::AggregateFn;
+pub use vortex_stats_expr::bind::{PredicateError, bind};
+pub use vortex_stats_expr::bound::BoundExpression;
+pub use vortex_stats_expr::expression::{
+    Expression, and, binary, col, eq, gt, gt_eq, lit, lt, lt_eq, not_eq, or, root, stat,
+};
+pub use vortex_stats_expr::operator::Operator;
+pub use vortex_stats_rewrite::rewrite::{falsify, satisfy};
+pub use vortex_stats_rewrite::stats::{StatBinder, bind_stats, prove, prove_with};

@@ -1,0 +1,4 @@
+pub mod Checks
+pub mod Classes
+pub mod Items
+pub mod Truths

@@ -1,0 +1,84 @@
+-- The truth values among operands.
+use Rattle.std.proofs.Common.{◌≡◌, refl, Bool, true, false, Option, Some, option_map}
+use Rattle.std.specs.Option.{unwrap_or}
+use Rattle.std.specs.Ordering.{bool_cmp}
+use Rattle.vortex_model.specs.Content.{Content, content_of, null, boolean, is_null, Raw, raw_boolean}
+use Rattle.vortex_model.specs.Order.{content_cmp}
+use Rattle.vortex_model.specs.Truth.{kleene_and, kleene_or, is_true}
+use Rattle.vortex_scalar_value.specs.Parts.{boolean_in as raw_truth_in}
+use Rattle.vortex_scalar_value.specs.View.{raw_of}
+use Rattle.vortex_scalar_value.specs.declared.scalar_value.ScalarValue.{ScalarValue}
+use Rattle.vortex_scalar_value.proofs.Nulls.{is_null-raw_of}
+use Rattle.vortex_stats_expr.specs.OperandValue.{boolean_in, order_of}
+
+-- the truth value that a value is, is what it says
+pub truth_said : (r : Raw) → raw_truth_in r ≡ boolean_in (content_of r)
+truth_said (raw_boolean b) = refl
+truth_said r = refl
+
+pub ruleset stored = (truth_said)
+
+-- ---- how operands stand
+
+pub truth_first : (b : Bool) (c : Content) → order_of (boolean b) c ≡ option_map (λ d. bool_cmp b d) (boolean_in c)
+truth_first b null = refl
+truth_first b (boolean d) = refl
+truth_first b c = refl
+
+pub truth_second : (b : Bool) (c : Content) → order_of c (boolean b) ≡ option_map (λ d. bool_cmp d b) (boolean_in c)
+truth_second b null = refl
+truth_second b (boolean d) = refl
+truth_second b c = refl
+
+present : (c d : Content) → is_null c ≡ false → is_null d ≡ false → order_of c d ≡ content_cmp c d
+present null d g h = absurd (cc (g))
+present c null g h = absurd (cc (h))
+present c d g h = refl
+
+pub both_stored : (v w : ScalarValue) → order_of (content_of (raw_of v)) (content_of (raw_of w)) ≡ content_cmp (content_of (raw_of v)) (content_of (raw_of w))
+both_stored v w = present (content_of (raw_of v)) (content_of (raw_of w)) (is_null-raw_of v) (is_null-raw_of w)
+
+pub ruleset orders = (truth_said, truth_first, truth_second, both_stored)
+
+-- ---- Kleene's connectives
+
+abbrev pub both_of : Option Bool → Option Bool → Content
+both_of (Some false) q = boolean false
+both_of p (Some false) = boolean false
+both_of (Some true) (Some true) = boolean true
+both_of p q = null
+
+pub both_by_truths : (c d : Content) → kleene_and c d ≡ both_of (boolean_in c) (boolean_in d)
+both_by_truths (boolean false) d = refl
+both_by_truths (boolean true) (boolean false) = refl
+both_by_truths (boolean true) (boolean true) = refl
+both_by_truths (boolean true) d = refl
+both_by_truths c (boolean false) = refl
+both_by_truths c (boolean true) = refl
+both_by_truths c d = refl
+
+abbrev pub one_of : Option Bool → Option Bool → Content
+one_of (Some true) q = boolean true
+one_of p (Some true) = boolean true
+one_of (Some false) (Some false) = boolean false
+one_of p q = null
+
+pub one_by_truths : (c d : Content) → kleene_or c d ≡ one_of (boolean_in c) (boolean_in d)
+one_by_truths (boolean true) d = refl
+one_by_truths (boolean false) (boolean true) = refl
+one_by_truths (boolean false) (boolean false) = refl
+one_by_truths (boolean false) d = refl
+one_by_truths c (boolean true) = refl
+one_by_truths c (boolean false) = refl
+one_by_truths c d = refl
+
+pub ruleset both = (both_by_truths)
+
+pub ruleset one = (one_by_truths)
+
+-- neither false nor null
+pub true_by_truth : (c : Content) → is_true c ≡ unwrap_or (boolean_in c) false
+true_by_truth (boolean b) = refl
+true_by_truth c = refl
+
+pub ruleset is_true_by = (true_by_truth)

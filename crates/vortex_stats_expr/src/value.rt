@@ -1,0 +1,107 @@
+//! Values of operands, borrowed while a predicate or a proof is evaluated.
+//!
+//! What is no truth value counts as null under AND and OR, and null compares with nothing.
+ghost use Rattle.std.specs.Prelude.{◌≡◌};
+ghost use Rattle.vortex_model.specs.Order.{content_cmp};
+ghost use Rattle.vortex_model.specs.Truth.{compared, kleene_and, kleene_or};
+ghost use Rattle.vortex_scalar_value.specs.View.{content_at};
+ghost use Rattle.vortex_stats_expr.specs.OperandValue.{operand_value, truth_content, boolean_in, order_of};
+ghost use Rattle.vortex_stats_expr.specs.Tree.{comparison_of};
+
+use crate::operator::Comparison;
+use std::cmp::Ordering;
+use vortex_scalar_ops::compare::compare_values as order_values;
+use vortex_scalar_value::scalar_value::ScalarValue;
+
+/// The value of an operand: null, a truth value that was computed, or a value that a literal or a
+/// row holds.
+#[derive(Clone, Copy)]
+pub enum Value<'a> {
+    Null,
+    Truth(bool),
+    Stored(&'a ScalarValue),
+}
+
+/// An operand that a literal or a row holds, where `None` is null.
+pub fn read<'a>(value: Option<&'a ScalarValue>) -> Value<'a>
+    ensures { operand_value result ≡ content_at value.entry }
+{
+    match value {
+        Some(value) => Value::Stored(value),
+        None => Value::Null,
+    }
+}
+
+/// An operand that was computed. `None` is null.
+pub fn truth_value<'a>(truth: Option<bool>) -> Value<'a>
+    ensures { operand_value result ≡ truth_content truth }
+{
+    match truth {
+        Some(b) => Value::Truth(b),
+        None => Value::Null,
+    }
+}
+
+/// The truth value of an operand, and `None` where it is null or no truth value.
+#[tactic(auto, using(crate::proofs::Truths::stored))]
+pub fn truth_of(value: Value) -> Option<bool>
+    ensures { result ≡ boolean_in (operand_value value.entry) }
+{
+    match value {
+        Value::Truth(b) => Some(b),
+        Value::Stored(value) => value.as_bool(),
+        Value::Null => None,
+    }
+}
+
+// `None` also where an operand is null.
+#[tactic(auto, using(crate::proofs::Truths::orders))]
+fn order(left: Value, right: Value) -> Option<Ordering>
+    ensures { result ≡ order_of (operand_value left.entry) (operand_value right.entry) }
+{
+    match (left, right) {
+        (Value::Truth(x), Value::Truth(y)) => Some(x.cmp(&y)),
+        (Value::Truth(x), Value::Stored(y)) => Some(x.cmp(&y.as_bool()?)),
+        (Value::Stored(x), Value::Truth(y)) => Some(x.as_bool()?.cmp(&y)),
+        (Value::Stored(x), Value::Stored(y)) => order_values(Some(x), Some(y)),
+        (Value::Null, _) | (_, Value::Null) => None,
+    }
+}
+
+/// The truth of a comparison, and `None`, which is null, where an operand is null or the two don't
+/// compare.
+pub fn compare_values(comparison: Comparison, left: Value, right: Value) -> Option<bool>
+    ensures { truth_content result ≡ compared (comparison_of comparison) (operand_value left.entry)
+        (operand_value right.entry) }
+{
+    match order(left, right) {
+        Some(found) => Some(comparison.holds(found)),
+        None => None,
+    }
+}
+
+/// AND in Kleene's logic, where false decides against null.
+#[tactic(auto, using(crate::proofs::Truths::both))]
+pub fn kleene_and(left: Value, right: Value) -> Option<bool>
+    ensures { truth_content result ≡ kleene_and (operand_value left.entry)
+        (operand_value right.entry) }
+{
+    match (truth_of(left), truth_of(right)) {
+        (Some(false), _) | (_, Some(false)) => Some(false),
+        (Some(true), Some(true)) => Some(true),
+        (Some(true), None) | (None, Some(true)) | (None, None) => None,
+    }
+}
+
+/// OR in Kleene's logic, where true decides against null.
+#[tactic(auto, using(crate::proofs::Truths::one))]
+pub fn kleene_or(left: Value, right: Value) -> Option<bool>
+    ensures { truth_content result ≡ kleene_or (operand_value left.entry)
+        (operand_value right.entry) }
+{
+    match (truth_of(left), truth_of(right)) {
+        (Some(true), _) | (_, Some(true)) => Some(true),
+        (Some(false), Some(false)) => Some(false),
+        (Some(false), None) | (None, Some(false)) | (None, None) => None,
+    }
+}

@@ -1,0 +1,4 @@
+pub mod Classes
+pub mod Guards
+pub mod Literals
+pub mod Stats

@@ -1,4 +1,0 @@
-pub mod Walks
-pub mod Fronts
-pub mod LineLemmas
-pub mod ReplyLemmas

@@ -1,5 +1,0 @@
-use Rattle.std.proofs.Common.{rules}
-use Rattle.vortex_streams.proofs.run.line_of.Goals as goal
-
-pub returns-in-Done : goal.returns-in-Done
-returns-in-Done c = search rules

@@ -1,0 +1,72 @@
+-- The bounds that belong to the leaves.
+use Rattle.std.proofs.Common.{◌≡◌, refl, sym, ◌∙◌, ap, subst, zero, suc, ℕ, ◌+◌, ◌<◌, List, [], ◌∷◌, ◌++◌, length, take, drop, get_or, slice_get, Bool, true, false, ◌||◌, Option, Some, None, if◌then◌else◌, add-one, arith}
+use Rattle.std.proofs.lemmas.List.{take_more}
+use Rattle.vortex_model.specs.Path.{Positions, eq_positions}
+use Rattle.vortex_table_schema.proofs.Places.{positions_so, is_among}
+use Rattle.vortex_scalar_value.specs.declared.scalar_value.ScalarValue.{ScalarValue}
+use Rattle.vortex_table_chunk.specs.zones.Bounds.{IsBoundsOf}
+use Rattle.vortex_table_chunk.specs.Bounds.{column_at, AreBoundsOf}
+use Rattle.vortex_table_chunk.specs.BoundStat.{bounds_at}
+use Rattle.vortex_table_chunk.specs.declared.zones.bounds.ColumnBounds.{ColumnBounds}
+
+-- ---- the bounds of a leaf
+
+none_left : (leaves : List Positions) (is : Positions) → bounds_at leaves [] is ≡ None
+none_left [] is = refl
+none_left (js ∷ leaves) is = refl
+
+either_none : (b : Bool) (o : Option ColumnBounds) → o ≡ None → None ≡ (if b then None else o)
+either_none true o h = refl
+either_none false o h = sym h
+
+-- what is found from here on
+pub bounds_from : (leaves : List Positions) (bounds : List ColumnBounds) (is : Positions) (i : ℕ) (leaf : Positions) → i < length leaves → leaf ≡ get_or leaves i leaf →
+    bounds_at (drop i leaves) (drop i bounds) is ≡ (if eq_positions leaf is then slice_get bounds i else bounds_at (drop (suc i) leaves) (drop (suc i) bounds) is)
+bounds_from [] bounds is i leaf h e = absurd (omega (arith, h))
+bounds_from (js ∷ leaves) [] is zero leaf h e = either_none (eq_positions leaf is) (bounds_at leaves [] is) (none_left leaves is)
+bounds_from (js ∷ leaves) (b ∷ bounds) is zero leaf h e = ap (λ l. if eq_positions l is then Some b else bounds_at leaves bounds is) (sym e)
+bounds_from (js ∷ leaves) [] is (suc i) leaf h e = none_left (drop i leaves) is ∙ either_none (eq_positions leaf is) (bounds_at (drop (suc i) leaves) [] is) (none_left (drop (suc i) leaves) is)
+bounds_from (js ∷ leaves) (b ∷ bounds) is (suc i) leaf h e = bounds_from leaves bounds is i leaf (omega (arith, h)) e
+
+-- a leaf that stands elsewhere is passed over
+pub passed_over : (leaves : List Positions) (bounds : List ColumnBounds) (is : Positions) (i : ℕ) (leaf : Positions) (all : Option ColumnBounds) → i < length leaves → leaf ≡ get_or leaves i leaf →
+    eq_positions leaf is ≡ false → bounds_at (drop i leaves) (drop i bounds) is ≡ all → bounds_at (drop (i + 1) leaves) (drop (i + 1) bounds) is ≡ all
+passed_over leaves bounds is i leaf all h e other before =
+    ap (λ n. bounds_at (drop n leaves) (drop n bounds) is) (add-one i)
+    ∙ sym (bounds_from leaves bounds is i leaf h e ∙ ap (λ b. if b then slice_get bounds i else bounds_at (drop (suc i) leaves) (drop (suc i) bounds) is) other) ∙ before
+
+-- bounds of one more leaf
+pub one_more_leaf : (L : ℕ) (leaves : List Positions) (bounds : List ColumnBounds) (is : Positions) (b : ColumnBounds) (rows : List ScalarValue) → AreBoundsOf L leaves bounds rows → IsBoundsOf L b (column_at is rows) →
+    AreBoundsOf L (leaves ++ is ∷ []) (bounds ++ b ∷ []) rows
+one_more_leaf L [] [] is b rows h g = (g, tt)
+one_more_leaf L (js ∷ leaves) (d ∷ bounds) is b rows h g = (h.0, one_more_leaf L leaves bounds is b rows h.1 g)
+one_more_leaf L leaves bounds is b rows h g = absurd h
+
+pub leaf_pushed : (L : ℕ) (leaves : List Positions) (i : ℕ) (leaf : Positions) (old new : List ColumnBounds) (b : ColumnBounds) (rows : List ScalarValue) → i < length leaves → leaf ≡ get_or leaves i leaf → new ≡ old ++ b ∷ [] →
+    AreBoundsOf L (take i leaves) old rows → IsBoundsOf L b (column_at leaf rows) → AreBoundsOf L (take (i + 1) leaves) new rows
+leaf_pushed L leaves i leaf old new b rows h is made before g =
+    subst (λ ls. AreBoundsOf L ls new rows) (sym (take_more leaves i leaf h ∙ ap (λ l. take i leaves ++ l ∷ []) (sym is)))
+    (subst (λ bs. AreBoundsOf L (take i leaves ++ leaf ∷ []) bs rows) (sym made) (one_more_leaf L (take i leaves) old leaf b rows before g))
+
+-- the bounds of a leaf that is there
+pub record Found (L : ℕ) (leaves : List Positions) (bounds : List ColumnBounds) (rows : List ScalarValue) (is : Positions) : Type 0 where
+  pub bounds_of : ColumnBounds
+  pub there : bounds_at leaves bounds is ≡ Some bounds_of
+  pub honest : IsBoundsOf L bounds_of (column_at is rows)
+
+pub found_among : (L : ℕ) (leaves : List Positions) (bounds : List ColumnBounds) (rows : List ScalarValue) (is : Positions) → AreBoundsOf L leaves bounds rows → is_among leaves is ≡ true → Found L leaves bounds rows is
+found_among L [] bounds rows is h g = absurd (cc (g))
+found_among L (js ∷ leaves) [] rows is h g = absurd h
+found_among L (js ∷ leaves) (b ∷ bounds) rows is h g = by_test (eq_positions js is) refl g (found_among L leaves bounds rows is h.1)
+  where
+    by_test : (t : Bool) → eq_positions js is ≡ t → t || is_among leaves is ≡ true → (is_among leaves is ≡ true → Found L leaves bounds rows is) → Found L (js ∷ leaves) (b ∷ bounds) rows is
+    by_test true e s f = record {
+      bounds_of = b;
+      there = ap (λ t. if t then Some b else bounds_at leaves bounds is) e;
+      honest = subst (λ ks. IsBoundsOf L b (column_at ks rows)) (positions_so js is e) h.0;
+    }
+    by_test false e s f = record {
+      bounds_of = (f s).bounds_of;
+      there = ap (λ t. if t then Some b else bounds_at leaves bounds is) e ∙ (f s).there;
+      honest = (f s).honest;
+    }

@@ -1,0 +1,29 @@
+-- The code of a bound, by which a proof tells two bounds apart.
+use Rattle.std.specs.Prelude.{◌≡◌, Option, Some, None, Bool, true, false}
+use Rattle.std.specs.Coded.{Coded, code_by, coded_option, coded×, coded_bool}
+use Rattle.std.proofs.Common.{refl}
+use Rattle.vortex_model.specs.Content.{Content}
+use Rattle.vortex_model.specs.Statistics.{Precision, exact, inexact, absent}
+use Rattle.vortex_stats_expr.specs.ContentCode.{content_code, content_inj}
+
+abbrev pub coded_content : Coded Content
+coded_content = record { code = content_code; inj = content_inj }
+
+-- whether it is exact, and the value
+abbrev pub parts_of : Precision Content → Option (Bool × Content)
+parts_of (exact c) = Some (true, c)
+parts_of (inexact c) = Some (false, c)
+parts_of absent = None
+
+abbrev pub of_parts : Option (Bool × Content) → Precision Content
+of_parts (Some (true, c)) = exact c
+of_parts (Some (false, c)) = inexact c
+of_parts None = absent
+
+pub parts_back : (p : Precision Content) → of_parts (parts_of p) ≡ p
+parts_back (exact c) = refl
+parts_back (inexact c) = refl
+parts_back absent = refl
+
+abbrev pub coded_bound : Coded (Precision Content)
+coded_bound = code_by (Option (Bool × Content)) (coded_option (coded× coded_bool coded_content)) parts_of of_parts parts_back

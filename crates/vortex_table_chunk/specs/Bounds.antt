@@ -1,0 +1,37 @@
+-- Bounds of the leaves of rows.
+use Rattle.std.specs.Prelude.{ℕ, List, [], ◌∷◌, map}
+use Rattle.std.specs.Coded.{Coded-set, coded_ℕ}
+use Rattle.vortex_model.specs.Content.{Content, content_of}
+use Rattle.vortex_model.specs.Path.{Positions}
+use Rattle.vortex_model.specs.ZoneMap.{values_at}
+use Rattle.vortex_scalar_value.specs.View.{raw_of}
+use Rattle.vortex_scalar_value.specs.declared.scalar_value.ScalarValue.{ScalarValue}
+use Rattle.vortex_table_chunk.specs.zones.Bounds.{IsBoundsOf}
+use Rattle.vortex_table_chunk.specs.declared.zones.bounds.ColumnBounds.{ColumnBounds}
+use Rattle.vortex_table_chunk.specs.BoundCode.{coded_bound}
+
+-- what a row says
+abbrev pub row_content : ScalarValue → Content
+row_content row = content_of (raw_of row)
+
+-- the values of the leaf at these positions
+abbrev pub column_at : Positions → List ScalarValue → List Content
+column_at is rows = values_at is (map row_content rows)
+
+-- one to one, the bounds are those of the rows' leaves at these positions, at this bound length
+abbrev pub AreBoundsOf : ℕ → List Positions → List ColumnBounds → List ScalarValue → Type 0
+AreBoundsOf L [] [] rows = Unit {0}
+AreBoundsOf L (is ∷ leaves) (b ∷ bounds) rows = IsBoundsOf L b (column_at is rows) × AreBoundsOf L leaves bounds rows
+AreBoundsOf L leaves bounds rows = ⊥
+
+pub IsBoundsOf-prop : (L : ℕ) (b : ColumnBounds) (cs : List Content) → IsProp (IsBoundsOf L b cs)
+IsBoundsOf-prop L b cs = λ p q i. record {
+  low = λ c. Coded-set coded_bound _ _ (p.low c) (q.low c) i;
+  high = λ c. Coded-set coded_bound _ _ (p.high c) (q.high c) i;
+  nulls = Coded-set coded_ℕ _ _ p.nulls q.nulls i;
+}
+
+pub AreBoundsOf-prop : (L : ℕ) (leaves : List Positions) (bounds : List ColumnBounds) (rows : List ScalarValue) → IsProp (AreBoundsOf L leaves bounds rows)
+AreBoundsOf-prop L [] [] rows = λ p q i. tt
+AreBoundsOf-prop L (is ∷ leaves) (b ∷ bounds) rows = λ p q i. (IsBoundsOf-prop L b (column_at is rows) p.0 q.0 i, AreBoundsOf-prop L leaves bounds rows p.1 q.1 i)
+AreBoundsOf-prop L leaves bounds rows = λ p q. absurd p

@@ -1,0 +1,63 @@
+//! Chunks of rows with statistics of their leaf columns.
+ghost use Rattle.std.specs.Prelude.{◌≡◌, IfOk, option_map};
+ghost use Rattle.vortex_table_chunk.specs.Bounds.{AreBoundsOf, AreBoundsOf-prop};
+ghost use Rattle.vortex_table_chunk.specs.BoundStat.{bounds_at};
+
+use crate::bounds::all_bounds;
+use crate::zones::bounds::ColumnBounds;
+use std::alloc::{AllocError, Global};
+use std::rc::Rc;
+use vortex_scalar_value::scalar_value::ScalarValue;
+use vortex_table_schema::leaves::LeafPath;
+
+/// The rows of one append, with statistics of their leaf columns, which stay as they are.
+#[derive(Drop)]
+pub struct Chunk {
+    pub rows: Vec<ScalarValue>,
+    /// The paths of the leaf columns, which the chunks of a table share.
+    pub leaves: Rc<Vec<LeafPath>>,
+    /// The greatest number of bytes of a bound that is a text or bytes.
+    pub bound_length: usize,
+    /// The statistics of each leaf column, in the order of `leaves`.
+    pub bounds: Vec<ColumnBounds>,
+    pub ghost honest: { AreBoundsOf bound_length leaves.value.items bounds.items rows.items } by { AreBoundsOf-prop bound_length leaves.value.items bounds.items rows.items },
+}
+
+/// A chunk of these rows. A bound that is a text or bytes is shortened to `bound_length` bytes.
+pub fn new_chunk(
+    alloc: Global,
+    leaves: &Rc<Vec<LeafPath>>,
+    bound_length: usize,
+    rows: Vec<ScalarValue>,
+) -> Result<Chunk, AllocError>
+    ensures rows { IfOk result (λ chunk. chunk.rows.items ≡ rows.items) }
+    ensures leaves { IfOk result (λ chunk. chunk.leaves.value.items ≡ leaves.now.value.items) }
+    ensures bound_length { IfOk result (λ chunk. chunk.bound_length ≡ bound_length) }
+{
+    let bounds = all_bounds(alloc, &rows, leaves, bound_length)?;
+    let leaves = leaves.clone()?;
+    Ok(Chunk {
+        rows,
+        leaves,
+        bound_length,
+        bounds,
+    })
+}
+
+/// The statistics of the column at this path, and `None` where it is no leaf column. `bounds` has
+/// one element for each of `leaves`.
+pub fn bounds_at<'a>(
+    leaves: &[LeafPath],
+    bounds: &'a [ColumnBounds],
+    positions: &[usize],
+) -> Option<&'a ColumnBounds>
+    ensures { option_map (λ found. found.now) result
+        ≡ bounds_at leaves.now bounds.now positions.now }
+{
+    for (index, leaf) in leaves.iter().enumerate() {
+        if leaf.equals(positions) {
+            return bounds.get(index);
+        }
+    }
+    None
+}

@@ -1,0 +1,5 @@
+//! Statistics of one leaf column in the rows of a chunk.
+pub mod bounds;
+pub mod min_max;
+mod order;
+mod shortened;

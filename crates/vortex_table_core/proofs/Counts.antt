@@ -1,0 +1,24 @@
+-- How many rows the chunks have.
+use Rattle.std.proofs.Common.{◌≡◌, refl, ◌∙◌, ap, ℕ, ◌+◌, List, [], ◌∷◌, length, map, flat_map, fold, arith}
+use Rattle.std.proofs.lemmas.List.{length-map}
+use Rattle.std.proofs.lemmas.List.Concat.{length-flat_map}
+use Rattle.vortex_model.specs.Content.{Content}
+use Rattle.vortex_table_chunk.specs.Bounds.{row_content}
+use Rattle.vortex_table_chunk.specs.Chunk.{chunk_rows, row_count}
+use Rattle.vortex_table_chunk.specs.declared.chunk.Chunk.{Chunk}
+
+counted : (n : ℕ) (chunks : List Chunk) → fold (λ m (rows : List Content). m + length rows) n (map chunk_rows chunks) ≡ fold (λ m c. m + length c.rows.items) n chunks
+counted n [] = refl
+counted n (c ∷ cs) =
+    ap (λ m. fold (λ k (rows : List Content). k + length rows) (n + m) (map chunk_rows cs)) (length-map c.rows.items row_content)
+    ∙ counted (n + length c.rows.items) cs
+
+pub all_rows : (chunks : List Chunk) → length (flat_map (λ chunk. chunk) (map chunk_rows chunks)) ≡ row_count chunks
+all_rows chunks = length-flat_map (λ (rows : List Content). rows) (map chunk_rows chunks) ∙ counted 0 chunks
+
+empty : {X : Type 0} (xs : List X) → length xs ≡ 0 → xs ≡ []
+empty [] h = refl
+empty (x ∷ xs) h = absurd (omega (arith, h))
+
+pub no_rows : (chunks : List Chunk) → row_count chunks ≡ 0 → flat_map (λ chunk. chunk) (map chunk_rows chunks) ≡ []
+no_rows chunks h = empty (flat_map (λ chunk. chunk) (map chunk_rows chunks)) (all_rows chunks ∙ h)

@@ -1,0 +1,42 @@
+-- What is made of a scan once, before its chunks.
+use Rattle.std.specs.Prelude.{◌≡◌, List, None, true}
+use Rattle.vortex_model.specs.LogicalType.{LogicalType}
+use Rattle.vortex_model.specs.Content.{Content}
+use Rattle.vortex_model.specs.Path.{Names}
+use Rattle.vortex_model.specs.Expression.{Expression}
+use Rattle.vortex_model.specs.Truth.{value_at}
+use Rattle.vortex_model.specs.Cut.{cut_type}
+use Rattle.vortex_model.specs.Rewrite.{falsifier, satisfier}
+use Rattle.vortex_model.specs.Command.{predicate_fault}
+use Rattle.vortex_model.specs.Pruning.{has_no_like}
+use Rattle.vortex_model.specs.Table as model
+use Rattle.vortex_dtype_core.specs.View.{type_of}
+use Rattle.vortex_stats_expr.specs.Bound.{bound_value}
+use Rattle.vortex_table_schema.specs.Cut.{paths_of, tree_of, kept_by}
+use Rattle.vortex_table_core.specs.TableView.{table_of}
+use Rattle.vortex_table_core.specs.declared.plan.Scan.{Scan}
+use Rattle.vortex_table_core.specs.declared.plan.ScanPlan.{ScanPlan}
+
+-- the table that is scanned, what is asked for, and the predicate
+abbrev pub table_in : Scan → model.Table
+table_in plan = table_of plan.table.now
+
+abbrev pub paths_in : Scan → List Names
+paths_in plan = paths_of plan.paths.now
+
+abbrev pub predicate_in : Scan → Expression
+predicate_in plan = plan.predicate.now
+
+-- what is prepared is what the definitions make of a type, paths and a predicate without a fault
+pub record IsPreparedFor (k : LogicalType) (paths : List Names) (e : Expression) (made : ScanPlan) : Type 0 where
+  pub faultless : predicate_fault k e ≡ None
+  pub no_like : has_no_like e ≡ true
+  pub bound : (row : Content) → bound_value made.bound row ≡ value_at k e row
+  pub falsifier : made.proofs.falsifier ≡ falsifier k e
+  pub satisfier : made.proofs.satisfier ≡ satisfier k e
+  pub cut_kind : type_of made.cut.dtype ≡ cut_type paths k
+  pub cut_values : tree_of made.cut.projection ≡ kept_by paths k
+
+-- the plan has what is prepared for its scan
+abbrev pub IsPlan : Scan → Type 0
+IsPlan plan = IsPreparedFor (table_in plan).kind (paths_in plan) (predicate_in plan) plan.prepared.now

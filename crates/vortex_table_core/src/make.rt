@@ -1,0 +1,98 @@
+//! The preparation of a scan: its tests, the bound predicate, the two proofs and the cut.
+ghost use Rattle.std.specs.Prelude.{◌≡◌, None, OnOk, IfOk, IfErr, Option, map, true};
+ghost use Rattle.vortex_model.specs.Content.{Content};
+ghost use Rattle.vortex_model.specs.Truth.{value_at};
+ghost use Rattle.vortex_model.specs.Pruning.{has_no_like};
+ghost use Rattle.vortex_model.specs.Rewrite.{falsifier, satisfier};
+ghost use Rattle.vortex_stats_expr.specs.Bound.{bound_value};
+ghost use Rattle.vortex_model.specs.Refusal.{Refusal, or_else};
+ghost use Rattle.vortex_model.specs.Command.{paths_fault, predicate_fault};
+ghost use Rattle.vortex_dtype_core.specs.View.{type_of};
+ghost use Rattle.vortex_dtype_path.specs.View.{steps_of};
+ghost use Rattle.vortex_table_schema.specs.Cut.{paths_of};
+ghost use Rattle.vortex_stats_expr.specs.Faults.{IsReason};
+ghost use Rattle.vortex_table_core.specs.Error.{Explains};
+ghost use Rattle.vortex_table_core.specs.Plan.{IsPreparedFor};
+
+use crate::check::check_paths;
+use crate::error::TableError;
+use crate::plan::{Proofs, ScanPlan};
+use std::alloc::{AllocError, Global};
+use vortex_dtype_core::dtype::DType;
+use vortex_dtype_path::path::FieldPath;
+use vortex_stats_expr::bind::{PredicateError, bind};
+use vortex_stats_expr::bound::BoundExpression;
+use vortex_stats_expr::expression::Expression;
+use vortex_stats_rewrite::rewrite::{falsify, satisfy};
+use vortex_table_schema::cut::make_cut;
+
+fn predicate_error(error: PredicateError) -> TableError
+    ensures { (fault : Option Refusal) → IsReason error fault → Explains ⊥ fault result }
+{
+    match error {
+        PredicateError::Memory => TableError::Memory,
+        PredicateError::Placeholder => TableError::Placeholder,
+        PredicateError::UnknownColumn => TableError::UnknownColumn,
+        PredicateError::NotALeaf => TableError::NotALeaf,
+        PredicateError::UnequalTypes => TableError::UnequalTypes,
+        PredicateError::NotBoolean => TableError::NotBoolean,
+        PredicateError::UnsupportedPredicate => TableError::UnsupportedPredicate,
+    }
+}
+
+// As `bind`, with the fault as one of tables.
+fn bind_predicate(
+    alloc: Global,
+    predicate: &Expression,
+    dtype: &DType,
+) -> Result<BoundExpression, TableError>
+    ensures faultless { OnOk result (predicate_fault (type_of dtype.now) predicate.now ≡ None) }
+    ensures refused { IfErr result
+        (λ e. Explains ⊥ (predicate_fault (type_of dtype.now) predicate.now) e) }
+    ensures no_like { OnOk result (has_no_like predicate.now ≡ true) }
+    ensures value { IfOk result (λ bound. (row : Content) → bound_value bound row
+        ≡ value_at (type_of dtype.now) predicate.now row) }
+{
+    match bind(alloc, predicate, dtype) {
+        Ok(bound) => Ok(bound),
+        Err(error) => Err(predicate_error(error)),
+    }
+}
+
+fn make_proofs(alloc: Global, dtype: &DType, predicate: &Expression) -> Result<Proofs, AllocError>
+    ensures falsifier { IfOk result (λ proofs. proofs.falsifier
+        ≡ falsifier (type_of dtype.now) predicate.now) }
+    ensures satisfier { IfOk result (λ proofs. proofs.satisfier
+        ≡ satisfier (type_of dtype.now) predicate.now) }
+{
+    let falsifier = falsify(alloc, dtype, predicate)?;
+    let satisfier = satisfy(alloc, dtype, predicate)?;
+    Ok(Proofs {
+        falsifier,
+        satisfier,
+    })
+}
+
+/// Tests the paths and then the predicate against the type, and prepares what every chunk needs.
+/// No row is read.
+pub fn prepare(
+    alloc: Global,
+    dtype: &DType,
+    paths: &[FieldPath],
+    predicate: &Expression,
+) -> Result<ScanPlan, TableError>
+    ensures prepared { IfOk result
+        (λ made. IsPreparedFor (type_of dtype.now) (paths_of paths.now) predicate.now made) }
+    ensures accepted { OnOk result
+        (or_else (paths_fault 0 (type_of dtype.now) (map steps_of paths.now))
+        (predicate_fault (type_of dtype.now) predicate.now) ≡ None) }
+    ensures refused { IfErr result (λ e. Explains ⊥
+        (or_else (paths_fault 0 (type_of dtype.now) (map steps_of paths.now))
+        (predicate_fault (type_of dtype.now) predicate.now)) e) }
+{
+    check_paths(dtype, paths)?;
+    let bound = bind_predicate(alloc, predicate, dtype)?;
+    let proofs = make_proofs(alloc, dtype, predicate)?;
+    let cut = make_cut(alloc, dtype, paths)?;
+    Ok(ScanPlan { bound, proofs, cut })
+}

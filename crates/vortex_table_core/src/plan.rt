@@ -1,0 +1,246 @@
+//! A scan of a table, chunk by chunk: each is skipped, taken whole or tested row by row.
+ghost use Rattle.std.specs.Prelude.{◌≡◌, OnOk};
+ghost use Rattle.vortex_table_core.specs.Progress.{push_if, tested_rows};
+ghost use Rattle.vortex_table_chunk.specs.Chunk.{chunk_rows};
+ghost use Rattle.vortex_table_core.specs.Outcome.{outcome_of};
+
+use crate::select::{select_rows, take_rows};
+use crate::table::Table;
+use std::alloc::{AllocError, Global};
+use vortex_dtype_path::path::FieldPath;
+use vortex_scalar_core::scalar::Scalar;
+use vortex_stats_expr::bound::BoundExpression;
+use vortex_stats_expr::expression::Expression;
+use vortex_table_chunk::binder::is_proved;
+use vortex_table_chunk::chunk::Chunk;
+use vortex_table_schema::answer::ScanAnswer;
+use vortex_table_schema::cut::RowProjection;
+
+/// The way a scan treats a chunk.
+#[derive(Clone, Copy)]
+pub enum Pruning {
+    /// Its statistics prove that no row is selected, so that none is read.
+    Skip,
+    /// Its statistics prove that every row is selected, so that all are answered untested.
+    TakeAll,
+    /// The predicate is evaluated at each row.
+    Filter,
+}
+
+/// The two proofs of a predicate, each if there is one.
+#[derive(Drop)]
+pub struct Proofs {
+    pub falsifier: Option<Expression>,
+    pub satisfier: Option<Expression>,
+}
+
+/// What is made of a scan once and used at every chunk.
+#[derive(Drop)]
+pub struct ScanPlan {
+    pub bound: BoundExpression,
+    pub proofs: Proofs,
+    pub cut: RowProjection,
+}
+
+/// A scan of a table with what is prepared for it.
+#[derive(Clone, Copy, Drop)]
+pub struct Scan<'a> {
+    pub table: &'a Table,
+    pub paths: &'a [FieldPath],
+    pub predicate: &'a Expression,
+    pub prepared: &'a ScanPlan,
+}
+
+impl Scan<'_> {
+    ghost use Rattle.std.specs.Prelude.{◌≡◌, ◌++◌, All, IfOk, OnOk, IsTrue, is_some, map};
+    ghost use Rattle.vortex_model.specs.Scan.{chunk_outcome, scanned};
+    ghost use Rattle.vortex_dtype_core.specs.View.{type_of};
+    ghost use Rattle.vortex_scalar_core.specs.Scalar.{scalar_type, scalar_content};
+    ghost use Rattle.vortex_table_schema.specs.Answer.{answer_of, IsTyped};
+    ghost use Rattle.vortex_table_chunk.specs.Chunk.{chunk_rows};
+    ghost use Rattle.vortex_table_core.specs.Outcome.{outcome_of};
+    ghost use Rattle.vortex_table_core.specs.Plan.{IsPlan, table_in, paths_in, predicate_in};
+    ghost use Rattle.vortex_table_core.specs.Progress.{with_chunk, found_rows, proofs_at};
+    ghost use Rattle.vortex_table_core.specs.Table.{is_formed};
+
+    // The satisfier is asked only where the falsifier fails.
+    fn outcome(&self, alloc: Global, chunk: &Chunk) -> Result<Pruning, AllocError>
+        requires plan { IsPlan self.now }
+        requires formed { IsTrue
+            (is_formed (table_in self.now).default (table_in self.now).kind chunk.now) }
+        ensures { IfOk result (λ outcome. outcome_of outcome ≡ chunk_outcome (table_in self.now)
+            (predicate_in self.now) (chunk_rows chunk.now)) }
+    {
+        let falsified = is_proved(
+            alloc,
+            &self.table.dtype,
+            chunk,
+            &self.prepared.proofs.falsifier,
+        )?;
+        if falsified {
+            return Ok(Pruning::Skip);
+        }
+        let satisfied = is_proved(
+            alloc,
+            &self.table.dtype,
+            chunk,
+            &self.prepared.proofs.satisfier,
+        )?;
+        if satisfied {
+            return Ok(Pruning::TakeAll);
+        }
+        Ok(Pruning::Filter)
+    }
+
+    // The number of proofs that were evaluated to come to the outcome.
+    fn proofs_at(&self, outcome: Pruning) -> u64
+        ensures { result ≡ proofs_at (is_some self.now.prepared.now.proofs.falsifier)
+            (is_some self.now.prepared.now.proofs.satisfier) (outcome_of outcome) }
+    {
+        let falsified = u64::from(self.prepared.proofs.falsifier.is_some());
+        match outcome {
+            Pruning::Skip => falsified,
+            Pruning::TakeAll => falsified + u64::from(self.prepared.proofs.satisfier.is_some()),
+            Pruning::Filter => falsified + u64::from(self.prepared.proofs.satisfier.is_some()),
+        }
+    }
+
+    fn find_rows(
+        &self,
+        alloc: Global,
+        chunk: &Chunk,
+        outcome: Pruning,
+        found: &mut Vec<Scalar>,
+    ) -> Result<(), AllocError>
+        requires plan { IsPlan self.now }
+        requires formed { IsTrue
+            (is_formed (table_in self.now).default (table_in self.now).kind chunk.now) }
+        requires outcome { outcome_of outcome ≡ chunk_outcome (table_in self.now)
+            (predicate_in self.now) (chunk_rows chunk.now) }
+        requires typed { All (λ row. scalar_type row ≡ type_of self.now.prepared.now.cut.dtype)
+            found.old.items }
+        ensures rows { OnOk result (map scalar_content found.new.items
+            ≡ map scalar_content found.old.items ++ found_rows (table_in self.now).kind
+            (paths_in self.now) (predicate_in self.now) (chunk_rows chunk.now)) }
+        ensures typed { OnOk result
+            (All (λ row. scalar_type row ≡ type_of self.now.prepared.now.cut.dtype)
+            found.new.items) }
+    {
+        match outcome {
+            Pruning::Skip => Ok(()),
+            Pruning::TakeAll => {
+                take_rows(alloc, &self.prepared.cut, &chunk.rows, found)?;
+                Ok(())
+            }
+            Pruning::Filter => {
+                select_rows(
+                    alloc,
+                    &self.prepared.cut,
+                    &self.prepared.bound,
+                    &chunk.rows,
+                    found,
+                )?;
+                Ok(())
+            }
+        }
+    }
+
+    /// Adds to the answer the selected rows of the chunk, and its counts. `number` is the index of
+    /// the chunk in the table.
+    pub fn add_chunk(
+        &self,
+        alloc: Global,
+        number: usize,
+        chunk: &Chunk,
+        answer: &mut ScanAnswer,
+    ) -> Result<(), AllocError>
+        requires plan { IsPlan self.now }
+        requires formed { IsTrue
+            (is_formed (table_in self.now).default (table_in self.now).kind chunk.now) }
+        requires typed { All (λ row. scalar_type row ≡ type_of self.now.prepared.now.cut.dtype)
+            answer.old.rows.items }
+        ensures found { OnOk result (answer_of answer.new ≡ with_chunk (table_in self.now).kind
+            (paths_in self.now) (predicate_in self.now)
+            number (chunk_rows chunk.now) (chunk_outcome (table_in self.now) (predicate_in self.now)
+            (chunk_rows chunk.now)) (answer_of answer.old)) }
+        ensures typed { OnOk result
+            (All (λ row. scalar_type row ≡ type_of self.now.prepared.now.cut.dtype)
+            answer.new.rows.items) }
+    {
+        let outcome = self.outcome(alloc, chunk)?;
+        self.find_rows(alloc, chunk, outcome, &mut answer.rows)?;
+        push_if(outcome.is_skipped(), number, &mut answer.skipped)?;
+        push_if(outcome.is_whole(), number, &mut answer.whole)?;
+        answer.rows_tested = answer
+            .rows_tested
+            .saturating_add(tested_rows(outcome, chunk));
+        answer.proofs = answer.proofs.saturating_add(self.proofs_at(outcome));
+        Ok(())
+    }
+
+    /// The whole answer, chunk by chunk in order.
+    pub fn run(&self, alloc: Global) -> Result<ScanAnswer, AllocError>
+        requires { IsPlan self.now }
+        ensures found { IfOk result (λ answer. answer_of answer
+            ≡ scanned (table_in self.now) (paths_in self.now) (predicate_in self.now)) }
+        ensures typed { IfOk result (λ answer. IsTyped answer) }
+    {
+        let mut answer = ScanAnswer {
+            rows: Vec::new(alloc),
+            dtype: self.prepared.cut.dtype.clone()?,
+            skipped: Vec::new(alloc),
+            whole: Vec::new(alloc),
+            rows_tested: 0,
+            proofs: 0,
+        };
+        for (number, chunk) in self.table.chunks.iter().enumerate() {
+            self.add_chunk(alloc, number, chunk, &mut answer)?;
+        }
+        Ok(answer)
+    }
+}
+
+fn push_if(passes: bool, number: usize, numbers: &mut Vec<usize>) -> Result<(), AllocError>
+    ensures { OnOk result (numbers.new.items ≡ push_if passes number numbers.old.items) }
+{
+    if passes {
+        numbers.push(number)?;
+    }
+    Ok(())
+}
+
+fn tested_rows(outcome: Pruning, chunk: &Chunk) -> u64
+    ensures { result ≡ tested_rows (outcome_of outcome) (chunk_rows chunk.now) }
+{
+    match outcome {
+        Pruning::Filter => chunk.rows.len() as u64,
+        Pruning::Skip => 0,
+        Pruning::TakeAll => 0,
+    }
+}
+
+impl Pruning {
+    ghost use Rattle.std.specs.Prelude.{◌≡◌};
+    ghost use Rattle.vortex_model.specs.Scan.{is_skipped, is_whole};
+    ghost use Rattle.vortex_table_core.specs.Outcome.{outcome_of};
+
+    fn is_skipped(self) -> bool
+        ensures { result ≡ is_skipped (outcome_of self) }
+    {
+        match self {
+            Pruning::Skip => true,
+            Pruning::TakeAll => false,
+            Pruning::Filter => false,
+        }
+    }
+
+    fn is_whole(self) -> bool
+        ensures { result ≡ is_whole (outcome_of self) }
+    {
+        match self {
+            Pruning::Skip => false,
+            Pruning::TakeAll => true,
+            Pruning::Filter => false,
+        }
+    }
+}

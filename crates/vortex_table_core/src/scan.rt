@@ -1,0 +1,61 @@
+//! Scans over the chunks of a table.
+
+use crate::error::TableError;
+use crate::make::prepare;
+use crate::plan::Scan;
+use crate::table::Table;
+use std::alloc::Global;
+use vortex_dtype_path::path::FieldPath;
+use vortex_stats_expr::expression::Expression;
+use vortex_table_schema::answer::ScanAnswer;
+
+impl Table {
+    ghost use Rattle.std.specs.Prelude.{◌≡◌, None, map, IfOk, OnOk, IfErr};
+    ghost use Rattle.vortex_model.specs.Scan.{scanned};
+    ghost use Rattle.vortex_model.specs.Command.{scan, names_of, refusal};
+    ghost use Rattle.vortex_dtype_path.specs.View.{steps_of};
+    ghost use Rattle.vortex_table_core.specs.Error.{Explains};
+    ghost use Rattle.vortex_table_core.specs.TableView.{table_of};
+    ghost use Rattle.vortex_table_schema.specs.Answer.{answer_of, IsTyped};
+
+    /// The rows that the predicate selects, in order, each with the columns that the paths ask for.
+    /// The path without a step asks for whole rows, and no path for empty records.
+    ///
+    /// A chunk is skipped where its statistics prove that none of its rows is selected, in time
+    /// that does not depend on its rows.
+    ///
+    /// Refused, in this order: `UnknownPath` or `ElementStep` with the first path at fault; the
+    /// first fault of the predicate, children before their parent and left before right:
+    /// `Placeholder`, `UnknownColumn`, `NotALeaf`, `UnsupportedPredicate`, `UnequalTypes`,
+    /// `NotBoolean`.
+    pub fn scan(
+        &self,
+        alloc: Global,
+        paths: &[FieldPath],
+        predicate: &Expression,
+    ) -> Result<ScanAnswer, TableError>
+        ensures found { IfOk result
+            (λ a. answer_of a ≡ scanned (table_of self.now) (map names_of (map steps_of paths.now))
+            predicate.now) }
+        ensures typed { IfOk result (λ a. IsTyped a) }
+        ensures accepted { OnOk result
+            (refusal (table_of self.now) (scan (map steps_of paths.now) predicate.now) ≡ None) }
+        ensures refused { IfErr result
+            (λ e. Explains ⊥
+            (refusal (table_of self.now) (scan (map steps_of paths.now) predicate.now)) e) }
+    {
+        let prepared = prepare(alloc, &self.dtype, paths, predicate)?;
+        let plan = Scan {
+            table: self,
+            paths,
+            predicate,
+            prepared: &prepared,
+        };
+        let found = plan.run(alloc);
+        // A call lets go of the trees in it: in place, each of their variants would be walked in
+        // the proof.
+        drop(prepared);
+        let answer = found?;
+        Ok(answer)
+    }
+}

@@ -1,0 +1,184 @@
+//! Tables, and the commands that make and fill them.
+ghost use Rattle.std.specs.Prelude.{◌≡◌, IsTrue, is_none};
+ghost use Rattle.std.specs.List.{list_all};
+ghost use Rattle.vortex_model.specs.Kept.{type_fault_so_far};
+ghost use Rattle.vortex_dtype_core.specs.View.{type_of};
+ghost use Rattle.vortex_table_chunk.specs.Chunk.{row_count};
+ghost use Rattle.vortex_table_schema.specs.Leaves.{leaf_positions};
+ghost use Rattle.vortex_table_core.specs.Table.{is_formed, eq_leaves};
+
+use crate::append::{check_batch, convert_owned_rows, convert_rows};
+use crate::check::check_type;
+use crate::error::TableError;
+use std::alloc::Global;
+use std::rc::Rc;
+use vortex_dtype_core::dtype::DType;
+use vortex_scalar_value::scalar_value::ScalarValue;
+use vortex_table_chunk::chunk::{Chunk, new_chunk};
+use vortex_table_schema::layout::Layout;
+use vortex_table_schema::leaves::{LeafPath, leaf_positions};
+
+/// A table: rows of one type in chunks, each the rows of one append, with statistics of the leaf
+/// columns of each chunk.
+#[derive(Drop)]
+pub struct Table {
+    pub(crate) dtype: DType,
+    pub(crate) bound_length: usize,
+    pub(crate) leaves: Rc<Vec<LeafPath>>,
+    pub(crate) len: usize,
+    pub(crate) chunks: Vec<Chunk>,
+    pub ghost kept: { IsTrue (is_none (type_fault_so_far (type_of dtype))) },
+    pub ghost led: { IsTrue (eq_leaves leaves.value.items (leaf_positions (type_of dtype))) },
+    pub ghost formed: { IsTrue (list_all (is_formed bound_length (type_of dtype)) chunks.items) },
+    pub ghost counted: { row_count chunks.items ≡ len },
+}
+
+impl Table {
+    ghost use Rattle.std.specs.Prelude.{◌≡◌, ◌+◌, ◌^◌, ◌≤◌, [], None, length, map, IfOk, OnOk, IfErr, OnErr, IsErrOf, IsTrue, ◌↔◌};
+    ghost use Rattle.vortex_model.specs.Table.{rows_of};
+    ghost use Rattle.vortex_model.specs.Valid.{valid};
+    ghost use Rattle.vortex_model.specs.Command.{create, append, appended, create_fault, created, refusal, after};
+    ghost use Rattle.vortex_dtype_core.specs.View.{type_of};
+    ghost use Rattle.vortex_scalar_value.specs.View.{raw_in, raw_of};
+    ghost use Rattle.vortex_table_chunk.specs.Bounds.{row_content};
+    ghost use Rattle.vortex_table_core.specs.Error.{Explains};
+    ghost use Rattle.vortex_table_core.specs.TableView.{table_of};
+
+    /// A table without rows. Texts and bytes of more than `bound_length` bytes will have shortened
+    /// bounds.
+    ///
+    /// It is refused where a table can't hold the type: `NotARecord`, `RepeatedName`, `UnkeptType`.
+    pub fn create(alloc: Global, dtype: DType, bound_length: usize) -> Result<Table, TableError>
+        ensures made { IfOk result (λ t. table_of t ≡ created (type_of dtype) bound_length []) }
+        ensures accepted { OnOk result (create_fault (type_of dtype) [] ≡ None) }
+        ensures refused { IfErr result (λ e. Explains ⊥ (create_fault (type_of dtype) []) e) }
+    {
+        check_type(alloc, &dtype)?;
+        let leaves = leaf_positions(alloc, &dtype)?;
+        Ok(Table {
+            dtype,
+            bound_length,
+            leaves,
+            len: 0,
+            chunks: Vec::new(alloc),
+        })
+    }
+
+    /// Converts the rows, each a value of the batch's type or null, to the table's type and keeps
+    /// them as one new chunk. No rows make none. After an error the table is as before.
+    ///
+    /// Refused, in this order: where a table can't hold the batch's type; `InvalidValue` with the
+    /// first row that isn't valid for it; `NotConvertible` with the first that the table's type
+    /// can't hold; `Total` where the rows would be more than `usize::MAX`.
+    pub fn append(
+        &mut self,
+        batch_dtype: &DType,
+        values: &[Option<ScalarValue>],
+        layouts: &[Layout],
+    ) -> Result<(), TableError>
+        ensures appended { OnOk result
+            (table_of self.new
+            ≡ after (table_of self.old)
+            (append (type_of batch_dtype.now) (map raw_in values.now))) }
+        ensures accepted { OnOk result
+            (refusal (table_of self.old) (append (type_of batch_dtype.now) (map raw_in values.now))
+            ≡ None) }
+        ensures refused { IfErr result (λ e. Explains
+            (2 ^ 64 ≤ length (rows_of (table_of self.old)) + length values.now)
+            (refusal (table_of self.old) (append (type_of batch_dtype.now) (map raw_in values.now)))
+            e) }
+        ensures total { IsErrOf result TableError.Total
+            → refusal (table_of self.old) (append (type_of batch_dtype.now) (map raw_in values.now))
+            ≡ None }
+        ensures unchanged { OnErr result (table_of self.new ≡ table_of self.old) }
+    {
+        let _ = layouts;
+        let alloc = *self.chunks.allocator();
+        check_batch(alloc, batch_dtype, values)?;
+        let rows = convert_rows(alloc, batch_dtype, &self.dtype, values)?;
+        self.push_rows(alloc, rows)?;
+        Ok(())
+    }
+
+    /// As `append`, of rows that are handed over: each is let go once it is converted.
+    pub fn append_owned(
+        &mut self,
+        batch_dtype: &DType,
+        values: Vec<Option<ScalarValue>>,
+        layouts: &[Layout],
+    ) -> Result<(), TableError>
+        ensures appended { OnOk result
+            (table_of self.new
+            ≡ after (table_of self.old)
+            (append (type_of batch_dtype.now) (map raw_in values.items))) }
+        ensures accepted { OnOk result
+            (refusal (table_of self.old)
+            (append (type_of batch_dtype.now) (map raw_in values.items)) ≡ None) }
+        ensures refused { IfErr result (λ e. Explains
+            (2 ^ 64 ≤ length (rows_of (table_of self.old)) + length values.items)
+            (refusal (table_of self.old)
+            (append (type_of batch_dtype.now) (map raw_in values.items))) e) }
+        ensures total { IsErrOf result TableError.Total
+            → refusal (table_of self.old)
+            (append (type_of batch_dtype.now) (map raw_in values.items)) ≡ None }
+        ensures unchanged { OnErr result (table_of self.new ≡ table_of self.old) }
+    {
+        let _ = layouts;
+        let alloc = *self.chunks.allocator();
+        check_batch(alloc, batch_dtype, &values)?;
+        let rows = convert_owned_rows(alloc, batch_dtype, &self.dtype, values)?;
+        self.push_rows(alloc, rows)?;
+        Ok(())
+    }
+
+    // Keeps the rows, which are of the table's type, as one new chunk. No rows make none.
+    fn push_rows(&mut self, alloc: Global, rows: Vec<ScalarValue>) -> Result<(), TableError>
+        requires { IsTrue
+            (list_all (λ row. valid (type_of self.old.dtype) (raw_of row)) rows.items) }
+        ensures appended { OnOk result
+            (table_of self.new ≡ appended (table_of self.old) (map row_content rows.items)) }
+        ensures refused { IfErr result
+            (λ e. Explains (2 ^ 64 ≤ length (rows_of (table_of self.old)) + length rows.items) None
+            e) }
+        ensures unchanged { OnErr result (table_of self.new ≡ table_of self.old) }
+    {
+        let Some(len) = self.len.checked_add(rows.len()) else {
+            return Err(TableError::Total);
+        };
+        if rows.is_empty() {
+            return Ok(());
+        }
+        let chunk = new_chunk(alloc, &self.leaves, self.bound_length, rows)?;
+        self.chunks.push(chunk)?;
+        self.len = len;
+        Ok(())
+    }
+
+    /// The type of the rows.
+    pub fn dtype(&self) -> &DType
+        ensures { type_of result.now ≡ (table_of self.now).kind }
+    {
+        &self.dtype
+    }
+
+    /// The number of rows.
+    pub fn len(&self) -> usize
+        ensures { result ≡ length (rows_of (table_of self.now)) }
+    {
+        self.len
+    }
+
+    /// Whether there are no rows.
+    pub fn is_empty(&self) -> bool
+        ensures { IsTrue result ↔ (rows_of (table_of self.now) ≡ []) }
+    {
+        self.len == 0
+    }
+
+    /// The number of chunks.
+    pub fn chunk_count(&self) -> usize
+        ensures { result ≡ length (table_of self.now).chunks }
+    {
+        self.chunks.len()
+    }
+}

@@ -1,0 +1,4 @@
+pub mod Fronts
+pub mod LineLemmas
+pub mod ReplyLemmas
+pub mod Walks

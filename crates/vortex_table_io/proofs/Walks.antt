@@ -1,0 +1,31 @@
+-- Steps of the two proofs by hand, and what a `Log` owns.
+pub use Rattle.std.proofs.Common.{◌≡◌, List, ℕ, [], ◌∷◌, ◌++◌, refl}
+pub use Rattle.std.proofs.raw_atomic.Walks.{proved}
+pub use base.Fml.{ftrue}
+pub use mir.Val.{Val, vstruct, vnil}
+pub use contract.Monad.{fact}
+pub use contract.Running.{tables}
+pub use types.Kit.{‵, raw, ◌⊛◌, ◌$◌, ◌∵◌, !, qed, done, drop, keep, move, split, join, suffices}
+pub use types.Run.{enter, no_more, returns}
+pub use types.Part.{agg}
+pub use types.ByLocal.{alloc_all, pass_all, free_all, look_at, sets}
+pub use denote.Steps.{nothing, owned}
+pub use denote.Triple.Entry.{alive, on_entry}
+pub use denote.Triple.Walked.{Stays, walk_of, says, stay_dropped, Goes-dropped, ends_at}
+use seplogic.Ra.Ura.{Ura}
+use types.Logic.{Logic}
+use denote.Laws.{Is, Makes}
+use denote.Shadow.{makes_shadow}
+use Rattle.vortex_table_io.specs.contracts.log.Log.{the_row}
+use Rattle.vortex_table_io.specs.declared.log.Log.{Log}
+
+-- A log owns no memory, so that one of any bytes is had for nothing.
+pub log_Makes : {M : Type 1} {𝓤 : Ura M} (𝓛 : Logic 𝓤) → Makes 𝓛 the_row (Is the_row)
+log_Makes 𝓛 log vs p = makes_shadow 𝓛 (the_row.own_val log vs) ((λ _. (tt, tt)), tt) p
+
+-- its machine value is that of a struct with no field
+abbrev pub log_val : Val
+log_val = vstruct vnil
+
+pub log_is : (log : Log) → Is the_row log (log_val ∷ [])
+log_is log = ((tt, (refl, tt)), tt)

@@ -1,0 +1,13 @@
+use Rattle.std.proofs.Common.{◌≡◌, ℕ, List, ◌++◌, length, Bool, false}
+use Rattle.vortex_table_io.proofs.run.write_all.Given as goal
+
+-- what was written and what is left are what was to be written
+pub record Wrote {W : Type 0} (history : W → List ℕ) (has_failed : W → Bool) (old new : W) (text rest : List ℕ) : Type 0 where
+  pub parts : history new ++ rest ≡ history old ++ text
+  pub fine : has_failed new ≡ false
+
+abbrev pub invariant-loop-rest : goal.invariant-loop-rest
+invariant-loop-rest g l = Wrote g.W.Sink.history g.W.Sink.has_failed l.fn.writer l.writer l.text l.rest
+
+abbrev pub decreases-loop-rest : goal.decreases-loop-rest
+decreases-loop-rest g l = length l.rest

@@ -1,0 +1,217 @@
+//! Reads lines from a source, has a handler answer each, and writes the answers into a sink.
+ghost use Rattle.std.specs.Prelude.{◌≡◌, ◌≤◌, ◌+◌, ◌-◌, ◌^◌, ℕ, List, [], ◌∷◌, ◌++◌, length, false, true, OnOk, OnErr, IfErr, IfOk, IsErrOf, MatchOption};
+ghost use Rattle.vortex_table_io.specs.Lines.{IsOneLine, with_lf};
+ghost use Rattle.vortex_table_io.specs.Replies.{AnswersAll, AnswersPart, FeedOk, FeedErr, FinishOk, FinishErr};
+ghost use Rattle.vortex_table_io.specs.Responses.{SaysLine, response_line};
+
+use crate::line_buffer::LineBuffer;
+use crate::line_handler::{LineHandler, Response};
+use crate::traits::{Sink, Source};
+use memchr::memchr;
+use std::alloc::Global;
+
+// How much is read at a time, in bytes.
+const BLOCK_LENGTH: usize = 64 * 1024;
+
+const DONE_LINE: &[u8] = b"{\"ok\":true}\n";
+
+const MEMORY_LINE: &[u8] = b"{\"error\":1,\"name\":\"Memory\"}\n";
+
+/// Why a run ended early.
+#[derive(Clone, Copy, Debug, PartialEq, Eq, Drop)]
+pub enum RunError {
+    /// A read failed. One that was interrupted has.
+    Read,
+    /// A write or the flush failed, or a write took no byte.
+    Write,
+    /// 18,446,744,073,709,551,615 bytes were read, and more may follow.
+    Limit,
+}
+
+// The first line of a piece, and what follows its LF.
+fn split_line(piece: &[u8]) -> Option<(&[u8], &[u8])>
+    ensures { MatchOption result (IsOneLine piece.now)
+        (λ p. IsOneLine p.0.now × (piece.now ≡ p.0.now ++ 10 ∷ p.1.now)) }
+{
+    let at = memchr(b'\n', piece)?;
+    let (line, rest) = piece.split_at(at);
+    let (_, after) = rest.split_at(1);
+    Some((line, after))
+}
+
+// Writes all of a text, in as many writes as it takes.
+fn write_all<W: Sink>(writer: &mut W, text: &[u8]) -> Result<(), RunError>
+    requires { W.has_failed writer.old ≡ false }
+    ensures ok { OnOk result (W.history writer.new ≡ W.history writer.old ++ text.now) }
+    ensures fine { OnOk result (W.has_failed writer.new ≡ false) }
+    ensures part { OnErr result ((rest : List ℕ)
+        × (W.history writer.new ++ rest ≡ W.history writer.old ++ text.now)) }
+    ensures err { IfErr result (λ e. (e ≡ RunError.Write) × (W.has_failed writer.new ≡ true)) }
+{
+    let mut rest = text;
+    while !rest.is_empty() {
+        match writer.write(rest) {
+            Ok(0) | Err(_) => return Err(RunError::Write),
+            Ok(n) => {
+                let (_, after) = rest.split_at(n);
+                rest = after;
+            }
+        }
+    }
+    Ok(())
+}
+
+// The answer to the line in the buffer. One for which memory was refused is answered by error 1.
+fn decide<M: LineHandler>(
+    alloc: Global,
+    handler: &mut M,
+    buffer: &LineBuffer,
+    out: &mut Vec<u8>,
+) -> Response
+    ensures { SaysLine M.answers (M.view handler.old) buffer.now.line.bytes
+        (response_line result out.new.items) (M.view handler.new) }
+{
+    match buffer.whole() {
+        Some(line) => handler.answer(alloc, line, out),
+        None => Response::NoMemory,
+    }
+}
+
+// The text of an answer with its LF.
+fn line_of<'a>(response: &'a Response, out: &'a [u8]) -> &'a [u8]
+    ensures { result.now ≡ response_line response.now out.now }
+{
+    match response {
+        Response::Written => out,
+        Response::Short(text) => text.as_line(),
+        Response::Done => DONE_LINE,
+        Response::NoMemory => MEMORY_LINE,
+    }
+}
+
+// Answers the line in the buffer, and writes the answer with its LF.
+fn answer_line<M: LineHandler, W: Sink>(
+    alloc: Global,
+    handler: &mut M,
+    buffer: &LineBuffer,
+    out: &mut Vec<u8>,
+    writer: &mut W,
+) -> Result<(), RunError>
+    requires { W.has_failed writer.old ≡ false }
+    ensures ok { OnOk result ((text : List ℕ)
+        × M.answers (M.view handler.old) buffer.now.line.bytes text (M.view handler.new)
+        × (W.history writer.new ≡ W.history writer.old ++ with_lf text)) }
+    ensures fine { OnOk result (W.has_failed writer.new ≡ false) }
+    ensures part { OnErr result ((text rest : List ℕ)
+        × M.answers (M.view handler.old) buffer.now.line.bytes text (M.view handler.new)
+        × (W.history writer.new ++ rest ≡ W.history writer.old ++ with_lf text)) }
+    ensures err { IfErr result (λ e. (e ≡ RunError.Write) × (W.has_failed writer.new ≡ true)) }
+{
+    let response = decide(alloc, handler, buffer, out);
+    write_all(writer, line_of(&response, out))
+}
+
+// Takes the next piece of the input, and answers each line that it completes.
+fn feed<M: LineHandler, W: Sink>(
+    alloc: Global,
+    handler: &mut M,
+    buffer: &mut LineBuffer,
+    out: &mut Vec<u8>,
+    writer: &mut W,
+    piece: &[u8],
+) -> Result<(), RunError>
+    requires { W.has_failed writer.old ≡ false }
+    ensures ok { OnOk result (FeedOk M.answers (M.view handler.old) buffer.old.line.bytes piece.now
+        buffer.new.line.bytes (W.history writer.old) (W.history writer.new) (M.view handler.new)) }
+    ensures fine { OnOk result (W.has_failed writer.new ≡ false) }
+    ensures part { OnErr result
+        (FeedErr M.answers (M.view handler.old) buffer.old.line.bytes piece.now
+        (W.history writer.old) (W.history writer.new)) }
+    ensures err { IfErr result (λ e. (e ≡ RunError.Write) × (W.has_failed writer.new ≡ true)) }
+{
+    let mut rest = piece;
+    while let Some((line, after)) = split_line(rest) {
+        buffer.add(alloc, line);
+        answer_line(alloc, handler, buffer, out, writer)?;
+        buffer.clear();
+        rest = after;
+    }
+    buffer.add(alloc, rest);
+    Ok(())
+}
+
+// Answers the last line, where the input ended in one with no LF, and flushes the sink.
+fn finish<M: LineHandler, W: Sink>(
+    alloc: Global,
+    handler: &mut M,
+    buffer: &LineBuffer,
+    out: &mut Vec<u8>,
+    writer: &mut W,
+) -> Result<(), RunError>
+    requires { W.has_failed writer.old ≡ false }
+    ensures ok { OnOk result (FinishOk M.answers (M.view handler.old) buffer.now.line.bytes
+        (W.history writer.old) (W.history writer.new) (M.view handler.new)) }
+    ensures fine { OnOk result (W.has_failed writer.new ≡ false) }
+    ensures flushed { OnOk result (W.flushed writer.new ≡ W.history writer.new) }
+    ensures part { OnErr result (FinishErr M.answers (M.view handler.old) buffer.now.line.bytes
+        (W.history writer.old) (W.history writer.new)) }
+    ensures err { IfErr result (λ e. (e ≡ RunError.Write) × (W.has_failed writer.new ≡ true)) }
+{
+    if !buffer.is_empty() {
+        answer_line(alloc, handler, buffer, out, writer)?;
+    }
+    match writer.flush() {
+        Ok(()) => Ok(()),
+        Err(_) => Err(RunError::Write),
+    }
+}
+
+/// Reads lines to the end of a source, and writes the handler's answer to each into a sink, ended
+/// by an LF. It flushes once, at the end.
+///
+/// An LF ends a line, and the last line may lack it. A line for which memory is refused is read to
+/// its end and answered by error 1, and the next line is served. An answer goes out as soon as it
+/// is made, in as few writes as the sink takes. Any failure of a read or write ends the run, and
+/// nothing is read or written after it.
+pub fn run_lines<M: LineHandler, R: Source, W: Sink>(
+    alloc: Global,
+    handler: &mut M,
+    reader: &mut R,
+    writer: &mut W,
+) -> Result<(), RunError>
+    requires not_ended { R.has_ended reader.old ≡ false }
+    requires reads { R.has_failed reader.old ≡ false }
+    requires writes { W.has_failed writer.old ≡ false }
+
+    // Each line that was read is answered, and all of the source was read.
+    ensures ok { OnOk result (AnswersAll M.answers (M.view handler.old)
+        (R.history reader.old) (R.history reader.new)
+        (W.history writer.old) (W.history writer.new) (M.view handler.new)) }
+    ensures all_read { OnOk result ((R.has_ended reader.new ≡ true)
+        × (R.has_failed reader.new ≡ false) × (W.has_failed writer.new ≡ false)) }
+    ensures flushed { OnOk result (W.flushed writer.new ≡ W.history writer.new) }
+
+    // At a fault, what was written is a beginning of the answers.
+    ensures part { OnErr result (AnswersPart M.answers (M.view handler.old)
+        (R.history reader.old) (R.history reader.new)
+        (W.history writer.old) (W.history writer.new)) }
+    ensures read { IsErrOf result RunError.Read → R.has_failed reader.new ≡ true }
+    ensures write { IsErrOf result RunError.Write → W.has_failed writer.new ≡ true }
+    ensures limit { IsErrOf result RunError.Limit
+        → length (R.history reader.old) + (2 ^ 64 - 1) ≤ length (R.history reader.new) }
+{
+    let mut buffer = LineBuffer::new(alloc);
+    let mut out = Vec::new(alloc);
+    let mut block = [0u8; BLOCK_LENGTH];
+    for _ in 0..u64::MAX {
+        match reader.read(&mut block) {
+            Err(_) => return Err(RunError::Read),
+            Ok(0) => return finish(alloc, handler, &buffer, &mut out, writer),
+            Ok(n) => {
+                let (piece, _) = block.split_at(n);
+                feed(alloc, handler, &mut buffer, &mut out, writer, piece)?;
+            }
+        }
+    }
+    Err(RunError::Limit)
+}

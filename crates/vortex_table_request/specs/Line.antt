@@ -1,0 +1,83 @@
+-- The command that a line is.
+use Rattle.std.specs.Prelude.{ℕ, ◌+◌, List, [], ◌∷◌, ◌==◌, is_some, Option, Some, None, if◌then◌else◌, option_map, option_and_then, codes}
+use Rattle.std.specs.Str.{bytes_eq}
+use Rattle.serde_json.specs.Data.{Data, Items, no_items, item}
+use Rattle.serde_json.specs.Find.{get, as_array, as_str}
+use Rattle.vortex_model.specs.LogicalType.{LogicalType}
+use Rattle.vortex_model.specs.Content.{Raw}
+use Rattle.vortex_model.specs.Command.{Command, create, append, scan}
+use Rattle.vortex_table_request.specs.Parsed.{data_of, size_of, natural_of, keeps_whole}
+use Rattle.vortex_table_request.specs.Kinds.{type_in, one_if}
+use Rattle.vortex_table_request.specs.Rows.{rows_at}
+use Rattle.vortex_table_request.specs.Where.{paths_in, predicate_in}
+
+-- how rows are laid out, which no answer shows
+pub data LayoutName : Type 0 where
+  plain dictionary constant : LayoutName
+
+abbrev pub layout_named : List ℕ → Option LayoutName
+layout_named name =
+    if bytes_eq name (codes "plain") then Some plain
+    else (if bytes_eq name (codes "dictionary") then Some dictionary
+    else (if bytes_eq name (codes "constant") then Some constant else None))
+
+abbrev pub layouts_of : Items → Option (List LayoutName)
+layouts_of no_items = Some []
+layouts_of (item d ds) = option_and_then (λ l. option_map (λ ls. l ∷ ls) (layouts_of ds)) (option_and_then layout_named (as_str d))
+
+-- missing layouts are none
+abbrev pub layouts_in : Option Data → Option (List LayoutName)
+layouts_in None = Some []
+layouts_in (Some d) = option_and_then layouts_of (as_array d)
+
+-- `length` fits a `usize`
+abbrev pub create_in : ℕ → Data → Option Command
+create_in size d =
+    if size == 3
+    then option_and_then (λ k. option_map (λ n. create k n []) (option_and_then natural_of (get (codes "length") d)))
+    (option_and_then type_in (get (codes "dtype") d))
+    else None
+
+-- the rows of an append of this type
+abbrev pub rows_in : LogicalType → Data → Option (List Raw)
+rows_in k d = option_map (rows_at k) (option_and_then as_array (get (codes "rows") d))
+
+abbrev pub append_in : ℕ → Data → Option Command
+append_in size d =
+    if size == 3 + one_if (is_some (get (codes "layouts") d))
+    then option_and_then (λ layouts. option_and_then (λ k. option_map (append k) (rows_in k d))
+    (option_and_then type_in (get (codes "dtype") d)))
+    (layouts_in (get (codes "layouts") d))
+    else None
+
+abbrev pub scan_in : ℕ → Data → Option Command
+scan_in size d =
+    if size == 3
+    then option_and_then (λ paths. option_map (scan paths) (option_and_then predicate_in (get (codes "where") d)))
+    (option_and_then paths_in (option_and_then as_array (get (codes "paths") d)))
+    else None
+
+-- which command a line asks for
+pub data VerbName : Type 0 where
+  creates appends scans : VerbName
+
+abbrev pub verb_named : List ℕ → Option VerbName
+verb_named name =
+    if bytes_eq name (codes "create") then Some creates
+    else (if bytes_eq name (codes "append") then Some appends
+    else (if bytes_eq name (codes "scan") then Some scans else None))
+
+-- that command, in an object of this many members
+abbrev pub command_with : VerbName → ℕ → Data → Option Command
+command_with creates size d = create_in size d
+command_with appends size d = append_in size d
+command_with scans size d = scan_in size d
+
+-- an object with `cmd` and exactly the keys of that command
+abbrev pub command_in : Data → Option Command
+command_in d =
+    option_and_then (λ size. option_and_then (λ verb. command_with verb size d) (option_and_then verb_named (option_and_then as_str (get (codes "cmd") d)))) (size_of d)
+
+-- The command that a line is. A number that is no whole number of 64 bits makes the line bad wherever it stands.
+abbrev pub command_of : List ℕ → Option Command
+command_of line = option_and_then (λ d. if keeps_whole d then command_in d else None) (data_of line)

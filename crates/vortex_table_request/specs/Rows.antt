@@ -1,0 +1,45 @@
+-- The contents that values are, at a type.
+use Rattle.std.specs.Prelude.{List, [], ◌∷◌, Option, Some, None, unwrap_or, if◌then◌else◌, option_map, option_and_then}
+use Rattle.serde_json.specs.Data.{Num, Data, null, boolean as flag, number, string, array, Items, no_items, item}
+use Rattle.serde_json.specs.Find.{as_integer}
+use Rattle.vortex_model.specs.LogicalType.{IntKind, LogicalType, boolean_type, integer_type, utf8, binary, struct, Fields, no_fields, field}
+use Rattle.vortex_model.specs.Content.{Raw, raw_null, raw_boolean, raw_number, raw_text, raw_byte_string, raw_tuple}
+use Rattle.vortex_model.specs.Valid.{in_range}
+use Rattle.vortex_dtype_ptype.specs.Numbers.{NumberKind, integral, floating}
+use Rattle.vortex_scalar_value.specs.View.{raws_from}
+use Rattle.vortex_table_request.specs.Kinds.{bytes_of_digits}
+
+-- an integer of the kind
+abbrev pub number_at : IntKind → Num → Option Raw
+number_at i n = option_and_then (λ z. if in_range i z then Some (raw_number i z) else None) (as_integer n)
+
+-- no number of a float is kept
+abbrev pub number_of : NumberKind → Num → Option Raw
+number_of (integral i) n = number_at i n
+number_of (floating f) n = None
+
+-- The reading of a value at a type: null anywhere, a truth value, a number in range at a kind of integers, a text, hexadecimal digits as bytes, and an array by
+-- position at a record.
+abbrev mutual
+  pub reading : LogicalType → Data → Option Raw
+  reading k null = Some raw_null
+  reading (boolean_type n) (flag b) = Some (raw_boolean b)
+  reading (integer_type i n) (number x) = number_at i x
+  reading (utf8 n) (string s) = Some (raw_text s)
+  reading (binary n) (string s) = option_map raw_byte_string (bytes_of_digits s)
+  reading (struct fs n) (array ds) = option_map (λ rs. raw_tuple (raws_from rs)) (readings fs ds)
+  reading k d = None
+
+  -- a reading a field
+  pub readings : Fields → Items → Option (List Raw)
+  readings no_fields no_items = Some []
+  readings (field x k fs) (item d ds) = option_and_then (λ r. option_map (λ rs. r ∷ rs) (readings fs ds)) (reading k d)
+  readings fs ds = None
+
+-- a row, and null where there is no reading
+abbrev pub row_at : LogicalType → Data → Raw
+row_at k d = unwrap_or (reading k d) raw_null
+
+abbrev pub rows_at : LogicalType → Items → List Raw
+rows_at k no_items = []
+rows_at k (item d ds) = row_at k d ∷ rows_at k ds

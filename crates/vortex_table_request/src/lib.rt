@@ -1,0 +1,19 @@
+//! Lines of JSON as commands of a table: their types, rows, paths and predicates.
+#![tactic(auto)]
+
+mod command;
+mod kinds;
+mod leaves;
+mod messages;
+mod parse_error;
+mod parsed;
+mod paths;
+mod predicates;
+mod rows;
+
+pub use command::{Command, read_command};
+pub use kinds::{present_members, read_digits, read_names};
+pub use messages::{read_dtype, read_message};
+pub use parse_error::ParseError;
+pub use parsed::{is_whole, length, parse, size};
+pub use rows::{read_rows, read_value, take_value};

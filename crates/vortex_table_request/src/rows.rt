@@ -1,0 +1,111 @@
+//! Rows from JSON, as values of a type.
+ghost use Rattle.std.specs.Prelude.{◌≡◌, map, IfOk, IfErr};
+ghost use Rattle.serde_json.specs.View.{view, items_view};
+ghost use Rattle.vortex_dtype_core.specs.View.{type_of, fields_of};
+ghost use Rattle.vortex_scalar_value.specs.View.{raw_in};
+ghost use Rattle.vortex_table_request.specs.Parsed.{Gives};
+ghost use Rattle.vortex_table_request.specs.Rows.{reading, readings, row_at, rows_at};
+
+use crate::ParseError;
+use crate::leaves::{read_number, read_truth, take_text};
+use serde_json::Value;
+use std::alloc::Global;
+use vortex_dtype_core::dtype::DType;
+use vortex_dtype_core::struct_fields::StructField;
+use vortex_scalar_value::scalar_value::ScalarValue;
+
+/// The value of a type that a JSON value is, which is used up: null at any type, a truth value, an
+/// integer in range, a text, whose bytes aren't copied, bytes as a text of hexadecimal digits, two
+/// a byte and of either case, or an array by position of a record's fields. Anything else is
+/// `Malformed`.
+#[cycle(row)]
+pub fn take_value(
+    value: Value,
+    alloc: Global,
+    dtype: &DType,
+) -> Result<Option<ScalarValue>, ParseError>
+    ensures { Gives raw_in result (reading (type_of dtype.now) (view value)) }
+{
+    match value {
+        Value::Array(items) => match dtype.as_struct_fields_opt() {
+            Some(fields) => {
+                let values = take_fields(items, alloc, fields.as_slice())?;
+                Ok(Some(ScalarValue::Tuple(values)))
+            }
+            None => Err(ParseError::Malformed),
+        },
+        Value::Null => Ok(None),
+        Value::Number(number) => read_number(dtype, &number),
+        Value::Bool(truth) => read_truth(dtype, truth),
+        Value::String(text) => take_text(alloc, dtype, text),
+        Value::Object(_) => Err(ParseError::Malformed),
+    }
+}
+
+/// A value for each field, by position.
+#[cycle(row)]
+fn take_fields(
+    items: Vec<Value>,
+    alloc: Global,
+    fields: &[StructField],
+) -> Result<Vec<Option<ScalarValue>>, ParseError>
+    ensures { Gives (λ v. map raw_in v.items) result
+        (readings (fields_of fields.now) (items_view items.items)) }
+{
+    let mut values = Vec::with_capacity(alloc, items.len())?;
+    let mut rest = fields;
+    for item in items {
+        let Some((field, after)) = rest.split_first() else {
+            return Err(ParseError::Malformed);
+        };
+        values.push(take_value(item, alloc, &field.dtype)?)?;
+        rest = after;
+    }
+    if rest.is_empty() {
+        Ok(values)
+    } else {
+        Err(ParseError::Malformed)
+    }
+}
+
+/// The value of a type that a JSON value is, as `take_value`, of a copy.
+pub fn read_value(
+    value: &Value,
+    alloc: Global,
+    dtype: &DType,
+) -> Result<Option<ScalarValue>, ParseError>
+    ensures { Gives raw_in result (reading (type_of dtype.now) (view value.now)) }
+{
+    let value = value.clone()?;
+    take_value(value, alloc, dtype)
+}
+
+/// A row, or null where the value has no reading.
+fn take_row(alloc: Global, value: Value, dtype: &DType) -> Result<Option<ScalarValue>, ParseError>
+    ensures row { IfOk result (λ row. raw_in row ≡ row_at (type_of dtype.now) (view value)) }
+    ensures memory { IfErr result (λ e. e ≡ ParseError.Memory) }
+{
+    match take_value(value, alloc, dtype) {
+        Ok(row) => Ok(row),
+        Err(ParseError::Malformed) => Ok(None),
+        Err(ParseError::Memory) => Err(ParseError::Memory),
+    }
+}
+
+/// The rows that an array is, with null in place of each that has no reading. Each item is given up
+/// once it was read.
+pub fn read_rows(
+    alloc: Global,
+    items: Vec<Value>,
+    dtype: &DType,
+) -> Result<Vec<Option<ScalarValue>>, ParseError>
+    ensures rows { IfOk result (λ rows. map raw_in rows.items
+        ≡ rows_at (type_of dtype.now) (items_view items.items)) }
+    ensures memory { IfErr result (λ e. e ≡ ParseError.Memory) }
+{
+    let mut rows = Vec::with_capacity(alloc, items.len())?;
+    for item in items {
+        rows.push(take_row(alloc, item, dtype)?)?;
+    }
+    Ok(rows)
+}

@@ -1,0 +1,99 @@
+-- The texts of answers: compact, with the keys of an object in byte order.
+use Rattle.std.specs.Prelude.{ℕ, List, [], ◌∷◌, ◌++◌, Bool, true, false, codes, decimal, Option, Some, None}
+use Rattle.std.specs.Fmt.{signed_decimal}
+use Rattle.hex.specs.Hex.{encode_lower}
+use Rattle.json.specs.Print.{quoted}
+use Rattle.vortex_model.specs.Content.{Content, null, boolean, integer, text, byte_string, tuple, Contents, nothing, first}
+use Rattle.vortex_model.specs.Refusal.{Refusal, not_a_record, unkept_type, repeated_name, invalid_value, not_convertible, total_passed, no_such_group, unknown_path, element_step, placeholder, unknown_column, not_a_leaf, unequal_types, not_boolean, unsupported_like, no_table, unsupported_predicate, repeated_path, number_of}
+use Rattle.vortex_model.specs.Scan.{ScanAnswer}
+use Rattle.vortex_table_response.specs.type_texts.Text.{flag_text, comma, type_text}
+
+-- ---- contents
+
+-- bytes: their hexadecimal digits in lower case, two a byte, with quotes
+abbrev pub bytes_text : List ℕ → List ℕ
+bytes_text bs = codes "\"" ++ encode_lower bs ++ codes "\""
+
+-- A content as a table can hold it: null, a truth value, a number, a text, bytes, or an array by position.
+abbrev mutual
+  pub content_text : Content → List ℕ
+  content_text null = codes "null"
+  content_text (boolean b) = flag_text b
+  content_text (integer z) = signed_decimal z
+  content_text (text bs) = quoted bs
+  content_text (byte_string bs) = bytes_text bs
+  content_text (tuple cs) = codes "[" ++ contents_text false cs ++ codes "]"
+  content_text c = []
+
+  pub contents_text : Bool → Contents → List ℕ
+  contents_text later nothing = []
+  contents_text later (first c cs) = comma later ++ content_text c ++ contents_text true cs
+
+abbrev pub rows_text : Bool → List Content → List ℕ
+rows_text later [] = []
+rows_text later (c ∷ cs) = comma later ++ content_text c ++ rows_text true cs
+
+abbrev pub numbers_text : Bool → List ℕ → List ℕ
+numbers_text later [] = []
+numbers_text later (n ∷ ns) = comma later ++ decimal n ++ numbers_text true ns
+
+-- ---- answers
+
+abbrev pub name_of : Refusal → List ℕ
+name_of not_a_record = codes "NotARecord"
+name_of unkept_type = codes "UnkeptType"
+name_of repeated_name = codes "RepeatedName"
+name_of (invalid_value i) = codes "InvalidValue"
+name_of (not_convertible i) = codes "NotConvertible"
+name_of total_passed = codes "Total"
+name_of no_such_group = codes "NoSuchGroup"
+name_of (unknown_path i) = codes "UnknownPath"
+name_of (element_step i) = codes "ElementStep"
+name_of placeholder = codes "Placeholder"
+name_of unknown_column = codes "UnknownColumn"
+name_of not_a_leaf = codes "NotALeaf"
+name_of unequal_types = codes "UnequalTypes"
+name_of not_boolean = codes "NotBoolean"
+name_of unsupported_like = codes "UnsupportedLike"
+name_of no_table = codes "NoTable"
+name_of unsupported_predicate = codes "UnsupportedPredicate"
+name_of (repeated_path i) = codes "RepeatedPath"
+
+-- the index that stands in front, for a row or a path at fault
+abbrev pub place_of : Refusal → Option ℕ
+place_of (invalid_value i) = Some i
+place_of (not_convertible i) = Some i
+place_of (unknown_path i) = Some i
+place_of (element_step i) = Some i
+place_of (repeated_path i) = Some i
+place_of r = None
+
+abbrev pub place_text : Option ℕ → List ℕ
+place_text None = []
+place_text (Some i) = codes "\"at\":" ++ decimal i ++ codes ","
+
+-- a refusal of this number and name
+abbrev pub refusal_parts : Option ℕ → ℕ → List ℕ → List ℕ
+refusal_parts place number name =
+    codes "{" ++ place_text place ++ codes "\"error\":" ++ decimal number ++ codes ",\"name\":\"" ++ name ++ codes "\"}"
+
+-- the answer to a line that is no command
+abbrev pub bad_line_text : List ℕ
+bad_line_text = refusal_parts None 18 (codes "BadLine")
+
+abbrev pub refusal_text : Refusal → List ℕ
+refusal_text r = refusal_parts (place_of r) (number_of r) (name_of r)
+
+-- what stands in front of the rows
+abbrev pub scan_front_text : ScanAnswer → List ℕ
+scan_front_text a =
+    codes "{\"dtype\":" ++ type_text a.kind ++ codes ",\"ok\":true,\"proofs\":" ++ decimal a.proofs ++ codes ",\"rows\":["
+
+-- what stands behind the rows
+abbrev pub scan_end_text : ScanAnswer → List ℕ
+scan_end_text a =
+    codes "],\"rows_tested\":" ++ decimal a.rows_tested ++ codes ",\"skipped\":[" ++ numbers_text false a.skipped
+    ++ codes "],\"whole\":[" ++ numbers_text false a.whole ++ codes "]}"
+
+abbrev pub scan_text : ScanAnswer → List ℕ
+scan_text a = scan_front_text a ++ rows_text false a.rows ++ scan_end_text a

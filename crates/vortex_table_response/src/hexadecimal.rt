@@ -1,0 +1,38 @@
+//! Bytes as a JSON text of their hexadecimal digits.
+ghost use Rattle.std.specs.Prelude.{◌≡◌, [], ◌∷◌, ◌++◌, OnOk};
+ghost use Rattle.hex.specs.Hex.{encode_lower};
+ghost use Rattle.vortex_table_response.specs.Text.{bytes_text};
+
+use std::alloc::AllocError;
+
+const DIGITS: &[u8; 16] = b"0123456789abcdef";
+
+// The two digits of a byte, in lower case.
+#[tactic(auto, unfolding(hex::specs::Hex::encode_with))]
+fn digits_of(byte: u8) -> [u8; 2]
+    ensures { result ≡ encode_lower (byte ∷ []) }
+{
+    [DIGITS[(byte / 16) as usize], DIGITS[(byte % 16) as usize]]
+}
+
+// Writes two digits a byte, into the buffer itself.
+#[tactic(auto, unfolding(hex::specs::Hex::encode_with))]
+fn push_digits(out: &mut Vec<u8>, bytes: &[u8]) -> Result<(), AllocError>
+    ensures { OnOk result (out.new.items ≡ out.old.items ++ encode_lower bytes.now) }
+{
+    for byte in bytes {
+        out.extend_from_slice(&digits_of(*byte))?;
+    }
+    Ok(())
+}
+
+/// Writes bytes as a text of their hexadecimal digits, in quotes. An `Err` leaves the buffer with
+/// no promise.
+pub(crate) fn push_bytes(out: &mut Vec<u8>, bytes: &[u8]) -> Result<(), AllocError>
+    ensures { OnOk result (out.new.items ≡ out.old.items ++ bytes_text bytes.now) }
+{
+    out.extend_from_slice(b"\"")?;
+    push_digits(out, bytes)?;
+    out.extend_from_slice(b"\"")?;
+    Ok(())
+}

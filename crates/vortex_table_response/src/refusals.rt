@@ -1,0 +1,45 @@
+//! Refusals as short texts, which take no memory.
+ghost use Rattle.std.specs.Prelude.{◌≡◌, ◌≤◌, ◌+◌, ◌++◌, length, decimal};
+ghost use Rattle.vortex_table_response.specs.Text.{place_text, refusal_parts};
+
+use itoa::Buffer;
+use vortex_table_io::ShortText;
+
+fn push_digits(text: &mut ShortText, n: usize)
+    requires { length text.old ≤ 76 }
+    ensures text { text.new ≡ text.old ++ decimal n }
+    ensures short { length text.new ≤ length text.old + 20 }
+{
+    let mut buffer = Buffer::new();
+    text.push_bytes(buffer.format(n).as_bytes());
+}
+
+/// The index in front of a refusal.
+fn push_place(text: &mut ShortText, place: Option<usize>)
+    requires { length text.old ≤ 1 }
+    ensures text { text.new ≡ text.old ++ place_text place }
+    ensures short { length text.new ≤ 27 }
+{
+    if let Some(at) = place {
+        text.push_bytes(b"\"at\":");
+        push_digits(text, at);
+        text.push_bytes(b",");
+    }
+}
+
+/// The text of a refusal of this number and name, with the index of the row or the path at fault in
+/// front.
+pub fn refusal(place: Option<usize>, number: u8, name: &str) -> ShortText
+    requires { length name.now ≤ 24 }
+    ensures { result ≡ refusal_parts place number name.now }
+{
+    let mut text = ShortText::new();
+    text.push_bytes(b"{");
+    push_place(&mut text, place);
+    text.push_bytes(b"\"error\":");
+    push_digits(&mut text, number as usize);
+    text.push_bytes(b",\"name\":\"");
+    text.push_bytes(name.as_bytes());
+    text.push_bytes(b"\"}");
+    text
+}

@@ -1,0 +1,170 @@
+//! Types as text.
+ghost use Rattle.std.specs.Prelude.{◌≡◌, ◌++◌, OnOk, false};
+ghost use Rattle.json.specs.Print.{quoted};
+ghost use Rattle.vortex_model.specs.LogicalType.{is_nullable};
+ghost use Rattle.vortex_dtype_ptype.specs.Numbers.{type_of_numbers};
+ghost use Rattle.vortex_dtype_ptype.specs.View.{nullability_of_flag, number_kind_of};
+ghost use Rattle.vortex_dtype_core.specs.View.{type_of, fields_of};
+ghost use Rattle.vortex_table_response.specs.type_texts.Text.{flag_text, plain_text, names_text, type_text, children_text, list_end_text, fixed_list_end_text, struct_end_text};
+
+use crate::type_texts::tokens::{push_comma, push_flag, push_number};
+use json::Writer;
+use std::alloc::{AllocError, Global};
+use std::mem;
+use vortex_dtype_core::dtype::DType;
+use vortex_dtype_core::struct_fields::StructField;
+use vortex_dtype_ptype::nullability::Nullability;
+use vortex_dtype_ptype::ptype::PType;
+
+fn push_nullability(out: &mut Vec<u8>, nullability: Nullability) -> Result<(), AllocError>
+    ensures { OnOk result (out.new.items ≡ out.old.items
+        ++ flag_text (is_nullable (nullability_of_flag nullability))) }
+{
+    match nullability {
+        Nullability::NonNullable => push_flag(out, false),
+        Nullability::Nullable => push_flag(out, true),
+    }
+}
+
+fn push_plain(out: &mut Vec<u8>, name: &str, nullability: Nullability) -> Result<(), AllocError>
+    ensures { OnOk result (out.new.items ≡ out.old.items
+        ++ plain_text name.now (nullability_of_flag nullability)) }
+{
+    out.extend_from_slice(b"{\"kind\":\"")?;
+    out.extend_from_slice(name.as_bytes())?;
+    out.extend_from_slice(b"\",\"nullable\":")?;
+    push_nullability(out, nullability)?;
+    out.extend_from_slice(b"}")
+}
+
+/// Writes a type of numbers. Of floats nothing is written, since no table has them.
+fn push_numbers(out: &mut Vec<u8>, ptype: PType, nullability: Nullability) -> Result<(), AllocError>
+    ensures { OnOk result (out.new.items ≡ out.old.items
+        ++ type_text (type_of_numbers (number_kind_of ptype) (nullability_of_flag nullability))) }
+{
+    match ptype {
+        PType::U8 | PType::U16 | PType::U32 | PType::U64 => {
+            push_plain(out, ptype.as_str(), nullability)
+        }
+        PType::I8 | PType::I16 | PType::I32 | PType::I64 => {
+            push_plain(out, ptype.as_str(), nullability)
+        }
+        PType::F16 | PType::F32 | PType::F64 => Ok(()),
+    }
+}
+
+/// Writes a text with its quotes and escapes. An `Err` leaves nothing.
+#[tactic(auto, using(crate::proofs::type_texts::Pieces::print_one))]
+pub fn push_quoted(alloc: Global, out: &mut Vec<u8>, text: &str) -> Result<(), AllocError>
+    ensures { OnOk result (out.new.items ≡ out.old.items ++ quoted text.now) }
+{
+    let mut writer = Writer::new(mem::replace(out, Vec::new(alloc)));
+    writer.string(text)?;
+    *out = writer.into_inner();
+    Ok(())
+}
+
+/// Writes the names of fields with commas between.
+fn push_names(alloc: Global, out: &mut Vec<u8>, fields: &[StructField]) -> Result<(), AllocError>
+    ensures { OnOk result (out.new.items ≡ out.old.items
+        ++ names_text false (fields_of fields.now)) }
+{
+    let mut later = false;
+    for field in fields {
+        push_comma(out, later)?;
+        push_quoted(alloc, out, field.name.as_str())?;
+        later = true;
+    }
+    Ok(())
+}
+
+/// What stands behind the children of a record.
+fn push_struct_end(
+    alloc: Global,
+    out: &mut Vec<u8>,
+    fields: &[StructField],
+    nullability: Nullability,
+) -> Result<(), AllocError>
+    ensures { OnOk result (out.new.items ≡ out.old.items ++ struct_end_text (fields_of fields.now)
+        (nullability_of_flag nullability)) }
+{
+    out.extend_from_slice(b"],\"kind\":\"struct\",\"names\":[")?;
+    push_names(alloc, out, fields)?;
+    out.extend_from_slice(b"],\"nullable\":")?;
+    push_nullability(out, nullability)?;
+    out.extend_from_slice(b"}")?;
+    Ok(())
+}
+
+/// What stands behind the child of a list.
+fn push_list_end(out: &mut Vec<u8>, nullability: Nullability) -> Result<(), AllocError>
+    ensures { OnOk result (out.new.items ≡ out.old.items
+        ++ list_end_text (nullability_of_flag nullability)) }
+{
+    out.extend_from_slice(b"],\"kind\":\"list\",\"nullable\":")?;
+    push_nullability(out, nullability)?;
+    out.extend_from_slice(b"}")
+}
+
+/// What stands behind the child of a list of so many elements.
+fn push_fixed_list_end(
+    out: &mut Vec<u8>,
+    size: u32,
+    nullability: Nullability,
+) -> Result<(), AllocError>
+    ensures { OnOk result (out.new.items ≡ out.old.items
+        ++ fixed_list_end_text size (nullability_of_flag nullability)) }
+{
+    out.extend_from_slice(b"],\"kind\":\"fixed_size_list\",\"nullable\":")?;
+    push_nullability(out, nullability)?;
+    out.extend_from_slice(b",\"size\":")?;
+    push_number(out, size)?;
+    out.extend_from_slice(b"}")?;
+    Ok(())
+}
+
+/// Writes a type as a table can hold it, and nothing for one of another kind. An `Err` promises
+/// nothing of the buffer.
+#[cycle(kind)]
+pub fn push_dtype(alloc: Global, out: &mut Vec<u8>, dtype: &DType) -> Result<(), AllocError>
+    ensures { OnOk result (out.new.items ≡ out.old.items ++ type_text (type_of dtype.now)) }
+{
+    match dtype {
+        DType::Bool(nullability) => push_plain(out, "bool", *nullability),
+        DType::Primitive(ptype, nullability) => push_numbers(out, *ptype, *nullability),
+        DType::Utf8(nullability) => push_plain(out, "utf8", *nullability),
+        DType::Binary(nullability) => push_plain(out, "binary", *nullability),
+        DType::List(element, nullability) => {
+            out.extend_from_slice(b"{\"children\":[")?;
+            push_dtype(alloc, out, element)?;
+            push_list_end(out, *nullability)
+        }
+        DType::FixedSizeList(element, size, nullability) => {
+            out.extend_from_slice(b"{\"children\":[")?;
+            push_dtype(alloc, out, element)?;
+            push_fixed_list_end(out, *size, *nullability)
+        }
+        DType::Struct(fields, nullability) => {
+            let fields = fields.as_slice();
+            out.extend_from_slice(b"{\"children\":[")?;
+            push_children(alloc, out, fields)?;
+            push_struct_end(alloc, out, fields, *nullability)
+        }
+        DType::Null | DType::Decimal(_, _) | DType::Map(_, _) => Ok(()),
+        DType::Union(_, _) | DType::Variant(_) | DType::Extension(_) => Ok(()),
+    }
+}
+
+#[cycle(kind)]
+fn push_children(alloc: Global, out: &mut Vec<u8>, fields: &[StructField]) -> Result<(), AllocError>
+    ensures { OnOk result (out.new.items ≡ out.old.items
+        ++ children_text false (fields_of fields.now)) }
+{
+    let mut later = false;
+    for field in fields {
+        push_comma(out, later)?;
+        push_dtype(alloc, out, &field.dtype)?;
+        later = true;
+    }
+    Ok(())
+}

@@ -1,0 +1,93 @@
+//! Values as text. Nothing is allocated but for the growth of the buffer.
+ghost use Rattle.std.specs.Prelude.{◌≡◌, ◌++◌, OnOk, false};
+ghost use Rattle.std.specs.Fmt.{signed_decimal};
+ghost use Rattle.vortex_model.specs.Content.{content_of, contents_of};
+ghost use Rattle.vortex_scalar_value.specs.Numbers.{integer_of};
+ghost use Rattle.vortex_scalar_value.specs.View.{raw_of, raw_at, raws_in};
+ghost use Rattle.vortex_table_response.specs.Text.{content_text, contents_text, numbers_text};
+
+use crate::hexadecimal::push_bytes;
+use crate::type_texts::{push_comma, push_flag, push_number, push_quoted};
+use std::alloc::AllocError;
+use vortex_scalar_value::pvalue::PValue;
+use vortex_scalar_value::scalar_value::ScalarValue;
+
+/// Writes the numbers with commas between.
+pub fn push_numbers(out: &mut Vec<u8>, numbers: &[usize]) -> Result<(), AllocError>
+    ensures { OnOk result (out.new.items ≡ out.old.items ++ numbers_text false numbers.now) }
+{
+    let mut later = false;
+    for n in numbers {
+        push_comma(out, later)?;
+        push_number(out, *n)?;
+        later = true;
+    }
+    Ok(())
+}
+
+fn push_integer(out: &mut Vec<u8>, number: PValue) -> Result<(), AllocError>
+    ensures { OnOk result (out.new.items ≡ out.old.items ++ signed_decimal (integer_of number)) }
+{
+    match number {
+        PValue::U8(n) => push_number(out, n),
+        PValue::U16(n) => push_number(out, n),
+        PValue::U32(n) => push_number(out, n),
+        PValue::U64(n) => push_number(out, n),
+        PValue::I8(n) => push_number(out, n),
+        PValue::I16(n) => push_number(out, n),
+        PValue::I32(n) => push_number(out, n),
+        PValue::I64(n) => push_number(out, n),
+    }
+}
+
+/// Writes a value: a number, a truth value, a text, bytes as a text of hexadecimal digits, or an
+/// array by position. Of the values of unions and variants nothing is written.
+#[tactic(auto, using(vortex_scalar_value::proofs::Views::one_level))]
+#[cycle(value)]
+pub fn push_value(out: &mut Vec<u8>, value: &ScalarValue) -> Result<(), AllocError>
+    ensures { OnOk result (out.new.items ≡ out.old.items
+        ++ content_text (content_of (raw_of value.now))) }
+{
+    match value {
+        ScalarValue::Bool(flag) => push_flag(out, *flag),
+        ScalarValue::Primitive(number) => push_integer(out, *number),
+        ScalarValue::Utf8(text) => push_quoted(*out.allocator(), out, text.as_str()),
+        ScalarValue::Tuple(values) => {
+            out.extend_from_slice(b"[")?;
+            push_values(out, values)?;
+            out.extend_from_slice(b"]")?;
+            Ok(())
+        }
+        ScalarValue::Binary(bytes) => push_bytes(out, bytes.as_slice()),
+        ScalarValue::Union(_) | ScalarValue::Variant(_) => Ok(()),
+    }
+}
+
+#[tactic(auto, using(vortex_scalar_value::proofs::Views::one_level))]
+#[cycle(value)]
+fn push_values(out: &mut Vec<u8>, values: &[Option<ScalarValue>]) -> Result<(), AllocError>
+    ensures { OnOk result (out.new.items ≡ out.old.items
+        ++ contents_text false (contents_of (raws_in values.now))) }
+{
+    let mut later = false;
+    for value in values {
+        push_comma(out, later)?;
+        match value {
+            None => out.extend_from_slice(b"null")?,
+            Some(value) => push_value(out, value)?,
+        }
+        later = true;
+    }
+    Ok(())
+}
+
+/// Writes a value, or `null` where there is none.
+pub fn push_cell(out: &mut Vec<u8>, value: Option<&ScalarValue>) -> Result<(), AllocError>
+    ensures { OnOk result (out.new.items ≡ out.old.items
+        ++ content_text (content_of (raw_at value.entry))) }
+{
+    match value {
+        None => out.extend_from_slice(b"null"),
+        Some(value) => push_value(out, value),
+    }
+}

@@ -1,0 +1,63 @@
+-- Answers to the commands that sessions take.
+use Rattle.std.proofs.Common.{◌≡◌, ℕ, ◌+◌, ◌≤◌, ◌^◌, List, [], map, length, Option, Some, None, refl, ap, sym, subst, ◌∙◌}
+use Rattle.std.proofs.Math.ListN.{length-map}
+use Rattle.vortex_model.specs.LogicalType.{LogicalType}
+use Rattle.vortex_model.specs.Content.{Raw}
+use Rattle.vortex_model.specs.Path.{Step}
+use Rattle.vortex_model.specs.Expression.{Expression}
+use Rattle.vortex_model.specs.Refusal.{Refusal, no_table}
+use Rattle.vortex_model.specs.Table.{Table, rows_of}
+use Rattle.vortex_model.specs.Scan.{ScanAnswer, scanned}
+use Rattle.vortex_model.specs.Command.{Command, create, append, scan, names_of, refusal, refusal_in, create_fault}
+use Rattle.vortex_model.specs.Reply.{refused, found, RespondsTo, PassesTotal}
+use Rattle.vortex_table_core.specs.Error.{Explains}
+use Rattle.vortex_table_core.specs.declared.error.TableError.{TableError}
+use Rattle.vortex_table_core.specs.declared.error.TableError.TheVariants as error
+use Rattle.vortex_table_run.specs.Said.{error_answer}
+use Rattle.vortex_table_run.proofs.Errors.{explained}
+
+create_refusal : (old : Option Table) (k : LogicalType) (n : ℕ) → refusal_in old (create k n []) ≡ create_fault k []
+create_refusal None k n = refl
+create_refusal (Some t) k n = refl
+
+-- no total is at fault
+never : (fault : Option Refusal) (e : TableError) → Explains ⊥ fault e → e ≡ error.Total → fault ≡ None
+never fault e x is = absurd (subst (λ (d : TableError). Explains ⊥ fault d) is x)
+
+pub create_refused : (old : Option Table) (k : LogicalType) (n : ℕ) (e : TableError) → Explains ⊥ (create_fault k []) e
+    → RespondsTo old (create k n []) (error_answer e) old
+create_refused old k n e x =
+    explained ⊥ old old (create k n []) (create_fault k []) e refl (create_refusal old k n) (λ h. absurd h) (never (create_fault k []) e x) x
+
+pub without_table : (old : Option Table) (c : Command) → old ≡ None → refusal_in None c ≡ Some no_table
+    → RespondsTo old c (refused no_table) old
+without_table old c none r = (ap (λ (o : Option Table). refusal_in o c) none ∙ r, refl)
+
+-- as many rows are appended as there are values
+passes : {V : Type 0} (old : Option Table) (t : Table) (k : LogicalType) (view : V → Raw) (values : List V) → old ≡ Some t
+    → 2 ^ 64 ≤ length (rows_of t) + length values → PassesTotal old (append k (map view values))
+passes {V} old t k view values there h =
+    subst (λ (o : Option Table). PassesTotal o (append k (map view values))) (sym there)
+    (subst (λ (n : ℕ). 2 ^ 64 ≤ length (rows_of t) + n) (sym (length-map {A = V} {B = Raw} values view)) h)
+
+pub append_refused : {V : Type 0} (old new : Option Table) (t : Table) (k : LogicalType) (view : V → Raw) (values : List V) (e : TableError)
+    → old ≡ Some t → new ≡ Some t
+    → Explains (2 ^ 64 ≤ length (rows_of t) + length values) (refusal t (append k (map view values))) e
+    → (e ≡ error.Total → refusal t (append k (map view values)) ≡ None)
+    → RespondsTo old (append k (map view values)) (error_answer e) new
+append_refused old new t k view values e there same x behind =
+    let c : Command = append k (map view values) in
+    explained (2 ^ 64 ≤ length (rows_of t) + length values) old new c (refusal t c) e (same ∙ sym there)
+    (ap (λ (o : Option Table). refusal_in o c) there) (passes old t k view values there) behind x
+
+pub scan_refused : (old : Option Table) (t : Table) (paths : List (List Step)) (p : Expression) (e : TableError)
+    → old ≡ Some t → Explains ⊥ (refusal t (scan paths p)) e → RespondsTo old (scan paths p) (error_answer e) old
+scan_refused old t paths p e there x =
+    explained ⊥ old old (scan paths p) (refusal t (scan paths p)) e refl
+    (ap (λ (o : Option Table). refusal_in o (scan paths p)) there) (λ h. absurd h) (never (refusal t (scan paths p)) e x) x
+
+pub scan_found : (old : Option Table) (t : Table) (paths : List (List Step)) (p : Expression) (a : ScanAnswer)
+    → old ≡ Some t → refusal t (scan paths p) ≡ None → a ≡ scanned t (map names_of paths) p
+    → RespondsTo old (scan paths p) (found a) old
+scan_found old t paths p a there accepted is =
+    subst (λ (o : Option Table). RespondsTo o (scan paths p) (found a) o) (sym there) (accepted, ap found is, refl)

@@ -1,0 +1,10 @@
+use Rattle.std.proofs.Common.{ℕ, Option, ap, ◌∙◌, rules}
+use Rattle.vortex_table_response.specs.Text.{refusal_parts}
+use Rattle.vortex_table_run.proofs.Errors.{error_text}
+use Rattle.vortex_table_run.proofs.refused.fault.Goals as goal
+
+pub returns : goal.returns
+returns c = λ out.
+    c.refusal.ensures ∙ ap (λ (place : Option ℕ). refusal_parts place c.number.result c.name.result.now) c.index.ensures
+    ∙ error_text c.args.error c.number.result c.name.result.now (search rules)
+    c.name.ensures.name c.number.ensures.refusal c.number.ensures.total

@@ -1,0 +1,30 @@
+use Rattle.std.proofs.Common.{map, Some, Err, refl, ap}
+use Rattle.std.specs.Prelude.{option_map}
+use Rattle.vortex_model.specs.Command.{append}
+use Rattle.vortex_model.specs.Refusal.{no_table}
+use Rattle.vortex_model.specs.Reply.{refused}
+use Rattle.vortex_dtype_core.specs.View.{type_of}
+use Rattle.vortex_scalar_value.specs.View.{raw_in}
+use Rattle.vortex_table_core.specs.TableView.{table_of}
+use Rattle.vortex_table_run.specs.Said.{error_answer}
+use Rattle.vortex_table_run.specs.State.{table_in}
+use Rattle.vortex_table_run.proofs.Responding.{without_table, append_refused}
+use Rattle.vortex_table_run.proofs.session.Session.answer_append.Goals as goal
+
+pub returns-in_default : goal.returns-in_default
+returns-in_default c = λ out.
+    let none = ap (option_map table_of) c.in_default.is in
+    let command = append (type_of c.args.dtype.now) (map raw_in c.args.values.items) in
+    (refused no_table, without_table (table_in c.args.self.now) command none refl, c.without_table.ensures out)
+
+pub returns-in-Err : goal.returns-in-Err
+returns-in-Err c = λ out.
+    let e = c.in-Err.error in
+    let there = ap (option_map table_of) c.in-Some.is in
+    let same = ap Some c.in-Err.ensures.unchanged in (
+      error_answer e,
+      append_refused (table_in c.args.self.now) (Some (table_of c.append_owned.new.self)) (table_of c.in-Some.table) (type_of c.args.dtype.now) raw_in
+          c.args.values.items e there same c.in-Err.ensures.refused
+          (λ h. c.in-Err.ensures.total (ap Err h)),
+      c.fault.ensures out,
+    )

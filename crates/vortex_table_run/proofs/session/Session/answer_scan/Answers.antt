@@ -1,0 +1,36 @@
+use Rattle.std.proofs.Common.{map, refl, ap}
+use Rattle.std.specs.Prelude.{option_map}
+use Rattle.vortex_model.specs.Command.{scan}
+use Rattle.vortex_model.specs.Refusal.{no_table}
+use Rattle.vortex_model.specs.Reply.{refused, found}
+use Rattle.vortex_dtype_path.specs.View.{steps_of}
+use Rattle.vortex_table_schema.specs.Answer.{answer_of}
+use Rattle.vortex_table_core.specs.TableView.{table_of}
+use Rattle.vortex_table_run.specs.Said.{error_answer}
+use Rattle.vortex_table_run.specs.State.{table_in}
+use Rattle.vortex_table_run.proofs.Responding.{without_table, scan_refused, scan_found}
+use Rattle.vortex_table_run.proofs.session.Session.answer_scan.Goals as goal
+
+pub returns-in_default : goal.returns-in_default
+returns-in_default c =
+    let none = ap (option_map table_of) c.in_default.is in
+    let command = scan (map steps_of c.args.paths.now) c.args.predicate.now in
+    (refused no_table, without_table (table_in c.args.self.now) command none refl, c.without_table.ensures _)
+
+pub returns-in-Ok-write_found : goal.returns-in-Ok-write_found
+returns-in-Ok-write_found c =
+    let there = ap (option_map table_of) c.in-Some.is in (
+      found (answer_of c.in-Ok.answer),
+      scan_found (table_in c.args.self.now) (table_of c.in-Some.table) (map steps_of c.args.paths.now) c.args.predicate.now (answer_of c.in-Ok.answer)
+          there c.in-Ok.ensures.accepted c.in-Ok.ensures.found,
+      c.in-Ok-write_found.ensures,
+    )
+
+pub returns : goal.returns
+returns c =
+    let e = c.in-Err.error in
+    let there = ap (option_map table_of) c.in-Some.is in (
+      error_answer e,
+      scan_refused (table_in c.args.self.now) (table_of c.in-Some.table) (map steps_of c.args.paths.now) c.args.predicate.now e there c.in-Err.ensures.refused,
+      c.fault.ensures _,
+    )

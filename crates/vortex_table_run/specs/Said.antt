@@ -1,0 +1,35 @@
+-- What is said to a command.
+use Rattle.std.specs.Prelude.{◌≡◌, ℕ, List, [], Option, Some, None, codes}
+use Rattle.vortex_model.specs.Table.{Table}
+use Rattle.vortex_model.specs.Command.{Command}
+use Rattle.vortex_model.specs.Refusal.{total_passed}
+use Rattle.vortex_model.specs.Reply.{Answer, accepted, out_of_memory, refused, RespondsTo}
+use Rattle.vortex_table_core.specs.Error.{refusal_of}
+use Rattle.vortex_table_core.specs.declared.error.TableError.{TableError}
+use Rattle.vortex_table_core.specs.declared.error.TableError.TheVariants as error
+use Rattle.vortex_table_response.specs.Text.{name_of}
+use Rattle.vortex_table_response.specs.Answers.{text_of}
+use Rattle.vortex_table_io.specs.Lines.{with_lf}
+use Rattle.vortex_table_io.specs.declared.line_handler.Response.{Response}
+use Rattle.vortex_table_io.specs.declared.line_handler.Response.TheVariants.{Written, Short, Done, NoMemory}
+
+-- this answer was said, where the buffer holds this
+abbrev pub IsSaid : Answer → Response → List ℕ → Type 0
+IsSaid a Written out = out ≡ with_lf (text_of a)
+IsSaid a (Short text) out = text ≡ text_of a
+IsSaid a Done out = a ≡ accepted
+IsSaid a NoMemory out = a ≡ out_of_memory
+
+-- an answer to the command was said
+abbrev pub Responds : Option Table → Command → Response → List ℕ → Option Table → Type 0
+Responds old c response out new = (a : Answer) × RespondsTo old c a new × IsSaid a response out
+
+-- the answer that an error is
+abbrev pub error_answer : TableError → Answer
+error_answer error.Total = refused total_passed
+error_answer e = elim (refusal_of e) [ None ↦ out_of_memory | Some r ↦ refused r ]
+
+abbrev pub error_name : TableError → List ℕ
+error_name error.Memory = codes "Memory"
+error_name error.Total = codes "Total"
+error_name e = elim (refusal_of e) [ None ↦ [] | Some r ↦ name_of r ]

@@ -1,0 +1,7 @@
+//! Serves a table line by line: [`commands::run`] reads commands from a source and writes their
+//! answers into a sink, and [`session::Session`] is the table that they change.
+#![tactic(auto)]
+
+pub mod commands;
+mod refused;
+pub mod session;

@@ -1,0 +1,152 @@
+//! A table, or none yet, and what is said to commands.
+ghost use Rattle.std.specs.Prelude.{◌≡◌, ℕ, List, [], map, None, OnOk, refl};
+ghost use Rattle.std.proofs.Common.{inl};
+ghost use Rattle.vortex_model.specs.Command.{create, append, scan};
+ghost use Rattle.vortex_dtype_core.specs.View.{type_of};
+ghost use Rattle.vortex_dtype_path.specs.View.{steps_of};
+ghost use Rattle.vortex_scalar_value.specs.View.{raw_in};
+ghost use Rattle.vortex_table_schema.specs.Answer.{answer_of};
+ghost use Rattle.vortex_table_response.specs.Text.{scan_text};
+ghost use Rattle.vortex_table_io.specs.Lines.{with_lf};
+ghost use Rattle.vortex_table_request.specs.View.{shown};
+ghost use Rattle.vortex_table_run.specs.Said.{Responds};
+
+use crate::refused::{bad_line, fault, without_table};
+use std::alloc::{AllocError, Global};
+use vortex_dtype_core::dtype::DType;
+use vortex_dtype_path::path::FieldPath;
+use vortex_scalar_value::scalar_value::ScalarValue;
+use vortex_stats_expr::expression::Expression;
+use vortex_table_core::table::Table;
+use vortex_table_io::{LineHandler, Response};
+use vortex_table_request::{Command, ParseError, read_command};
+use vortex_table_response::push_scan;
+use vortex_table_schema::answer::ScanAnswer;
+use vortex_table_schema::layout::Layout;
+
+/// Writes the line of a scan's answer in place of what the buffer holds.
+fn write_found(alloc: Global, answer: &ScanAnswer, out: &mut Vec<u8>) -> Result<(), AllocError>
+    ensures { OnOk result (out.new.items ≡ with_lf (scan_text (answer_of answer.now))) }
+{
+    out.clear();
+    push_scan(alloc, out, answer)?;
+    out.push(b'\n')?;
+    Ok(())
+}
+
+/// A table, or none yet.
+#[derive(Drop)]
+pub struct Session {
+    table: Option<Table>,
+}
+
+impl Session {
+    ghost use Rattle.vortex_table_run.specs.State.{table_in};
+
+    /// A session without a table.
+    pub fn new() -> Session
+        ensures { table_in result ≡ None }
+    {
+        Session { table: None }
+    }
+
+    /// Puts a new table in the place of the one that is there. Where it is refused, that one stays.
+    fn answer_create(&mut self, alloc: Global, dtype: DType, bound_length: usize) -> Response
+        ensures { (out : List ℕ)
+            → Responds (table_in self.old) (create (type_of dtype) bound_length [])
+            result out (table_in self.new) }
+    {
+        match Table::create(alloc, dtype, bound_length) {
+            Ok(table) => {
+                self.table = Some(table);
+                Response::Done
+            }
+            Err(error) => fault(error),
+        }
+    }
+
+    /// Appends rows to the table. Once it has changed, the answer takes no memory.
+    fn answer_append(
+        &mut self,
+        dtype: &DType,
+        values: Vec<Option<ScalarValue>>,
+        layouts: &[Layout],
+    ) -> Response
+        ensures { (out : List ℕ)
+            → Responds (table_in self.old) (append (type_of dtype.now) (map raw_in values.items))
+            result out (table_in self.new) }
+    {
+        let Some(table) = &mut self.table else {
+            return without_table();
+        };
+        match table.append_owned(dtype, values, layouts) {
+            Ok(()) => Response::Done,
+            Err(error) => fault(error),
+        }
+    }
+
+    /// Scans the table, which stays as it is. A text that memory can't hold is let go.
+    fn answer_scan(
+        &self,
+        alloc: Global,
+        paths: &[FieldPath],
+        predicate: &Expression,
+        out: &mut Vec<u8>,
+    ) -> Response
+        ensures { Responds (table_in self.now) (scan (map steps_of paths.now) predicate.now)
+            result out.new.items (table_in self.now) }
+    {
+        let Some(table) = &self.table else {
+            return without_table();
+        };
+        match table.scan(alloc, paths, predicate) {
+            Ok(answer) => match write_found(alloc, &answer, out) {
+                Ok(()) => Response::Written,
+                Err(_) => {
+                    *out = Vec::new(alloc);
+                    Response::NoMemory
+                }
+            },
+            Err(error) => fault(error),
+        }
+    }
+
+    /// Runs a command. What it holds is dropped.
+    fn answer_command(&mut self, alloc: Global, command: Command, out: &mut Vec<u8>) -> Response
+        ensures { Responds (table_in self.old) (shown command) result out.new.items
+            (table_in self.new) }
+    {
+        match command {
+            Command::Create { dtype, length } => self.answer_create(alloc, dtype, length),
+            Command::Append {
+                dtype,
+                values,
+                layouts,
+            } => self.answer_append(&dtype, values, &layouts),
+            Command::Scan { paths, predicate } => self.answer_scan(alloc, &paths, &predicate, out),
+        }
+    }
+}
+
+impl LineHandler for Session {
+    ghost use Rattle.std.specs.Prelude.{Option};
+    ghost use Rattle.vortex_model.specs.Table as model;
+    ghost use Rattle.vortex_table_run.specs.State.{table_in};
+    ghost use Rattle.vortex_table_run.specs.LineAnswers.{LineAnswers};
+
+    ghost State = { Option model.Table };
+
+    ghost view = { table_in };
+
+    ghost answers = { LineAnswers };
+
+    fn answer(&mut self, alloc: Global, line: &[u8], out: &mut Vec<u8>) -> Response {
+        match read_command(alloc, line) {
+            Ok(command) => self.answer_command(alloc, command, out),
+            Err(ParseError::Malformed) => Response::Short(bad_line()),
+            Err(ParseError::Memory) => Response::NoMemory,
+        }
+    }
+
+    ghost may_lack_memory = { λ now line. inl (refl, refl) };
+}

@@ -1,0 +1,20 @@
+-- What the answer of a scan stands for.
+use Rattle.std.specs.Prelude.{◌≡◌, map, All}
+use Rattle.vortex_model.specs.Scan as model
+use Rattle.vortex_dtype_core.specs.View.{type_of}
+use Rattle.vortex_scalar_core.specs.Scalar.{scalar_type, scalar_content}
+use Rattle.vortex_table_schema.specs.declared.answer.ScanAnswer.{ScanAnswer}
+
+abbrev pub answer_of : ScanAnswer → model.ScanAnswer
+answer_of a = record {
+  rows = map scalar_content a.rows.items;
+  kind = type_of a.dtype;
+  skipped = a.skipped.items;
+  whole = a.whole.items;
+  rows_tested = a.rows_tested;
+  proofs = a.proofs;
+}
+
+-- each row is of the answer's type
+abbrev pub IsTyped : ScanAnswer → Type 0
+IsTyped a = All (λ row. scalar_type row ≡ type_of a.dtype) a.rows.items

@@ -1,7 +1,0 @@
-pub mod Compared
-pub mod Equal
-pub mod Forms
-pub mod Laws
-pub mod Numeric
-pub mod Ordered
-pub mod Views

@@ -1,0 +1,635 @@
+#!/usr/bin/env python3
+"""A plain, slow colscan: the definitions as directly as they can be run, with nothing kept of a chunk but its rows.
+
+reference.py                      answers the lines of standard input
+reference.py --random N FOLDER    writes N random sessions and their answers to FOLDER, as NAME and NAME.stdout, for `rt try --cases`
+"""
+import json
+import os
+import random
+import sys
+
+RANGES = {
+    "u8": (0, 2**8 - 1), "u16": (0, 2**16 - 1), "u32": (0, 2**32 - 1), "u64": (0, 2**64 - 1),
+    "i8": (-2**7, 2**7 - 1), "i16": (-2**15, 2**15 - 1), "i32": (-2**31, 2**31 - 1), "i64": (-2**63, 2**63 - 1),
+}
+# The kinds of leaves: integers, and these.
+PLAIN = ("bool", "utf8", "binary")
+DIGITS = "0123456789abcdefABCDEF"
+NAMES = {
+    2: "NotARecord", 3: "UnkeptType", 4: "RepeatedName", 5: "InvalidValue", 6: "NotConvertible", 9: "UnknownPath", 10: "ElementStep",
+    12: "UnknownColumn", 13: "NotALeaf", 14: "UnequalTypes", 15: "NotBoolean", 18: "BadLine", 19: "NoTable",
+}
+TESTS = {
+    "=": lambda x, y: x == y, "!=": lambda x, y: x != y, ">": lambda x, y: x > y,
+    ">=": lambda x, y: x >= y, "<": lambda x, y: x < y, "<=": lambda x, y: x <= y,
+}
+
+
+class Refused(Exception):
+    def __init__(self, number, at=None):
+        self.number, self.at = number, at
+
+
+def bad():
+    raise Refused(18)
+
+
+def need(fact):
+    if not fact:
+        bad()
+
+
+# ---- reading
+
+def whole(text):
+    """A number that JSON's reader keeps as a 64-bit whole number; anything else is kept as a float."""
+    number = int(text)
+    return number if -2**63 <= number < 2**64 and text != "-0" else float(number)
+
+
+def depth(value):
+    if isinstance(value, list):
+        return 1 + max(map(depth, value), default=0)
+    if isinstance(value, dict):
+        return 1 + max(map(depth, value.values()), default=0)
+    return 0
+
+
+def no_float(value):
+    if isinstance(value, list):
+        return all(map(no_float, value))
+    if isinstance(value, dict):
+        return all(map(no_float, value.values()))
+    return not isinstance(value, float)
+
+
+def read_line(line):
+    try:
+        value = json.loads(line.decode("utf-8"), parse_int=whole, parse_constant=lambda _: bad())
+        # An escape of half a character is no text.
+        json.dumps(value, ensure_ascii=False).encode("utf-8")
+    except (ValueError, RecursionError):
+        bad()
+    need(depth(value) <= 127 and no_float(value))
+    return value
+
+
+def keys(value, needed, free=()):
+    need(isinstance(value, dict) and set(needed) <= set(value) <= set(needed) | set(free))
+
+
+# The keys of their own that kinds of types have beside `kind`, and those that may be missing.
+OWN = {
+    "decimal": ["precision", "scale"], "fixed_size_list": ["size"], "map": ["sorted"], "struct": ["names"], "union": ["names", "tags"],
+    "extension": ["id"],
+}
+FREE = {"extension": ["metadata"]}
+CHILDREN = {"list": 1, "fixed_size_list": 1, "map": 2, "extension": 1}
+CHILDLESS = {*RANGES, "f16", "f32", "f64", "null", "bool", "utf8", "binary", "variant", "decimal"}
+
+
+def is_between(value, low, high):
+    return is_number(value) and low <= value <= high
+
+
+def are_texts(values):
+    return isinstance(values, list) and all(isinstance(value, str) for value in values)
+
+
+def read_type(value):
+    """A type as its kind, the fields of a record, and whether null is a value."""
+    need(isinstance(value, dict) and isinstance(value.get("kind"), str))
+    kind = value["kind"]
+    keys(value, ["kind", *OWN.get(kind, [])], ["nullable", "children", *FREE.get(kind, [])])
+    nullable = value.get("nullable", False)
+    need(isinstance(nullable, bool) and isinstance(value.get("children", []), list))
+    children = [read_type(child) for child in value.get("children", [])]
+    if kind == "struct":
+        need(are_texts(value["names"]) and len(value["names"]) == len(children))
+        return (kind, list(zip(value["names"], children)), nullable)
+    if kind == "union":
+        tags = value["tags"]
+        need(are_texts(value["names"]) and isinstance(tags, list) and len(value["names"]) == len(tags) == len(children))
+        need(all(is_between(tag, -128, 127) for tag in tags) and len(set(tags)) == len(tags))
+        return (kind, None, nullable)
+    need(kind in CHILDLESS or kind in CHILDREN)
+    need(len(children) == CHILDREN.get(kind, 0))
+    if kind == "null":
+        need(nullable)
+    if kind == "decimal":
+        need(is_between(value["precision"], 1, 76) and is_between(value["scale"], -76, 76))
+    if kind == "fixed_size_list":
+        need(is_between(value["size"], 0, 2**32 - 1))
+    if kind == "map":
+        need(isinstance(value["sorted"], bool) and not children[0][2])
+    if kind == "extension":
+        metadata = value.get("metadata", "")
+        need(isinstance(value["id"], str) and are_digits(metadata) and nullable == children[0][2])
+    return (kind, None, nullable)
+
+
+def is_number(value):
+    return isinstance(value, int) and not isinstance(value, bool)
+
+
+def are_digits(value):
+    """Whether a JSON value is a text of hexadecimal digits, two a byte."""
+    return isinstance(value, str) and len(value) % 2 == 0 and all(digit in DIGITS for digit in value)
+
+
+class Unreadable(Exception):
+    pass
+
+
+def reading(value, dtype):
+    """What a JSON value says at the type: null, a truth value, a number, a text as str, bytes as bytes, or a list."""
+    kind, fields, _ = dtype
+    if value is None:
+        return None
+    if kind == "struct" and isinstance(value, list) and len(value) == len(fields):
+        return [reading(v, f[1]) for v, f in zip(value, fields)]
+    if kind == "bool" and isinstance(value, bool) or kind == "utf8" and isinstance(value, str):
+        return value
+    if kind == "binary" and are_digits(value):
+        return bytes.fromhex(value)
+    if kind in RANGES and is_between(value, *RANGES[kind]):
+        return value
+    raise Unreadable
+
+
+def row_reading(value, dtype):
+    """A row that says nothing is null, which no record at the root is."""
+    try:
+        return reading(value, dtype)
+    except Unreadable:
+        return None
+
+
+def is_content(content, dtype):
+    """Whether what was read is a value of the type."""
+    kind, fields, nullable = dtype
+    if content is None:
+        return nullable
+    if kind == "struct":
+        return isinstance(content, list) and len(content) == len(fields) and all(is_content(c, f[1]) for c, f in zip(content, fields))
+    if kind in PLAIN:
+        return isinstance(content, {"bool": bool, "utf8": str, "binary": bytes}[kind])
+    return kind in RANGES and is_between(content, *RANGES[kind])
+
+
+def read_path(value):
+    need(isinstance(value, list) and all(step is None or isinstance(step, str) for step in value))
+    return value
+
+
+def read_operand(value):
+    need(isinstance(value, list) and value)
+    if value[0] == "col":
+        need(all(isinstance(name, str) for name in value[1:]))
+        return ("col", value[1:])
+    need(value[0] == "lit" and len(value) == 3)
+    dtype = read_type(value[1])
+    need(dtype[0] in RANGES or dtype[0] in PLAIN)
+    try:
+        content = reading(value[2], dtype)
+    except Unreadable:
+        bad()
+    need(is_content(content, dtype))
+    return ("lit", dtype, content)
+
+
+def read_predicate(value):
+    need(isinstance(value, list) and value and isinstance(value[0], str))
+    if value[0] in TESTS:
+        need(len(value) == 3)
+        return (value[0], read_operand(value[1]), read_operand(value[2]))
+    operand = read_operand(value)
+    # A root that is a literal truth value comes with the other predicates.
+    need(operand[0] == "col" or operand[1][0] != "bool")
+    return operand
+
+
+def read_command(line):
+    value = read_line(line)
+    need(isinstance(value, dict))
+    if value.get("cmd") == "create":
+        keys(value, ["cmd", "dtype", "length"])
+        need(is_number(value["length"]) and value["length"] >= 0)
+        return ("create", read_type(value["dtype"]), value["length"])
+    if value.get("cmd") == "append":
+        keys(value, ["cmd", "dtype", "rows"], ["layouts"])
+        layouts = value.get("layouts", [])
+        need(isinstance(layouts, list) and all(name in ("plain", "dictionary", "constant") for name in layouts))
+        need(isinstance(value["rows"], list))
+        dtype = read_type(value["dtype"])
+        return ("append", dtype, [row_reading(row, dtype) for row in value["rows"]])
+    need(value.get("cmd") == "scan")
+    keys(value, ["cmd", "paths", "where"])
+    need(isinstance(value["paths"], list))
+    return ("scan", list(map(read_path, value["paths"])), read_predicate(value["where"]))
+
+
+# ---- the table: a type, a bound length and a list of chunks, each a list of rows
+
+def check_part(dtype):
+    """A record's names go before its parts, and these from left to right."""
+    kind, fields, _ = dtype
+    if kind != "struct" and kind not in RANGES and kind not in PLAIN:
+        raise Refused(3)
+    if kind == "struct":
+        if len({name for name, _ in fields}) != len(fields):
+            raise Refused(4)
+        for _, part in fields:
+            check_part(part)
+
+
+def check_type(dtype):
+    kind, _, nullable = dtype
+    if kind != "struct" or nullable:
+        raise Refused(2)
+    check_part(dtype)
+
+
+def append(table, dtype, rows):
+    check_type(dtype)
+    for i, row in enumerate(rows):
+        if not is_content(row, dtype):
+            raise Refused(5, i)
+    for i, row in enumerate(rows):
+        if not is_content(row, table["dtype"]):
+            raise Refused(6, i)
+    if rows:
+        table["chunks"].append(rows)
+
+
+def check_path(dtype, path, at):
+    for step in path:
+        if step is None:
+            raise Refused(10, at)
+        parts = [part for name, part in dtype[1] or [] if name == step]
+        if not parts:
+            raise Refused(9, at)
+        dtype = parts[0]
+
+
+def operand_type(dtype, operand):
+    if operand[0] == "lit":
+        return operand[1][0]
+    for name in operand[1]:
+        parts = [part for other, part in dtype[1] or [] if other == name]
+        if not parts:
+            raise Refused(12)
+        dtype = parts[0]
+    if dtype[0] == "struct":
+        raise Refused(13)
+    return dtype[0]
+
+
+def check_predicate(dtype, predicate):
+    if predicate[0] not in TESTS:
+        if operand_type(dtype, predicate) != "bool":
+            raise Refused(15)
+    elif operand_type(dtype, predicate[1]) != operand_type(dtype, predicate[2]):
+        raise Refused(14)
+
+
+def operand_value(dtype, operand, row):
+    """A column's value is null where a record on the way is null."""
+    if operand[0] == "lit":
+        return operand[2]
+    for name in operand[1]:
+        if row is None:
+            return None
+        place = [other for other, _ in dtype[1]].index(name)
+        row, dtype = row[place], dtype[1][place][1]
+    return row
+
+
+def in_order(value):
+    """What stands for a value in comparisons: texts stand as their UTF-8."""
+    return value.encode("utf-8") if isinstance(value, str) else value
+
+
+def higher(character):
+    """The least higher character of as many bytes of UTF-8, if there is one."""
+    code = 0xE000 if character == "\ud7ff" else ord(character) + 1
+    if code < 0x110000 and len(chr(code).encode("utf-8")) == len(character.encode("utf-8")):
+        return chr(code)
+    return None
+
+
+def low(value, length):
+    """The longest beginning of at most so many bytes, of a text of whole characters."""
+    if isinstance(value, bytes):
+        return value[:length]
+    if isinstance(value, str):
+        return value.encode("utf-8")[:length].decode("utf-8", "ignore")
+    return value
+
+
+def high(value, length):
+    """The value where it is short; else the least such string of bytes above it, or its low as a text raised at the latest character that can be. None: there is
+    no bound."""
+    if not isinstance(value, (bytes, str)) or len(in_order(value)) <= length:
+        return value
+    begin = low(value, length)
+    if isinstance(value, bytes):
+        number = int.from_bytes(begin, "big") + 1
+        return number.to_bytes(length, "big") if number < 256**length else None
+    for place in reversed(range(len(begin))):
+        if higher(begin[place]):
+            return begin[:place] + higher(begin[place])
+    return None
+
+
+def bounds_of(operand, values, length):
+    """What is known of an operand's values: the low of the least and the high of the greatest that isn't null. A literal is its own."""
+    values = [value for value in values if value is not None]
+    if not values:
+        return (None, None)
+    if operand[0] == "lit":
+        return (operand[2], operand[2])
+    return (low(min(values, key=in_order), length), high(max(values, key=in_order), length))
+
+
+def is_hopeless(dtype, predicate, chunk, length):
+    """Whether the bounds of the two sides alone tell that no row satisfies the comparison. One with a bound that isn't there tells nothing, and of a truth value there
+    is no proof."""
+    if predicate[0] not in TESTS:
+        return False
+    sides = [bounds_of(operand, [operand_value(dtype, operand, row) for row in chunk], length) for operand in predicate[1:]]
+    (a, b), (c, d) = sides
+    tells = lambda op, x, y: x is not None and y is not None and TESTS[op](in_order(x), in_order(y))
+    return {
+        "=": tells(">", a, d) or tells(">", c, b), "!=": tells("=", a, d) and tells("=", b, c), ">": tells("<=", b, c), ">=": tells("<", b, c),
+        "<": tells(">=", a, d), "<=": tells(">", a, d),
+    }[predicate[0]]
+
+
+def is_selected(dtype, predicate, row):
+    """A comparison with null is neither true nor false."""
+    if predicate[0] not in TESTS:
+        return operand_value(dtype, predicate, row) is True
+    x, y = (operand_value(dtype, operand, row) for operand in predicate[1:])
+    return x is not None and y is not None and TESTS[predicate[0]](in_order(x), in_order(y))
+
+
+def is_kept(paths, here):
+    """Whether one of the paths begins this one, or this one a path."""
+    return any(path[:len(here)] == here[:len(path)] for path in paths)
+
+
+def cut_type(dtype, paths, here):
+    kind, fields, nullable = dtype
+    if kind != "struct":
+        return dtype
+    return (kind, [(name, cut_type(part, paths, here + [name])) for name, part in fields if is_kept(paths, here + [name])], nullable)
+
+
+def cut_row(dtype, row, paths, here):
+    if dtype[0] != "struct" or row is None:
+        return row
+    return [cut_row(part, value, paths, here + [name]) for (name, part), value in zip(dtype[1], row) if is_kept(paths, here + [name])]
+
+
+def scan(table, paths, predicate):
+    dtype = table["dtype"]
+    for at, path in enumerate(paths):
+        check_path(dtype, path, at)
+    check_predicate(dtype, predicate)
+    rows, skipped, tested = [], [], 0
+    for number, chunk in enumerate(table["chunks"]):
+        if is_hopeless(dtype, predicate, chunk, table["length"]):
+            skipped.append(number)
+        else:
+            tested += len(chunk)
+        for row in chunk:
+            if is_selected(dtype, predicate, row):
+                rows.append(row_json(cut_row(dtype, row, paths, [])))
+    return {
+        "dtype": type_json(cut_type(dtype, paths, [])), "ok": True, "proofs": len(table["chunks"]) if predicate[0] in TESTS else 0, "rows": rows,
+        "rows_tested": tested, "skipped": skipped, "whole": [],
+    }
+
+
+def type_json(dtype):
+    kind, fields, nullable = dtype
+    if kind != "struct":
+        return {"kind": kind, "nullable": nullable}
+    return {"children": [type_json(part) for _, part in fields], "kind": kind, "names": [name for name, _ in fields], "nullable": nullable}
+
+
+def row_json(content):
+    """Bytes are a text of hexadecimal digits, in lower case."""
+    if isinstance(content, list):
+        return [row_json(value) for value in content]
+    return content.hex() if isinstance(content, bytes) else content
+
+
+def compact(value):
+    return json.dumps(value, separators=(",", ":"), ensure_ascii=False)
+
+
+class Session:
+    def __init__(self):
+        self.table = None
+
+    def answer(self, line):
+        try:
+            command = read_command(line)
+            if command[0] == "create":
+                check_type(command[1])
+                self.table = {"dtype": command[1], "length": command[2], "chunks": []}
+                return compact({"ok": True})
+            if self.table is None:
+                raise Refused(19)
+            if command[0] == "append":
+                append(self.table, *command[1:])
+                return compact({"ok": True})
+            return compact(scan(self.table, *command[1:]))
+        except Refused as refused:
+            place = {} if refused.at is None else {"at": refused.at}
+            return compact({**place, "error": refused.number, "name": NAMES[refused.number]})
+
+
+def answers(data):
+    session = Session()
+    lines = data.split(b"\n")
+    if lines[-1] == b"":
+        lines.pop()
+    return "".join(session.answer(line) + "\n" for line in lines).encode()
+
+
+# ---- random sessions
+
+def random_kind(chance):
+    kinds = list(RANGES) if chance.random() < 0.4 else PLAIN
+    return {"kind": chance.choice(kinds), **({"nullable": chance.random() < 0.5} if chance.random() < 0.7 else {})}
+
+
+def random_record(chance, width, depth):
+    names = chance.sample(["a", "b", "c", "\u00e9", "d\"e"], width)
+    if width > 1 and chance.random() < 0.02:
+        names[1] = names[0]
+    inner = lambda: random_kind(chance)
+    if depth:
+        inner = lambda: random_record(chance, chance.choice([0, 1, 1, 2, 2, 3]), depth - 1) if chance.random() < 0.4 else random_kind(chance)
+    dtype = {"kind": "struct", "names": names, "children": [inner() for _ in names]}
+    if chance.random() < 0.5:
+        dtype["nullable"] = True
+    return dtype
+
+
+def other_kind(chance):
+    """A type that tables don't hold, or none at all."""
+    child = random_kind(chance)
+    dtype = chance.choice([
+        {"kind": "null", "nullable": True}, {"kind": "null"}, {"kind": "variant"}, {"kind": "f32", "nullable": True},
+        {"kind": "f64"}, {"kind": "decimal", "precision": chance.randint(0, 77), "scale": chance.choice([-76, 0, 76, 77])},
+        {"kind": "list", "children": [child]}, {"kind": "list"}, {"kind": "fixed_size_list", "size": 2, "children": [child]},
+        {"kind": "map", "sorted": False, "children": [child, child]}, {"kind": "union", "names": ["a", "b"], "tags": [0, chance.randint(0, 1)], "children": [child, child]},
+        {"kind": "extension", "id": "x", "children": [child]},
+        {"kind": "extension", "id": "x", "metadata": chance.choice(["", "0aFF", "0"]), "nullable": child.get("nullable", False), "children": [child]},
+    ])
+    return {**dtype, **({"more": 0} if chance.random() < 0.05 else {})}
+
+
+def random_type(chance, width):
+    dtype = random_record(chance, width, chance.choice([0, 1, 2, 3]))
+    if chance.random() < 0.98:
+        dtype.pop("nullable", None)
+    if dtype["children"] and chance.random() < 0.1:
+        dtype["children"][-1] = other_kind(chance)
+    return dtype
+
+
+def alike(chance, dtype):
+    """The same records, of other names, kinds and nullability; mostly so that rows can be converted."""
+    if dtype["kind"] in PLAIN:
+        return {**dtype, "nullable": not dtype.get("nullable")} if chance.random() < 0.1 else random_kind(chance) if chance.random() < 0.05 else dtype
+    if dtype["kind"] not in RANGES and dtype["kind"] != "struct":
+        return dtype
+    if dtype["kind"] != "struct":
+        return {"kind": chance.choice(list(RANGES)), "nullable": True} if chance.random() < 0.3 else dtype
+    names = chance.sample(["a", "b", "c", "\u00e9", "d\"e"], len(dtype["names"]))
+    other = {"kind": "struct", "names": names, "children": [alike(chance, child) for child in dtype["children"]]}
+    if dtype.get("nullable") or chance.random() < 0.05:
+        other["nullable"] = True
+    return other
+
+
+def random_number(chance, kind):
+    low, high = RANGES.get(kind, (0, 0))
+    if chance.random() < 0.15:
+        return chance.choice([low, high, low + 1, high - 1])
+    number = chance.randint(-3, 9)
+    return number if low <= number <= high or chance.random() < 0.005 else 0
+
+
+# Of each length the least and the greatest character, the neighbours of those that are no characters, and some plain ones; those that JSON escapes too.
+LETTERS = ["a", "b", "a", "b", "\x7f", "\x80", "\u07ff", "\u0800", "\ud7ff", "\ue000", "\uffff", "\U00010000", "\U0010ffff", "\U0001faa9", "\x00", "\n", "\"", "\\", "/"]
+
+
+def random_text(chance):
+    return "".join(chance.choice(LETTERS) for _ in range(chance.choice([0, 1, 1, 2, 2, 3, 4, 7, 20])))
+
+
+def random_bytes(chance):
+    data = bytes(chance.choice([0, 1, 0x61, 0x7f, 0x80, 0xfe, 0xff, 0xff]) for _ in range(chance.choice([0, 1, 1, 2, 2, 3, 4, 7, 20])))
+    digits = data.hex() if chance.random() < 0.8 else data.hex().upper()
+    return digits + chance.choice(["0", "g0", "\u00e9", " "]) if chance.random() < 0.005 else digits
+
+
+def random_leaf(chance, kind):
+    if kind == "bool":
+        return chance.random() < 0.5
+    if kind == "utf8":
+        return random_text(chance)
+    return random_bytes(chance) if kind == "binary" else random_number(chance, kind)
+
+
+def random_value(chance, dtype):
+    if dtype.get("nullable") and chance.random() < 0.2:
+        return None
+    if dtype["kind"] != "struct":
+        return random_leaf(chance, dtype["kind"]) if chance.random() < 0.998 else chance.choice([True, 0, "", "x", "00", [], {}])
+    value = [random_value(chance, child) for child in dtype["children"]]
+    if chance.random() < 0.003:
+        value = chance.choice([None, [], {}, "x", 0, value + [0], [[0]] * len(value)])
+    return value
+
+
+def random_rows(chance, dtype):
+    dtype = {**dtype, "nullable": chance.random() < 0.01}
+    return [random_value(chance, dtype) for _ in range(chance.choice([0, 1, 1, 2, 3, 5, 12]))]
+
+
+def parts_of(dtype, here):
+    """Each part of a type with its path, from the root."""
+    parts = [(here, dtype)]
+    for name, child in zip(dtype.get("names", []), dtype.get("children", [])):
+        parts += parts_of(child, here + [name])
+    return parts
+
+
+def random_operand(chance, columns, kinds):
+    if chance.random() < 0.55 and columns:
+        column = chance.choice(columns)
+        return ["col"] + (column if chance.random() < 0.97 else chance.choice([[], ["zz"], column[:-1], column + column]))
+    kind = chance.choice(kinds) if kinds and chance.random() < 0.95 else "u16"
+    dtype = {"kind": kind, "nullable": chance.random() < 0.2}
+    return ["lit", dtype, None if dtype["nullable"] and chance.random() < 0.3 else random_leaf(chance, kind)]
+
+
+def random_scan(chance, dtype):
+    leaves = [(path, part["kind"]) for path, part in parts_of(dtype, []) if part["kind"] != "struct"]
+    columns, kinds = [path for path, _ in leaves], [kind for _, kind in leaves]
+    if leaves and chance.random() < 0.8:
+        # One kind for both sides, so that most scans are accepted.
+        kind = chance.choice(kinds)
+        columns = [path for path, other in leaves if other == kind]
+        kinds = [kind]
+    where = [chance.choice(list(TESTS)), random_operand(chance, columns, kinds), random_operand(chance, columns, kinds)]
+    if chance.random() < 0.03:
+        where = where[1]
+    paths = [path for path, _ in parts_of(dtype, [])]
+    paths = chance.sample(paths, min(len(paths), chance.choice([0, 1, 1, 2, 2, 3, 4, 9])))
+    if chance.random() < 0.7 and [] in paths:
+        paths.remove([])
+    if chance.random() < 0.05:
+        paths.append(chance.choice([["zz"], [None], ["a", None], ["a", "a"], ["b", "c", "zz"]]))
+    return {"cmd": "scan", "paths": paths, "where": where}
+
+
+def random_session(chance):
+    dtype, lines = {"kind": "struct", "names": [], "children": []}, []
+    for _ in range(chance.randint(5, 40)):
+        roll = chance.random()
+        if roll < 0.08 or not lines:
+            dtype = random_type(chance, chance.randint(0, 4))
+            lines.append({"cmd": "create", "dtype": dtype, "length": chance.choice([0, 1, 2, 3, 4, 5, 16, 2**64 - 1])})
+        elif roll < 0.5:
+            batch = dtype if chance.random() < 0.6 else alike(chance, dtype)
+            if chance.random() < 0.05:
+                batch = random_type(chance, len(dtype["names"]))
+            lines.append({"cmd": "append", "dtype": batch, "rows": random_rows(chance, batch)})
+        else:
+            lines.append(random_scan(chance, dtype))
+    return "".join(json.dumps(line, ensure_ascii=chance.random() < 0.5) + "\n" for line in lines).encode()
+
+
+def main():
+    if len(sys.argv) == 4 and sys.argv[1] == "--random":
+        for number in range(int(sys.argv[2])):
+            data = random_session(random.Random(number))
+            with open(os.path.join(sys.argv[3], "random%03d" % number), "wb") as file:
+                file.write(data)
+            with open(os.path.join(sys.argv[3], "random%03d.stdout" % number), "wb") as file:
+                file.write(answers(data))
+    else:
+        sys.stdout.buffer.write(answers(sys.stdin.buffer.read()))
+
+
+if __name__ == "__main__":
+    main()

@@ -1,0 +1,72 @@
+#!/usr/bin/env python3
+"""Holds crates.txt to the members of the repository, and crates to their size.
+
+edges.py    at any place; it reads crates.txt and the src of each crate
+
+The members stand one on another in this order: vortex_model, vortex_dtype, vortex_scalar,
+vortex_arrays, vortex_stats, vortex_table, and the program colscan. A crate belongs to the member
+whose name it has or begins with. A crate uses crates of its own member and of those below it. The
+crate that has just the name of a member, but for vortex_model, is the member's door: it gathers
+the member's items, has no function, and no crate names it.
+No crate is longer than it can well be proved. Each line that offends is printed; the last line
+counts, and the status is 1 if there is one.
+"""
+import re
+import sys
+
+sys.dont_write_bytecode = True
+import sources
+
+MOST_LINES = 1600
+MOST_FUNCTIONS = 110
+FUNCTION = re.compile(r"\bfn\s+\w+")
+# Also of a macro, whose functions are named by what it is given.
+ANY_FUNCTION = re.compile(r"\bfn\s+[\w$]+")
+
+
+def code_of(crate):
+    """The code of each of the crate's files, by name."""
+    return {it: sources.blanked(sources.read(crate, it)) for it in sources.source_files(crate)}
+
+
+def faults_of_edges(crate, uses):
+    """What is wrong with the crate's line of crates.txt."""
+    own = sources.member_of(crate)
+    if own is None:
+        yield "%s: its name begins with that of no member" % crate
+    for other in uses:
+        below = sources.member_of(other)
+        if other in sources.DOORS:
+            yield "%s: %s: a crate names the crates of a member, and not its door" % (crate, other)
+        if own and below and sources.MEMBERS.index(below) > sources.MEMBERS.index(own):
+            yield "%s: %s: %s stands below %s, and may not use it" % (crate, other, own, below)
+
+
+def faults_of_source(crate):
+    """What is wrong with the crate's src."""
+    code = code_of(crate)
+    lines = sum(text.count("\n") for text in code.values())
+    functions = sum(len(FUNCTION.findall(text)) for text in code.values())
+    if lines > MOST_LINES:
+        yield "%s: %d lines of src, and %d is the most" % (crate, lines, MOST_LINES)
+    if functions > MOST_FUNCTIONS:
+        yield "%s: %d functions, and %d is the most" % (crate, functions, MOST_FUNCTIONS)
+    for file, text in code.items() if crate in sources.DOORS else ():
+        for found in ANY_FUNCTION.finditer(text):
+            at = "crates/%s/src/%s:%d" % (crate, file, sources.line_at(text, found.start()))
+            yield "%s: %s: a door has no function" % (at, found[0])
+
+
+def main():
+    faults, listed = [], sources.crates()
+    for crate, uses in listed.items():
+        uses = [it for it in uses if it in listed]
+        faults += [*faults_of_edges(crate, uses), *faults_of_source(crate)]
+    for fault in faults:
+        print("edges: " + fault)
+    print("edges: %d crates, %d lines that offend" % (len(listed), len(faults)))
+    return 1 if faults else 0
+
+
+if __name__ == "__main__":
+    sys.exit(main())

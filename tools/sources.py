@@ -1,0 +1,76 @@
+"""What the tools share: the crates of crates.txt, and the text of .rt files without comments.
+
+It is imported by edges.py, items.py and false_memory.py, and is not called by itself.
+"""
+import os
+import re
+
+TOP = os.path.dirname(os.path.dirname(os.path.abspath(__file__)))
+# The members of the repository, lowest first, and the program on top of them.
+MEMBERS = (
+    "vortex_model",
+    "vortex_dtype",
+    "vortex_scalar",
+    "vortex_arrays",
+    "vortex_stats",
+    "vortex_table",
+    "colscan",
+)
+# The crates that only gather the items of their member.
+DOORS = MEMBERS[1:-1]
+# Comments, texts and characters of Rust. A life time as 'a is no character.
+NOT_CODE = re.compile(
+    r"""//[^\n]*|/\*.*?\*/|[bc]?r(#*)".*?"\1|[bc]?"(?:[^"\\]|\\.)*"|b?'(?:[^'\\\n]|\\[^\n]+?)'""",
+    re.S,
+)
+
+
+def crates():
+    """What each crate of crates.txt uses, by name, in the order of the file."""
+    with open(os.path.join(TOP, "crates.txt"), encoding="utf-8") as file:
+        rows = [line.partition("#")[0].partition(":") for line in file]
+    return {name.split()[0]: uses.split() for name, _, uses in rows if name.split()}
+
+
+def member_of(crate):
+    """The member whose name the crate has, or has with a `_` behind it, or None."""
+    return next((it for it in MEMBERS if crate == it or crate.startswith(it + "_")), None)
+
+
+def source_folder(crate):
+    return os.path.join(TOP, "crates", crate, "src")
+
+
+def source_files(crate):
+    """The paths of the crate's .rt files below its src, in order."""
+    top, found = source_folder(crate), []
+    for at, folders, names in os.walk(top):
+        folders.sort()
+        found += [os.path.join(at, it) for it in sorted(names) if it.endswith(".rt")]
+    return sorted(os.path.relpath(it, top) for it in found)
+
+
+def read(crate, file):
+    with open(os.path.join(source_folder(crate), file), encoding="utf-8") as it:
+        return it.read()
+
+
+def blanked(text):
+    """The text with spaces in place of comments, texts and characters, each line as long as it was.
+    """
+    blank = lambda found: re.sub(r"[^\n]", " ", found[0])
+    return NOT_CODE.sub(blank, text)
+
+
+def line_at(text, at):
+    return text.count("\n", 0, at) + 1
+
+
+def end_of_group(text, at):
+    """The place behind the bracket that closes the one at this place, in blanked text."""
+    depth = 0
+    for place in range(at, len(text)):
+        depth += (text[place] in "([{") - (text[place] in ")]}")
+        if depth == 0:
+            return place + 1
+    return len(text)
