@@ -9,7 +9,7 @@ ghost use Rattle.vortex_scalar_value.specs.View.{raw_in};
 
 use crate::paths::read_paths;
 use crate::predicates::read_predicate;
-use crate::{ParseError, is_whole, present_members, parse, read_dtype, read_rows, size};
+use crate::{ParseError, is_whole, parse, present_members, read_dtype, read_rows, size};
 use serde_json::Value;
 use std::alloc::Global;
 use vortex_dtype_core::dtype::DType;
