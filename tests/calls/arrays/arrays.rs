@@ -4,16 +4,13 @@ use crate::checks::Checks;
 use bytes::Bytes;
 use std::alloc::Global;
 use std::rc::Rc;
-use vortex_arrays::ArrayError;
-use vortex_arrays::BinaryView;
-use vortex_arrays::BitBuffer;
-use vortex_arrays::Buffer;
+use vortex_arrays::{
+    ArrayError, ArrayLayout, ArrayRef, BinaryView, BitBuffer, Buffer, Element, PrimitiveBuffer,
+    StringKind, Validity,
+};
 use vortex_dtype::{
     DType, DTypeError, FieldName, FieldNames, Nullability, PType, StructField, StructFields,
 };
-use vortex_arrays::{ArrayLayout, ArrayRef, StringKind, Validity};
-use vortex_arrays::Element;
-use vortex_arrays::PrimitiveBuffer;
 use vortex_scalar::{Scalar, ScalarConstructors};
 
 const WITH: Nullability = Nullability::Nullable;
@@ -70,9 +67,15 @@ pub fn strings_of(
 
 fn leaves(alloc: Global, checks: &mut Checks<'_>) -> Result<(), DTypeError> {
     let flags = bools(alloc, &[true, false, true])?;
-    checks.holds("of_bools", *flags.dtype() == DType::Bool(WITHOUT) && flags.len() == 3);
+    checks.holds(
+        "of_bools",
+        *flags.dtype() == DType::Bool(WITHOUT) && flags.len() == 3,
+    );
     let array = numbers(alloc, &[1i32, 2, 3], Validity::Array(flags.clone()?))?;
-    checks.holds("of_numbers", *array.dtype() == DType::Primitive(PType::I32, WITH));
+    checks.holds(
+        "of_numbers",
+        *array.dtype() == DType::Primitive(PType::I32, WITH),
+    );
     checks.holds("len", array.len() == 3 && !array.is_empty());
     checks.holds(
         "layout",
@@ -84,7 +87,10 @@ fn leaves(alloc: Global, checks: &mut Checks<'_>) -> Result<(), DTypeError> {
         },
     );
     let none = numbers(alloc, &[0u64; 0], Validity::AllValid)?;
-    checks.holds("of no numbers", none.is_empty() && none.dtype().is_nullable());
+    checks.holds(
+        "of no numbers",
+        none.is_empty() && none.dtype().is_nullable(),
+    );
     let nulls = numbers(alloc, &[1u8], Validity::AllInvalid.clone()?)?;
     checks.holds("of nulls", nulls.dtype().is_nullable());
     Ok(())
@@ -104,8 +110,17 @@ fn strings(alloc: Global, checks: &mut Checks<'_>) -> Result<(), DTypeError> {
         buffers.clone()?,
         Validity::NonNullable,
     )?;
-    checks.holds("of_strings, texts", *texts.dtype() == DType::Utf8(WITHOUT) && texts.len() == 2);
-    let blobs = ArrayRef::of_strings(alloc, StringKind::Binary, views, buffers, Validity::AllValid)?;
+    checks.holds(
+        "of_strings, texts",
+        *texts.dtype() == DType::Utf8(WITHOUT) && texts.len() == 2,
+    );
+    let blobs = ArrayRef::of_strings(
+        alloc,
+        StringKind::Binary,
+        views,
+        buffers,
+        Validity::AllValid,
+    )?;
     checks.holds("of_strings, bytes", *blobs.dtype() == DType::Binary(WITH));
     checks.holds(
         "values of strings",
@@ -122,14 +137,23 @@ fn strings(alloc: Global, checks: &mut Checks<'_>) -> Result<(), DTypeError> {
 fn named(alloc: Global, checks: &mut Checks<'_>) -> Result<(), DTypeError> {
     let scalar = Scalar::bool(true, WITH);
     let constant = ArrayRef::of_constant(alloc, scalar, 5)?;
-    checks.holds("of_constant", *constant.dtype() == DType::Bool(WITH) && constant.len() == 5);
+    checks.holds(
+        "of_constant",
+        *constant.dtype() == DType::Bool(WITH) && constant.len() == 5,
+    );
     let values = numbers(alloc, &[70i64, 80], Validity::NonNullable)?;
     let codes = numbers(alloc, &[1u8, 0, 1], Validity::NonNullable)?;
     let all = ArrayRef::of_dict(alloc, codes, values.clone()?, true)?;
-    checks.holds("of_dict", *all.dtype() == DType::Primitive(PType::I64, WITHOUT) && all.len() == 3);
+    checks.holds(
+        "of_dict",
+        *all.dtype() == DType::Primitive(PType::I64, WITHOUT) && all.len() == 3,
+    );
     let codes = numbers(alloc, &[1u8, 0, 1], Validity::AllValid)?;
     let all = ArrayRef::of_dict(alloc, codes, values, false)?;
-    checks.holds("of_dict of codes that can be null", *all.dtype() == DType::Primitive(PType::I64, WITH));
+    checks.holds(
+        "of_dict of codes that can be null",
+        *all.dtype() == DType::Primitive(PType::I64, WITH),
+    );
     all.is_sound();
     let copy = all.clone()?;
     checks.holds("clone", copy.len() == 3);
@@ -141,12 +165,25 @@ fn lists(alloc: Global, checks: &mut Checks<'_>) -> Result<(), DTypeError> {
     let elements = numbers(alloc, &[1i32, 2, 3, 4], Validity::NonNullable)?;
     let pairs = ArrayRef::of_fixed_lists(alloc, elements.clone()?, 2, 2, Validity::AllValid)?;
     let wanted = DType::FixedSizeList(Rc::new(alloc, element.clone()?)?, 2, WITH);
-    checks.holds("of_fixed_lists", *pairs.dtype() == wanted && pairs.len() == 2);
+    checks.holds(
+        "of_fixed_lists",
+        *pairs.dtype() == wanted && pairs.len() == 2,
+    );
     let offsets = numbers(alloc, &[0u32, 1], Validity::NonNullable)?;
     let sizes = numbers(alloc, &[3u16, 2], Validity::NonNullable)?;
-    let views = ArrayRef::of_list_views(alloc, elements, offsets, sizes, false, Validity::NonNullable)?;
+    let views = ArrayRef::of_list_views(
+        alloc,
+        elements,
+        offsets,
+        sizes,
+        false,
+        Validity::NonNullable,
+    )?;
     let wanted = DType::List(Rc::new(alloc, element)?, WITHOUT);
-    checks.holds("of_list_views", *views.dtype() == wanted && views.len() == 2);
+    checks.holds(
+        "of_list_views",
+        *views.dtype() == wanted && views.len() == 2,
+    );
     Ok(())
 }
 
@@ -160,16 +197,25 @@ fn records(alloc: Global, checks: &mut Checks<'_>) -> Result<(), DTypeError> {
     fields.push(numbers(alloc, &[1u8, 2], Validity::AllValid)?)?;
     let record = ArrayRef::of_records(alloc, names, fields, 2, Validity::NonNullable)?;
     let mut wanted = Vec::new(alloc);
-    wanted.push(StructField { name: FieldName::new(alloc, "a")?, dtype: DType::Bool(WITHOUT) })?;
+    wanted.push(StructField {
+        name: FieldName::new(alloc, "a")?,
+        dtype: DType::Bool(WITHOUT),
+    })?;
     let dtype = DType::Primitive(PType::U8, WITH);
-    wanted.push(StructField { name: FieldName::new(alloc, "b")?, dtype })?;
+    wanted.push(StructField {
+        name: FieldName::new(alloc, "b")?,
+        dtype,
+    })?;
     let wanted = DType::Struct(StructFields::from_vec(wanted)?, WITHOUT);
     checks.holds("of_records", *record.dtype() == wanted && record.len() == 2);
     Ok(())
 }
 
 fn refusals(checks: &mut Checks<'_>) {
-    checks.holds("Memory", ArrayError::Memory.number() == 1 && ArrayError::Memory.name() == "Memory");
+    checks.holds(
+        "Memory",
+        ArrayError::Memory.number() == 1 && ArrayError::Memory.name() == "Memory",
+    );
     checks.holds("OutOfRange", ArrayError::OutOfRange.number() == 2);
     checks.holds("WrongType", ArrayError::WrongType.number() == 13);
     checks.holds("NotUtf8", ArrayError::NotUtf8.name() == "NotUtf8");

@@ -2,11 +2,8 @@
 
 use crate::checks::Checks;
 use std::alloc::Global;
-use vortex_arrays::BitBuffer;
-use vortex_arrays::Buffer;
+use vortex_arrays::{BitBuffer, Buffer, Element, PrimitiveBuffer};
 use vortex_dtype::{DTypeError, PType};
-use vortex_arrays::Element;
-use vortex_arrays::PrimitiveBuffer;
 
 pub fn run(alloc: Global, checks: &mut Checks<'_>) -> Result<(), DTypeError> {
     items(alloc, checks)?;
@@ -27,7 +24,10 @@ fn items(alloc: Global, checks: &mut Checks<'_>) -> Result<(), DTypeError> {
         list.push(item)?;
     }
     let buffer = Buffer::from_vec(list)?;
-    checks.holds("from_vec", buffer.len() == 10 && !buffer.is_empty() && buffer.get(9) == 9);
+    checks.holds(
+        "from_vec",
+        buffer.len() == 10 && !buffer.is_empty() && buffer.get(9) == 9,
+    );
     let part = buffer.slice(2..7)?;
     checks.holds("slice", part.as_slice() == [2, 3, 4, 5, 6].as_slice());
     let less = part.slice(1..3)?;
@@ -35,7 +35,10 @@ fn items(alloc: Global, checks: &mut Checks<'_>) -> Result<(), DTypeError> {
     let none = less.slice(2..2)?;
     checks.holds("slice of none", none.is_empty());
     let copy = less.clone()?;
-    checks.holds("clone", copy.as_slice() == [3, 4].as_slice() && less.get(1) == 4);
+    checks.holds(
+        "clone",
+        copy.as_slice() == [3, 4].as_slice() && less.get(1) == 4,
+    );
     let empty: Buffer<u32> = Buffer::empty(alloc)?;
     checks.holds("empty", empty.is_empty());
     Ok(())
@@ -55,8 +58,18 @@ fn bits(alloc: Global, checks: &mut Checks<'_>) -> Result<(), DTypeError> {
     let less = part.slice(4..9)?;
     are(checks, "slice of a slice of bits", &less, &wanted[7..12]);
     are(checks, "clone of bits", &less.clone()?, &wanted[7..12]);
-    are(checks, "new_set", &BitBuffer::new_set(alloc, 9)?, &[true; 9]);
-    are(checks, "new_unset", &BitBuffer::new_unset(alloc, 9)?, &[false; 9]);
+    are(
+        checks,
+        "new_set",
+        &BitBuffer::new_set(alloc, 9)?,
+        &[true; 9],
+    );
+    are(
+        checks,
+        "new_unset",
+        &BitBuffer::new_unset(alloc, 9)?,
+        &[false; 9],
+    );
     checks.holds("no bits", BitBuffer::new_set(alloc, 0)?.is_empty());
     Ok(())
 }
@@ -81,14 +94,27 @@ fn of_kind<T: Element>(
     }
     let numbers = PrimitiveBuffer::from_buffer(Buffer::from_vec(list)?);
     numbers.is_in_range();
-    checks.holds(name, numbers.ptype() == ptype && numbers.len() == 3 && !numbers.is_empty());
+    checks.holds(
+        name,
+        numbers.ptype() == ptype && numbers.len() == 3 && !numbers.is_empty(),
+    );
     let part = numbers.slice(1..3)?.clone()?;
     checks.holds(name, part.len() == 2);
     for i in 0..3 {
-        checks.holds_at(name, i, numbers.get(i) == items[i].get() && numbers.value(i).get() == items[i].get());
+        checks.holds_at(
+            name,
+            i,
+            numbers.get(i) == items[i].get() && numbers.value(i).get() == items[i].get(),
+        );
         checks.holds_at(name, i, i == 0 || part.get(i - 1) == items[i].get());
     }
-    checks.holds(name, numbers.as_slice::<T>().is_some_and(|all| all.len() == 3));
-    checks.holds(name, numbers.as_slice::<u8>().is_some() == (ptype == PType::U8));
+    checks.holds(
+        name,
+        numbers.as_slice::<T>().is_some_and(|all| all.len() == 3),
+    );
+    checks.holds(
+        name,
+        numbers.as_slice::<u8>().is_some() == (ptype == PType::U8),
+    );
     Ok(())
 }

@@ -1,4 +1,5 @@
-//! Calls views of sixteen bytes, buffers, numbers, masks, the makers of arrays, and what reads, slices, takes and filters their rows.
+//! Calls views of sixteen bytes, buffers, numbers, masks, the makers of arrays, and what reads,
+//! slices, takes and filters their rows.
 #![tactic(auto)]
 
 mod arrays;

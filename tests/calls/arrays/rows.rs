@@ -4,10 +4,8 @@ use crate::arrays::{bools, numbers, strings_of};
 use crate::checks::Checks;
 use std::alloc::Global;
 use std::rc::Rc;
-use vortex_arrays::ArrayError;
-use vortex_arrays::Mask;
+use vortex_arrays::{ArrayError, ArrayRef, Mask, Validity};
 use vortex_dtype::{DTypeError, FieldName, FieldNames, Nullability};
-use vortex_arrays::{ArrayRef, Validity};
 use vortex_scalar::{PValue, Scalar, ScalarConstructors, ScalarValue};
 use vortex_scalar_ops::eq::eq_values;
 
@@ -16,7 +14,11 @@ pub fn run(alloc: Global, checks: &mut Checks<'_>) -> Result<(), DTypeError> {
     values(alloc, checks)?;
     for (number, array) in arrays.iter().enumerate() {
         let rows = rows_of(alloc, array)?;
-        checks.holds_at("each row has the array's type", number, rows.iter().all(|row| row.dtype() == array.dtype()));
+        checks.holds_at(
+            "each row has the array's type",
+            number,
+            rows.iter().all(|row| row.dtype() == array.dtype()),
+        );
         past_the_end(alloc, checks, number, array)?;
         slices(alloc, checks, number, array, &rows)?;
         takes(alloc, checks, number, array, &rows)?;
@@ -53,19 +55,47 @@ fn refused<T: Drop>(
 /// An array of each layout, most of them with null rows.
 fn all_layouts(alloc: Global) -> Result<Vec<ArrayRef>, DTypeError> {
     let mut all = Vec::new(alloc);
-    all.push(bools(alloc, &[true, false, true, true, false, false, true, false, true])?)?;
+    all.push(bools(
+        alloc,
+        &[true, false, true, true, false, false, true, false, true],
+    )?)?;
     let flags = bools(alloc, &[true, false, true, true])?;
-    all.push(numbers(alloc, &[1i32, -2, 3, i32::MAX], Validity::Array(flags.clone()?))?)?;
-    all.push(strings_of(alloc, &[b"ab", b"abcdefghijklm", b"", b"twelve bytes"], Validity::Array(flags.clone()?))?)?;
+    all.push(numbers(
+        alloc,
+        &[1i32, -2, 3, i32::MAX],
+        Validity::Array(flags.clone()?),
+    )?)?;
+    all.push(strings_of(
+        alloc,
+        &[b"ab", b"abcdefghijklm", b"", b"twelve bytes"],
+        Validity::Array(flags.clone()?),
+    )?)?;
     all.push(ArrayRef::of_constant(alloc, Scalar::primitive(7u8, Nullability::Nullable), 3)?)?;
-    let values = numbers(alloc, &[70i64, 80, 90], Validity::Array(bools(alloc, &[true, false, true])?))?;
+    let values = numbers(
+        alloc,
+        &[70i64, 80, 90],
+        Validity::Array(bools(alloc, &[true, false, true])?),
+    )?;
     let codes = numbers(alloc, &[2u8, 1, 0, 2], Validity::Array(flags.clone()?))?;
     all.push(ArrayRef::of_dict(alloc, codes, values, false)?)?;
     let elements = numbers(alloc, &[1i32, 2, 3, 4, 5, 6, 7, 8], Validity::NonNullable)?;
-    all.push(ArrayRef::of_fixed_lists(alloc, elements.clone()?, 2, 4, Validity::Array(flags.clone()?))?)?;
+    all.push(ArrayRef::of_fixed_lists(
+        alloc,
+        elements.clone()?,
+        2,
+        4,
+        Validity::Array(flags.clone()?),
+    )?)?;
     let offsets = numbers(alloc, &[0u32, 1, 8, 3], Validity::NonNullable)?;
     let sizes = numbers(alloc, &[3i16, 2, 0, 5], Validity::NonNullable)?;
-    all.push(ArrayRef::of_list_views(alloc, elements, offsets, sizes, false, Validity::Array(flags.clone()?))?)?;
+    all.push(ArrayRef::of_list_views(
+        alloc,
+        elements,
+        offsets,
+        sizes,
+        false,
+        Validity::Array(flags.clone()?),
+    )?)?;
     let mut names = Vec::new(alloc);
     names.push(FieldName::new(alloc, "a")?)?;
     names.push(FieldName::new(alloc, "b")?)?;
@@ -91,12 +121,25 @@ fn values(alloc: Global, checks: &mut Checks<'_>) -> Result<(), DTypeError> {
     let elements = numbers(alloc, &[1i32, 2, 3], Validity::NonNullable)?;
     let offsets = numbers(alloc, &[0u32, 1], Validity::NonNullable)?;
     let sizes = numbers(alloc, &[3u8, 2], Validity::NonNullable)?;
-    let lists = ArrayRef::of_list_views(alloc, elements, offsets, sizes, false, Validity::NonNullable)?;
+    let lists = ArrayRef::of_list_views(
+        alloc,
+        elements,
+        offsets,
+        sizes,
+        false,
+        Validity::NonNullable,
+    )?;
     let rows = rows_of(alloc, &lists)?;
-    checks.holds("lists overlap", has(alloc, &rows[0], &[1, 2, 3])? && has(alloc, &rows[1], &[2, 3])?);
+    checks.holds(
+        "lists overlap",
+        has(alloc, &rows[0], &[1, 2, 3])? && has(alloc, &rows[1], &[2, 3])?,
+    );
     let texts = strings_of(alloc, &[b"ab", b"abcdefghijklm"], Validity::NonNullable)?;
     let rows = rows_of(alloc, &texts)?;
-    checks.holds("texts", is_text(&rows[0], b"ab") && is_text(&rows[1], b"abcdefghijklm"));
+    checks.holds(
+        "texts",
+        is_text(&rows[0], b"ab") && is_text(&rows[1], b"abcdefghijklm"),
+    );
     let flags = bools(alloc, &[true, false])?;
     let array = numbers(alloc, &[1i8, 2], Validity::Array(flags))?;
     let rows = rows_of(alloc, &array)?;
@@ -123,12 +166,41 @@ fn is_text(row: &Scalar, bytes: &[u8]) -> bool {
     }
 }
 
-fn past_the_end(alloc: Global, checks: &mut Checks<'_>, number: usize, array: &ArrayRef) -> Result<(), DTypeError> {
+fn past_the_end(
+    alloc: Global,
+    checks: &mut Checks<'_>,
+    number: usize,
+    array: &ArrayRef,
+) -> Result<(), DTypeError> {
     let len = array.len();
-    refused(checks, "a row past the end", number, array.execute_scalar(alloc, len), ArrayError::OutOfRange)?;
-    refused(checks, "the greatest row", number, array.execute_scalar(alloc, usize::MAX), ArrayError::OutOfRange)?;
-    refused(checks, "a slice past the end", number, array.slice(alloc, 0..len + 1), ArrayError::OutOfRange)?;
-    refused(checks, "a slice that ends before it begins", number, array.slice(alloc, 1..0), ArrayError::OutOfRange)?;
+    refused(
+        checks,
+        "a row past the end",
+        number,
+        array.execute_scalar(alloc, len),
+        ArrayError::OutOfRange,
+    )?;
+    refused(
+        checks,
+        "the greatest row",
+        number,
+        array.execute_scalar(alloc, usize::MAX),
+        ArrayError::OutOfRange,
+    )?;
+    refused(
+        checks,
+        "a slice past the end",
+        number,
+        array.slice(alloc, 0..len + 1),
+        ArrayError::OutOfRange,
+    )?;
+    refused(
+        checks,
+        "a slice that ends before it begins",
+        number,
+        array.slice(alloc, 1..0),
+        ArrayError::OutOfRange,
+    )?;
     Ok(())
 }
 
@@ -144,11 +216,19 @@ fn slices(
         for end in start..=array.len() {
             let part = answered(array.slice(alloc, start..end))?;
             let found = rows_of(alloc, &part)?;
-            checks.holds_at("slice", number, part.dtype() == array.dtype() && found.as_slice() == &rows[start..end]);
+            checks.holds_at(
+                "slice",
+                number,
+                part.dtype() == array.dtype() && found.as_slice() == &rows[start..end],
+            );
             let half = (end - start) / 2;
             let rest = answered(part.slice(alloc, half..end - start))?;
             let found = rows_of(alloc, &rest)?;
-            checks.holds_at("slice of a slice", number, found.as_slice() == &rows[start + half..end]);
+            checks.holds_at(
+                "slice of a slice",
+                number,
+                found.as_slice() == &rows[start + half..end],
+            );
         }
     }
     Ok(())
@@ -174,16 +254,38 @@ fn takes(
     let taken = rows_of(alloc, &answered(array.take(alloc, &indices))?)?;
     let mut right = taken.len() == len;
     for i in 0..len {
-        right = right && if i == 1 { taken[i].is_null() } else { taken[i].value().is_some() == rows[len - 1 - i].value().is_some() && eq_values(taken[i].value(), rows[len - 1 - i].value()) };
+        right = right
+            && if i == 1 {
+                taken[i].is_null()
+            } else {
+                taken[i].value().is_some() == rows[len - 1 - i].value().is_some()
+                    && eq_values(taken[i].value(), rows[len - 1 - i].value())
+            };
     }
     checks.holds_at("take", number, right);
     let signed = numbers(alloc, &[0i8], Validity::NonNullable)?;
-    refused(checks, "take at signed positions", number, array.take(alloc, &signed), ArrayError::WrongType)?;
+    refused(
+        checks,
+        "take at signed positions",
+        number,
+        array.take(alloc, &signed),
+        ArrayError::WrongType,
+    )?;
     let past = numbers(alloc, &[len as u32], Validity::NonNullable)?;
-    refused(checks, "take past the end", number, array.take(alloc, &past), ArrayError::OutOfRange)?;
+    refused(
+        checks,
+        "take past the end",
+        number,
+        array.take(alloc, &past),
+        ArrayError::OutOfRange,
+    )?;
     let null = numbers(alloc, &[len as u32], Validity::AllInvalid)?;
     let taken = rows_of(alloc, &answered(array.take(alloc, &null))?)?;
-    checks.holds_at("a null position past the end", number, taken.len() == 1 && taken[0].is_null());
+    checks.holds_at(
+        "a null position past the end",
+        number,
+        taken.len() == 1 && taken[0].is_null(),
+    );
     Ok(())
 }
 
@@ -202,7 +304,11 @@ fn filters(
         }
     }
     let mask = Mask::from_indices(alloc, array.len(), &places)?;
-    checks.holds_at("true_count", number, mask.true_count() == places.len() && mask.len() == array.len());
+    checks.holds_at(
+        "true_count",
+        number,
+        mask.true_count() == places.len() && mask.len() == array.len(),
+    );
     let kept = answered(array.filter(alloc, &mask))?;
     let found = rows_of(alloc, &kept)?;
     let mut right = found.len() == places.len() && kept.dtype() == array.dtype();
@@ -211,8 +317,18 @@ fn filters(
     }
     checks.holds_at("filter", number, right);
     let longer = Mask::new_true(alloc, array.len() + 1)?;
-    refused(checks, "a mask of another length", number, array.filter(alloc, &longer), ArrayError::LengthMismatch)?;
+    refused(
+        checks,
+        "a mask of another length",
+        number,
+        array.filter(alloc, &longer),
+        ArrayError::LengthMismatch,
+    )?;
     let none = answered(array.filter(alloc, &Mask::new_false(alloc, array.len())?))?;
-    checks.holds_at("filter of no row", number, none.is_empty() && none.dtype() == array.dtype());
+    checks.holds_at(
+        "filter of no row",
+        number,
+        none.is_empty() && none.dtype() == array.dtype(),
+    );
     Ok(())
 }

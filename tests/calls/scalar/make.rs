@@ -1,0 +1,49 @@
+//! Types with further arguments, and what is asked of several answers.
+
+use crate::values::{Value, WITHOUT, is_of, of_types};
+use std::alloc::Global;
+use vortex_dtype::{DType, FieldName, FieldNames, MapDType, Nullability, UnionVariants};
+use vortex_scalar::{Scalar, ScalarError, ScalarValue};
+
+/// Maps from texts.
+pub fn map(
+    alloc: Global,
+    value: DType,
+    sorted: bool,
+    nullability: Nullability,
+) -> Result<DType, ScalarError> {
+    let map = MapDType::try_new(alloc, DType::Utf8(WITHOUT), value, sorted).map_err(of_types)?;
+    Ok(DType::Map(map, nullability))
+}
+
+/// Unions of choices with these tags.
+pub fn union<const N: usize>(
+    alloc: Global,
+    tags: [i8; N],
+    dtypes: [DType; N],
+    nullability: Nullability,
+) -> Result<DType, ScalarError> {
+    let mut names = Vec::new(alloc);
+    for _ in 0..N {
+        names.push(FieldName::new(alloc, "choice")?)?;
+    }
+    let (tags, dtypes) = (
+        Vec::from_array(alloc, tags)?,
+        Vec::from_array(alloc, dtypes)?,
+    );
+    let made = UnionVariants::try_new(FieldNames::new(names), dtypes, tags).map_err(of_types)?;
+    Ok(DType::Union(made, nullability))
+}
+
+/// Whether there is a scalar of this type and this value.
+pub fn is_some_of(scalar: Option<Scalar>, dtype: &DType, value: Option<&ScalarValue>) -> bool {
+    scalar.is_some_and(|scalar| is_of(&scalar, dtype, value))
+}
+
+/// Whether these are scalars of this type and these values.
+pub fn are_some_of(found: Option<Vec<Scalar>>, dtype: &DType, values: &[Value]) -> bool {
+    found.is_some_and(|found| {
+        let mut items = found.iter().zip(values);
+        found.len() == values.len() && items.all(|(a, b)| is_of(a, dtype, b.as_ref()))
+    })
+}

@@ -1,0 +1,50 @@
+//! Further types and values that calls are made on, and what is asked of answers.
+
+use crate::values::{Value, WITH, WITHOUT, is_of, number_of, numbers, of_types};
+use std::alloc::Global;
+use std::hash::{DefaultHasher, Hash, Hasher};
+use vortex_dtype::{DType, FieldName, FieldNames, MapDType, Nullability, PType, UnionVariants};
+use vortex_scalar::{PValue, Scalar, ScalarError, ScalarValue};
+
+/// The number as a value of the kind, which has it.
+pub fn primitive(ptype: PType, number: i128) -> Value {
+    Some(ScalarValue::Primitive(number_of(ptype, number)))
+}
+
+pub fn byte(value: u8) -> Value {
+    Some(ScalarValue::Primitive(PValue::U8(value)))
+}
+
+pub fn octets(nullability: Nullability) -> DType {
+    DType::Primitive(PType::U8, nullability)
+}
+
+/// Maps from texts.
+pub fn map(alloc: Global, value: DType, nullability: Nullability) -> Result<DType, ScalarError> {
+    let map = MapDType::try_new(alloc, DType::Utf8(WITHOUT), value, false).map_err(of_types)?;
+    Ok(DType::Map(map, nullability))
+}
+
+/// Unions of numbers, by the tag -3 and the name `first`, and of texts, by 4 and `second`.
+pub fn union(alloc: Global, nullability: Nullability) -> Result<DType, ScalarError> {
+    let mut names = Vec::new(alloc);
+    for name in ["first", "second"] {
+        names.push(FieldName::new(alloc, name)?)?;
+    }
+    let dtypes = Vec::from_array(alloc, [numbers(WITH), DType::Utf8(WITHOUT)])?;
+    let tags = Vec::from_array(alloc, [-3i8, 4i8])?;
+    let made = UnionVariants::try_new(FieldNames::new(names), dtypes, tags).map_err(of_types)?;
+    Ok(DType::Union(made, nullability))
+}
+
+/// Whether the two have one type and one value.
+pub fn is_twin(left: &Scalar, right: &Scalar) -> bool {
+    is_of(left, right.dtype(), right.value())
+}
+
+/// What the value feeds to a hasher.
+pub fn hash_of<T: Hash>(value: &T) -> u64 {
+    let mut hasher = DefaultHasher::new();
+    value.hash(&mut hasher);
+    hasher.finish()
+}

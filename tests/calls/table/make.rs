@@ -1,0 +1,109 @@
+//! Types, rows, predicates and tables that calls are made on.
+
+use std::alloc::{AllocError, Global};
+use vortex_dtype::{
+    DType, FieldName, FieldNames, FieldPath, Nullability, PType, StructField, StructFields,
+};
+use vortex_scalar::{PValue, Scalar, ScalarError, ScalarValue};
+use vortex_table::expr::{Expression, col, lit};
+use vortex_table::table::{ScanAnswer, Table, TableError};
+
+/// An i32 without null.
+pub fn integers() -> DType {
+    DType::Primitive(PType::I32, Nullability::NonNullable)
+}
+
+/// The number as a cell.
+pub fn cell(n: i32) -> Option<ScalarValue> {
+    Some(ScalarValue::Primitive(PValue::I32(n)))
+}
+
+/// A non-nullable record of two parts.
+pub fn record(
+    alloc: Global,
+    names: [&str; 2],
+    first: DType,
+    second: DType,
+) -> Result<DType, AllocError> {
+    let mut fields = Vec::new(alloc);
+    fields.push(StructField {
+        name: FieldName::new(alloc, names[0])?,
+        dtype: first,
+    })?;
+    fields.push(StructField {
+        name: FieldName::new(alloc, names[1])?,
+        dtype: second,
+    })?;
+    Ok(DType::Struct(StructFields::from_vec(fields)?, Nullability::NonNullable))
+}
+
+/// The type {a=i32, b=u8?}.
+pub fn two_columns(alloc: Global) -> Result<DType, AllocError> {
+    let second = DType::Primitive(PType::U8, Nullability::Nullable);
+    record(alloc, ["a", "b"], integers(), second)
+}
+
+/// A row of the two columns.
+pub fn row(alloc: Global, a: i32, b: Option<u8>) -> Result<Option<ScalarValue>, AllocError> {
+    let mut cells = Vec::new(alloc);
+    cells.push(cell(a))?;
+    match b {
+        Some(b) => cells.push(Some(ScalarValue::Primitive(PValue::U8(b))))?,
+        None => cells.push(None)?,
+    }
+    Ok(Some(ScalarValue::Tuple(cells)))
+}
+
+/// The column of this name.
+pub fn column(alloc: Global, name: &str) -> Result<Expression, AllocError> {
+    let mut names = Vec::new(alloc);
+    names.push(FieldName::new(alloc, name)?)?;
+    Ok(col(FieldNames::new(names)))
+}
+
+/// The value as a predicate's constant.
+pub fn constant(dtype: DType, value: Option<ScalarValue>) -> Result<Expression, TableError> {
+    match Scalar::try_new(dtype, value) {
+        Ok(scalar) => Ok(lit(scalar)),
+        Err(ScalarError::Memory) => Err(TableError::Memory),
+        Err(_) => Err(TableError::InvalidValue(0)),
+    }
+}
+
+/// The number as a predicate's constant.
+pub fn number(n: i32) -> Result<Expression, TableError> {
+    constant(integers(), cell(n))
+}
+
+/// The truth as a predicate's constant.
+pub fn truth(b: bool) -> Result<Expression, TableError> {
+    constant(
+        DType::Bool(Nullability::NonNullable),
+        Some(ScalarValue::Bool(b)),
+    )
+}
+
+/// Two chunks: (1, null), (2, 3); and (10, 1).
+pub fn filled(alloc: Global) -> Result<Table, TableError> {
+    let dtype = two_columns(alloc)?;
+    let mut table = Table::create(alloc, dtype.clone()?, 16)?;
+    let mut values = Vec::new(alloc);
+    values.push(row(alloc, 1, None)?)?;
+    values.push(row(alloc, 2, Some(3))?)?;
+    table.append(&dtype, &values, &[])?;
+    values.clear();
+    values.push(row(alloc, 10, Some(1))?)?;
+    table.append(&dtype, &values, &[])?;
+    Ok(table)
+}
+
+/// Scans whole rows.
+pub fn scan(
+    alloc: Global,
+    table: &Table,
+    predicate: &Expression,
+) -> Result<ScanAnswer, TableError> {
+    let mut paths = Vec::new(alloc);
+    paths.push(FieldPath::root(alloc))?;
+    table.scan(alloc, &paths, predicate)
+}

@@ -1,0 +1,60 @@
+//! Reads, writes and flushes that fail.
+
+use crate::checks::Checks;
+use crate::exchanges::{SESSION, input_of, output_of};
+use std::alloc::{AllocError, Global};
+use vortex_table::run::{MemorySink, MemorySource, RunError, run};
+
+/// More than any run reads or writes at once, and more often.
+const ALWAYS: usize = usize::MAX;
+
+/// Reads of seven bytes, of which the first fails, or the second, and so on until none does.
+pub fn each_read_may_fail(alloc: Global, checks: &mut Checks<'_>) -> Result<(), AllocError> {
+    let input = input_of(alloc, &SESSION)?;
+    let output = output_of(alloc, &SESSION)?;
+    for good in 0..=input.len() / 7 + 2 {
+        let mut reader = MemorySource::new(&input, 7, good);
+        let mut writer = MemorySink::new(Vec::new(alloc), ALWAYS, ALWAYS);
+        let result = run(alloc, &mut reader, &mut writer);
+        let enough = good > input.len() / 7 + 1;
+        let told = if enough {
+            result.is_ok()
+        } else {
+            result == Err(RunError::Read)
+        };
+        checks.holds_at("a run by good reads, of these", good, told);
+        let begins = output.as_slice().starts_with(writer.bytes.as_slice());
+        checks.holds_at("the answers by good reads, of these", good, begins);
+    }
+    Ok(())
+}
+
+/// Writes of one byte, of which the first fails, or the second, and so on until neither a write nor
+/// the flush does; and a write that takes nothing.
+pub fn each_write_may_fail(alloc: Global, checks: &mut Checks<'_>) -> Result<(), AllocError> {
+    let input = input_of(alloc, &SESSION)?;
+    let output = output_of(alloc, &SESSION)?;
+    for good in 0..=output.len() + 2 {
+        let mut reader = MemorySource::new(&input, ALWAYS, ALWAYS);
+        let mut writer = MemorySink::new(Vec::new(alloc), 1, good);
+        let result = run(alloc, &mut reader, &mut writer);
+        // One call a byte, and the flush.
+        let enough = good > output.len();
+        let told = if enough {
+            result.is_ok()
+        } else {
+            result == Err(RunError::Write)
+        };
+        checks.holds_at("a run by good writes, of these", good, told);
+        let begins = output.as_slice().starts_with(writer.bytes.as_slice());
+        checks.holds_at("the answers by good writes, of these", good, begins);
+    }
+    let mut reader = MemorySource::new(&input, ALWAYS, ALWAYS);
+    let mut writer = MemorySink::new(Vec::new(alloc), 0, ALWAYS);
+    let result = run(alloc, &mut reader, &mut writer);
+    checks.holds(
+        "a run by a write of nothing",
+        result == Err(RunError::Write),
+    );
+    Ok(())
+}

@@ -1,0 +1,35 @@
+//! Runs a session of lines in memory: one line more each time, cut anywhere, ended anywhere, with
+//! each read, each write and the flush failing in turn.
+#![tactic(auto)]
+
+mod checks;
+mod cut;
+mod exchanges;
+mod faults;
+
+use crate::checks::Checks;
+use std::alloc::{AllocError, Global};
+use std::process::ExitCode;
+use vortex_dtype::DTypeError;
+
+fn run_all(alloc: Global, checks: &mut Checks<'_>) -> Result<(), AllocError> {
+    cut::each_line_is_answered(alloc, checks)?;
+    checks.end_part("each line is answered");
+    cut::reads_and_writes_may_be_cut_anywhere(alloc, checks)?;
+    checks.end_part("reads and writes may be cut anywhere");
+    cut::an_input_may_end_anywhere(alloc, checks)?;
+    checks.end_part("an input may end anywhere");
+    cut::an_empty_input_has_no_answer(alloc, checks);
+    checks.end_part("an empty input has no answer");
+    faults::each_read_may_fail(alloc, checks)?;
+    checks.end_part("each read may fail");
+    faults::each_write_may_fail(alloc, checks)?;
+    checks.end_part("each write may fail");
+    Ok(())
+}
+
+fn main(rt: HostRuntime) -> ExitCode {
+    let mut checks = Checks::new(&rt);
+    let outcome = run_all(rt.alloc(), &mut checks).map_err(|_| DTypeError::Memory);
+    checks.end(outcome)
+}
