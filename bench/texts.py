@@ -1,12 +1,15 @@
 #!/usr/bin/env python3
 """Times colscan on texts: a million short ones, and 10,000 of 100,000 bytes.
 
-Usage: bench/texts.py [PROGRAM [SHORT LONG BYTES]]     (PROGRAM: crates/colscan/out/colscan, which `rt run` in crates/colscan leaves there;
+Usage: bench/texts.py [PROGRAM [SHORT LONG BYTES]]     (PROGRAM: crates/colscan/out/colscan, which
+`rt run` in crates/colscan leaves there;
 1000000 short texts, 10000 long ones of 100000 bytes each)
 
-Texts are handed in in 100 appends of equal size, in ascending order, so that chunks hold ranges of their own. The long ones are alike but for their last 16 bytes: bounds
-of length 16 tell nothing of them, and bounds of their own length tell all. For each: seconds of ingest (create and appends); of a scan for one text; of a scan that
-tests all rows and answers each without its columns; of a scan that answers every text; and the peak of memory after the ingest and at the end. Long texts are a GB
+Texts are handed in in 100 appends of equal size, in ascending order, so that chunks hold ranges of
+their own. The long ones are alike but for their last 16 bytes: bounds of length 16 tell nothing of
+them, and bounds of their own length tell all. For each: seconds of ingest (create and appends); of
+a scan for one text; of a scan that tests all rows and answers each without its columns; of a scan
+that answers every text; and the peak of memory after the ingest and at the end. Long texts are a GB
 in all, and their full answer is another.
 """
 import os
@@ -15,7 +18,11 @@ import sys
 import time
 
 HERE = os.path.dirname(os.path.abspath(__file__))
-PROGRAM = sys.argv[1] if len(sys.argv) > 1 else os.path.join(HERE, "..", "crates", "colscan", "out", "colscan")
+PROGRAM = (
+    sys.argv[1]
+    if len(sys.argv) > 1
+    else os.path.join(HERE, "..", "crates", "colscan", "out", "colscan")
+)
 SHORT, LONG, BYTES = map(int, sys.argv[2:5]) if len(sys.argv) > 4 else (1_000_000, 10_000, 100_000)
 DTYPE = '{"kind":"struct","names":["s"],"children":[{"kind":"utf8"}]}'
 APPENDS = 100
@@ -27,7 +34,11 @@ def text(number, size):
 
 
 def scan(operator, value, paths="[[]]"):
-    return '{"cmd":"scan","paths":%s,"where":["%s",["col","s"],["lit",{"kind":"utf8"},"%s"]]}\n' % (paths, operator, value)
+    return '{"cmd":"scan","paths":%s,"where":["%s",["col","s"],["lit",{"kind":"utf8"},"%s"]]}\n' % (
+        paths,
+        operator,
+        value,
+    )
 
 
 class Session:
@@ -55,7 +66,8 @@ class Session:
 
 
 def measure(count, size, length):
-    """Seconds of ingest and of the three scans, peak bytes after the ingest and at the end, and how many chunks the scan for one text skipped."""
+    """Seconds of ingest and of the three scans, peak bytes after the ingest and at the end, and how
+    many chunks the scan for one text skipped."""
     session, ingest, each = Session(), 0.0, count // APPENDS
     answer, seconds = session.ask('{"cmd":"create","dtype":%s,"length":%d}\n' % (DTYPE, length))
     assert answer == b'{"ok":true}\n', answer
@@ -79,11 +91,33 @@ def measure(count, size, length):
 
 
 def main():
-    print("%9s %7s %9s %9s %9s %9s %10s %9s %10s %9s" % (
-        "texts", "bytes", "length", "ingest s", "one s", "skipped", "all rows s", "full s", "loaded MB", "peak MB"))
-    for count, size, length in ((SHORT, 16, 16), (SHORT, 16, 8), (LONG, BYTES, 16), (LONG, BYTES, BYTES)):
+    print(
+        "%9s %7s %9s %9s %9s %9s %10s %9s %10s %9s"
+        % (
+            "texts",
+            "bytes",
+            "length",
+            "ingest s",
+            "one s",
+            "skipped",
+            "all rows s",
+            "full s",
+            "loaded MB",
+            "peak MB",
+        )
+    )
+    for count, size, length in (
+        (SHORT, 16, 16),
+        (SHORT, 16, 8),
+        (LONG, BYTES, 16),
+        (LONG, BYTES, BYTES),
+    ):
         ingest, one, tested, full, loaded, peak, skipped = measure(count, size, length)
-        print("%9d %7d %9d %9.3f %9.5f %9d %10.3f %9.3f %10.1f %9.1f" % (count, size, length, ingest, one, skipped, tested, full, loaded / 1e6, peak / 1e6), flush=True)
+        print(
+            "%9d %7d %9d %9.3f %9.5f %9d %10.3f %9.3f %10.1f %9.1f"
+            % (count, size, length, ingest, one, skipped, tested, full, loaded / 1e6, peak / 1e6),
+            flush=True,
+        )
 
 
 main()

@@ -1,8 +1,10 @@
 #!/usr/bin/env python3
-"""A plain, slow colscan: the definitions as directly as they can be run, with nothing kept of a chunk but its rows.
+"""A plain, slow colscan: the definitions as directly as they can be run, with nothing kept of a chunk
+but its rows.
 
 reference.py                      answers the lines of standard input
-reference.py --random N FOLDER    writes N random sessions and their answers to FOLDER, as NAME and NAME.stdout, for `rt try --cases`
+reference.py --random N FOLDER    writes N random sessions and their answers to FOLDER, as NAME and
+NAME.stdout, for `rt try --cases`
 """
 import json
 import os
@@ -10,19 +12,40 @@ import random
 import sys
 
 RANGES = {
-    "u8": (0, 2**8 - 1), "u16": (0, 2**16 - 1), "u32": (0, 2**32 - 1), "u64": (0, 2**64 - 1),
-    "i8": (-2**7, 2**7 - 1), "i16": (-2**15, 2**15 - 1), "i32": (-2**31, 2**31 - 1), "i64": (-2**63, 2**63 - 1),
+    "u8": (0, 2**8 - 1),
+    "u16": (0, 2**16 - 1),
+    "u32": (0, 2**32 - 1),
+    "u64": (0, 2**64 - 1),
+    "i8": (-(2**7), 2**7 - 1),
+    "i16": (-(2**15), 2**15 - 1),
+    "i32": (-(2**31), 2**31 - 1),
+    "i64": (-(2**63), 2**63 - 1),
 }
 # The kinds of leaves: integers, and these.
 PLAIN = ("bool", "utf8", "binary")
 DIGITS = "0123456789abcdefABCDEF"
 NAMES = {
-    2: "NotARecord", 3: "UnkeptType", 4: "RepeatedName", 5: "InvalidValue", 6: "NotConvertible", 9: "UnknownPath", 10: "ElementStep",
-    12: "UnknownColumn", 13: "NotALeaf", 14: "UnequalTypes", 15: "NotBoolean", 18: "BadLine", 19: "NoTable",
+    2: "NotARecord",
+    3: "UnkeptType",
+    4: "RepeatedName",
+    5: "InvalidValue",
+    6: "NotConvertible",
+    9: "UnknownPath",
+    10: "ElementStep",
+    12: "UnknownColumn",
+    13: "NotALeaf",
+    14: "UnequalTypes",
+    15: "NotBoolean",
+    18: "BadLine",
+    19: "NoTable",
 }
 TESTS = {
-    "=": lambda x, y: x == y, "!=": lambda x, y: x != y, ">": lambda x, y: x > y,
-    ">=": lambda x, y: x >= y, "<": lambda x, y: x < y, "<=": lambda x, y: x <= y,
+    "=": lambda x, y: x == y,
+    "!=": lambda x, y: x != y,
+    ">": lambda x, y: x > y,
+    ">=": lambda x, y: x >= y,
+    "<": lambda x, y: x < y,
+    "<=": lambda x, y: x <= y,
 }
 
 
@@ -42,10 +65,12 @@ def need(fact):
 
 # ---- reading
 
+
 def whole(text):
-    """A number that JSON's reader keeps as a 64-bit whole number; anything else is kept as a float."""
+    """A number that JSON's reader keeps as a 64-bit whole number; anything else is kept as a float.
+    """
     number = int(text)
-    return number if -2**63 <= number < 2**64 and text != "-0" else float(number)
+    return number if -(2**63) <= number < 2**64 and text != "-0" else float(number)
 
 
 def depth(value):
@@ -81,7 +106,11 @@ def keys(value, needed, free=()):
 
 # The keys of their own that kinds of types have beside `kind`, and those that may be missing.
 OWN = {
-    "decimal": ["precision", "scale"], "fixed_size_list": ["size"], "map": ["sorted"], "struct": ["names"], "union": ["names", "tags"],
+    "decimal": ["precision", "scale"],
+    "fixed_size_list": ["size"],
+    "map": ["sorted"],
+    "struct": ["names"],
+    "union": ["names", "tags"],
     "extension": ["id"],
 }
 FREE = {"extension": ["metadata"]}
@@ -110,7 +139,11 @@ def read_type(value):
         return (kind, list(zip(value["names"], children)), nullable)
     if kind == "union":
         tags = value["tags"]
-        need(are_texts(value["names"]) and isinstance(tags, list) and len(value["names"]) == len(tags) == len(children))
+        need(
+            are_texts(value["names"])
+            and isinstance(tags, list)
+            and len(value["names"]) == len(tags) == len(children)
+        )
         need(all(is_between(tag, -128, 127) for tag in tags) and len(set(tags)) == len(tags))
         return (kind, None, nullable)
     need(kind in CHILDLESS or kind in CHILDREN)
@@ -135,7 +168,9 @@ def is_number(value):
 
 def are_digits(value):
     """Whether a JSON value is a text of hexadecimal digits, two a byte."""
-    return isinstance(value, str) and len(value) % 2 == 0 and all(digit in DIGITS for digit in value)
+    return (
+        isinstance(value, str) and len(value) % 2 == 0 and all(digit in DIGITS for digit in value)
+    )
 
 
 class Unreadable(Exception):
@@ -143,7 +178,8 @@ class Unreadable(Exception):
 
 
 def reading(value, dtype):
-    """What a JSON value says at the type: null, a truth value, a number, a text as str, bytes as bytes, or a list."""
+    """What a JSON value says at the type: null, a truth value, a number, a text as str, bytes as
+    bytes, or a list."""
     kind, fields, _ = dtype
     if value is None:
         return None
@@ -172,7 +208,11 @@ def is_content(content, dtype):
     if content is None:
         return nullable
     if kind == "struct":
-        return isinstance(content, list) and len(content) == len(fields) and all(is_content(c, f[1]) for c, f in zip(content, fields))
+        return (
+            isinstance(content, list)
+            and len(content) == len(fields)
+            and all(is_content(c, f[1]) for c, f in zip(content, fields))
+        )
     if kind in PLAIN:
         return isinstance(content, {"bool": bool, "utf8": str, "binary": bytes}[kind])
     return kind in RANGES and is_between(content, *RANGES[kind])
@@ -220,7 +260,10 @@ def read_command(line):
     if value.get("cmd") == "append":
         keys(value, ["cmd", "dtype", "rows"], ["layouts"])
         layouts = value.get("layouts", [])
-        need(isinstance(layouts, list) and all(name in ("plain", "dictionary", "constant") for name in layouts))
+        need(
+            isinstance(layouts, list)
+            and all(name in ("plain", "dictionary", "constant") for name in layouts)
+        )
         need(isinstance(value["rows"], list))
         dtype = read_type(value["dtype"])
         return ("append", dtype, [row_reading(row, dtype) for row in value["rows"]])
@@ -231,6 +274,7 @@ def read_command(line):
 
 
 # ---- the table: a type, a bound length and a list of chunks, each a list of rows
+
 
 def check_part(dtype):
     """A record's names go before its parts, and these from left to right."""
@@ -329,7 +373,8 @@ def low(value, length):
 
 
 def high(value, length):
-    """The value where it is short; else the least such string of bytes above it, or its low as a text raised at the latest character that can be. None: there is
+    """The value where it is short; else the least such string of bytes above it, or its low as a
+    text raised at the latest character that can be. None: there is
     no bound."""
     if not isinstance(value, (bytes, str)) or len(in_order(value)) <= length:
         return value
@@ -344,7 +389,8 @@ def high(value, length):
 
 
 def bounds_of(operand, values, length):
-    """What is known of an operand's values: the low of the least and the high of the greatest that isn't null. A literal is its own."""
+    """What is known of an operand's values: the low of the least and the high of the greatest that
+    isn't null. A literal is its own."""
     values = [value for value in values if value is not None]
     if not values:
         return (None, None)
@@ -354,16 +400,24 @@ def bounds_of(operand, values, length):
 
 
 def is_hopeless(dtype, predicate, chunk, length):
-    """Whether the bounds of the two sides alone tell that no row satisfies the comparison. One with a bound that isn't there tells nothing, and of a truth value there
+    """Whether the bounds of the two sides alone tell that no row satisfies the comparison. One with
+    a bound that isn't there tells nothing, and of a truth value there
     is no proof."""
     if predicate[0] not in TESTS:
         return False
-    sides = [bounds_of(operand, [operand_value(dtype, operand, row) for row in chunk], length) for operand in predicate[1:]]
+    sides = [
+        bounds_of(operand, [operand_value(dtype, operand, row) for row in chunk], length)
+        for operand in predicate[1:]
+    ]
     (a, b), (c, d) = sides
     tells = lambda op, x, y: x is not None and y is not None and TESTS[op](in_order(x), in_order(y))
     return {
-        "=": tells(">", a, d) or tells(">", c, b), "!=": tells("=", a, d) and tells("=", b, c), ">": tells("<=", b, c), ">=": tells("<", b, c),
-        "<": tells(">=", a, d), "<=": tells(">", a, d),
+        "=": tells(">", a, d) or tells(">", c, b),
+        "!=": tells("=", a, d) and tells("=", b, c),
+        ">": tells("<=", b, c),
+        ">=": tells("<", b, c),
+        "<": tells(">=", a, d),
+        "<=": tells(">", a, d),
     }[predicate[0]]
 
 
@@ -377,20 +431,32 @@ def is_selected(dtype, predicate, row):
 
 def is_kept(paths, here):
     """Whether one of the paths begins this one, or this one a path."""
-    return any(path[:len(here)] == here[:len(path)] for path in paths)
+    return any(path[: len(here)] == here[: len(path)] for path in paths)
 
 
 def cut_type(dtype, paths, here):
     kind, fields, nullable = dtype
     if kind != "struct":
         return dtype
-    return (kind, [(name, cut_type(part, paths, here + [name])) for name, part in fields if is_kept(paths, here + [name])], nullable)
+    return (
+        kind,
+        [
+            (name, cut_type(part, paths, here + [name]))
+            for name, part in fields
+            if is_kept(paths, here + [name])
+        ],
+        nullable,
+    )
 
 
 def cut_row(dtype, row, paths, here):
     if dtype[0] != "struct" or row is None:
         return row
-    return [cut_row(part, value, paths, here + [name]) for (name, part), value in zip(dtype[1], row) if is_kept(paths, here + [name])]
+    return [
+        cut_row(part, value, paths, here + [name])
+        for (name, part), value in zip(dtype[1], row)
+        if is_kept(paths, here + [name])
+    ]
 
 
 def scan(table, paths, predicate):
@@ -408,8 +474,13 @@ def scan(table, paths, predicate):
             if is_selected(dtype, predicate, row):
                 rows.append(row_json(cut_row(dtype, row, paths, [])))
     return {
-        "dtype": type_json(cut_type(dtype, paths, [])), "ok": True, "proofs": len(table["chunks"]) if predicate[0] in TESTS else 0, "rows": rows,
-        "rows_tested": tested, "skipped": skipped, "whole": [],
+        "dtype": type_json(cut_type(dtype, paths, [])),
+        "ok": True,
+        "proofs": len(table["chunks"]) if predicate[0] in TESTS else 0,
+        "rows": rows,
+        "rows_tested": tested,
+        "skipped": skipped,
+        "whole": [],
     }
 
 
@@ -417,7 +488,12 @@ def type_json(dtype):
     kind, fields, nullable = dtype
     if kind != "struct":
         return {"kind": kind, "nullable": nullable}
-    return {"children": [type_json(part) for _, part in fields], "kind": kind, "names": [name for name, _ in fields], "nullable": nullable}
+    return {
+        "children": [type_json(part) for _, part in fields],
+        "kind": kind,
+        "names": [name for name, _ in fields],
+        "nullable": nullable,
+    }
 
 
 def row_json(content):
@@ -463,18 +539,26 @@ def answers(data):
 
 # ---- random sessions
 
+
 def random_kind(chance):
     kinds = list(RANGES) if chance.random() < 0.4 else PLAIN
-    return {"kind": chance.choice(kinds), **({"nullable": chance.random() < 0.5} if chance.random() < 0.7 else {})}
+    return {
+        "kind": chance.choice(kinds),
+        **({"nullable": chance.random() < 0.5} if chance.random() < 0.7 else {}),
+    }
 
 
 def random_record(chance, width, depth):
-    names = chance.sample(["a", "b", "c", "\u00e9", "d\"e"], width)
+    names = chance.sample(["a", "b", "c", "\u00e9", 'd"e'], width)
     if width > 1 and chance.random() < 0.02:
         names[1] = names[0]
     inner = lambda: random_kind(chance)
     if depth:
-        inner = lambda: random_record(chance, chance.choice([0, 1, 1, 2, 2, 3]), depth - 1) if chance.random() < 0.4 else random_kind(chance)
+        inner = (
+            lambda: random_record(chance, chance.choice([0, 1, 1, 2, 2, 3]), depth - 1)
+            if chance.random() < 0.4
+            else random_kind(chance)
+        )
     dtype = {"kind": "struct", "names": names, "children": [inner() for _ in names]}
     if chance.random() < 0.5:
         dtype["nullable"] = True
@@ -484,14 +568,38 @@ def random_record(chance, width, depth):
 def other_kind(chance):
     """A type that tables don't hold, or none at all."""
     child = random_kind(chance)
-    dtype = chance.choice([
-        {"kind": "null", "nullable": True}, {"kind": "null"}, {"kind": "variant"}, {"kind": "f32", "nullable": True},
-        {"kind": "f64"}, {"kind": "decimal", "precision": chance.randint(0, 77), "scale": chance.choice([-76, 0, 76, 77])},
-        {"kind": "list", "children": [child]}, {"kind": "list"}, {"kind": "fixed_size_list", "size": 2, "children": [child]},
-        {"kind": "map", "sorted": False, "children": [child, child]}, {"kind": "union", "names": ["a", "b"], "tags": [0, chance.randint(0, 1)], "children": [child, child]},
-        {"kind": "extension", "id": "x", "children": [child]},
-        {"kind": "extension", "id": "x", "metadata": chance.choice(["", "0aFF", "0"]), "nullable": child.get("nullable", False), "children": [child]},
-    ])
+    dtype = chance.choice(
+        [
+            {"kind": "null", "nullable": True},
+            {"kind": "null"},
+            {"kind": "variant"},
+            {"kind": "f32", "nullable": True},
+            {"kind": "f64"},
+            {
+                "kind": "decimal",
+                "precision": chance.randint(0, 77),
+                "scale": chance.choice([-76, 0, 76, 77]),
+            },
+            {"kind": "list", "children": [child]},
+            {"kind": "list"},
+            {"kind": "fixed_size_list", "size": 2, "children": [child]},
+            {"kind": "map", "sorted": False, "children": [child, child]},
+            {
+                "kind": "union",
+                "names": ["a", "b"],
+                "tags": [0, chance.randint(0, 1)],
+                "children": [child, child],
+            },
+            {"kind": "extension", "id": "x", "children": [child]},
+            {
+                "kind": "extension",
+                "id": "x",
+                "metadata": chance.choice(["", "0aFF", "0"]),
+                "nullable": child.get("nullable", False),
+                "children": [child],
+            },
+        ]
+    )
     return {**dtype, **({"more": 0} if chance.random() < 0.05 else {})}
 
 
@@ -505,15 +613,30 @@ def random_type(chance, width):
 
 
 def alike(chance, dtype):
-    """The same records, of other names, kinds and nullability; mostly so that rows can be converted."""
+    """The same records, of other names, kinds and nullability; mostly so that rows can be
+    converted."""
     if dtype["kind"] in PLAIN:
-        return {**dtype, "nullable": not dtype.get("nullable")} if chance.random() < 0.1 else random_kind(chance) if chance.random() < 0.05 else dtype
+        return (
+            {**dtype, "nullable": not dtype.get("nullable")}
+            if chance.random() < 0.1
+            else random_kind(chance)
+            if chance.random() < 0.05
+            else dtype
+        )
     if dtype["kind"] not in RANGES and dtype["kind"] != "struct":
         return dtype
     if dtype["kind"] != "struct":
-        return {"kind": chance.choice(list(RANGES)), "nullable": True} if chance.random() < 0.3 else dtype
-    names = chance.sample(["a", "b", "c", "\u00e9", "d\"e"], len(dtype["names"]))
-    other = {"kind": "struct", "names": names, "children": [alike(chance, child) for child in dtype["children"]]}
+        return (
+            {"kind": chance.choice(list(RANGES)), "nullable": True}
+            if chance.random() < 0.3
+            else dtype
+        )
+    names = chance.sample(["a", "b", "c", "\u00e9", 'd"e'], len(dtype["names"]))
+    other = {
+        "kind": "struct",
+        "names": names,
+        "children": [alike(chance, child) for child in dtype["children"]],
+    }
     if dtype.get("nullable") or chance.random() < 0.05:
         other["nullable"] = True
     return other
@@ -527,16 +650,42 @@ def random_number(chance, kind):
     return number if low <= number <= high or chance.random() < 0.005 else 0
 
 
-# Of each length the least and the greatest character, the neighbours of those that are no characters, and some plain ones; those that JSON escapes too.
-LETTERS = ["a", "b", "a", "b", "\x7f", "\x80", "\u07ff", "\u0800", "\ud7ff", "\ue000", "\uffff", "\U00010000", "\U0010ffff", "\U0001faa9", "\x00", "\n", "\"", "\\", "/"]
+# Of each length the least and the greatest character, the neighbours of those that are no
+# characters, and some plain ones; those that JSON escapes too.
+LETTERS = [
+    "a",
+    "b",
+    "a",
+    "b",
+    "\x7f",
+    "\x80",
+    "\u07ff",
+    "\u0800",
+    "\ud7ff",
+    "\ue000",
+    "\uffff",
+    "\U00010000",
+    "\U0010ffff",
+    "\U0001faa9",
+    "\x00",
+    "\n",
+    '"',
+    "\\",
+    "/",
+]
 
 
 def random_text(chance):
-    return "".join(chance.choice(LETTERS) for _ in range(chance.choice([0, 1, 1, 2, 2, 3, 4, 7, 20])))
+    return "".join(
+        chance.choice(LETTERS) for _ in range(chance.choice([0, 1, 1, 2, 2, 3, 4, 7, 20]))
+    )
 
 
 def random_bytes(chance):
-    data = bytes(chance.choice([0, 1, 0x61, 0x7f, 0x80, 0xfe, 0xff, 0xff]) for _ in range(chance.choice([0, 1, 1, 2, 2, 3, 4, 7, 20])))
+    data = bytes(
+        chance.choice([0, 1, 0x61, 0x7F, 0x80, 0xFE, 0xFF, 0xFF])
+        for _ in range(chance.choice([0, 1, 1, 2, 2, 3, 4, 7, 20]))
+    )
     digits = data.hex() if chance.random() < 0.8 else data.hex().upper()
     return digits + chance.choice(["0", "g0", "\u00e9", " "]) if chance.random() < 0.005 else digits
 
@@ -553,7 +702,11 @@ def random_value(chance, dtype):
     if dtype.get("nullable") and chance.random() < 0.2:
         return None
     if dtype["kind"] != "struct":
-        return random_leaf(chance, dtype["kind"]) if chance.random() < 0.998 else chance.choice([True, 0, "", "x", "00", [], {}])
+        return (
+            random_leaf(chance, dtype["kind"])
+            if chance.random() < 0.998
+            else chance.choice([True, 0, "", "x", "00", [], {}])
+        )
     value = [random_value(chance, child) for child in dtype["children"]]
     if chance.random() < 0.003:
         value = chance.choice([None, [], {}, "x", 0, value + [0], [[0]] * len(value)])
@@ -576,21 +729,35 @@ def parts_of(dtype, here):
 def random_operand(chance, columns, kinds):
     if chance.random() < 0.55 and columns:
         column = chance.choice(columns)
-        return ["col"] + (column if chance.random() < 0.97 else chance.choice([[], ["zz"], column[:-1], column + column]))
+        return ["col"] + (
+            column
+            if chance.random() < 0.97
+            else chance.choice([[], ["zz"], column[:-1], column + column])
+        )
     kind = chance.choice(kinds) if kinds and chance.random() < 0.95 else "u16"
     dtype = {"kind": kind, "nullable": chance.random() < 0.2}
-    return ["lit", dtype, None if dtype["nullable"] and chance.random() < 0.3 else random_leaf(chance, kind)]
+    return [
+        "lit",
+        dtype,
+        None if dtype["nullable"] and chance.random() < 0.3 else random_leaf(chance, kind),
+    ]
 
 
 def random_scan(chance, dtype):
-    leaves = [(path, part["kind"]) for path, part in parts_of(dtype, []) if part["kind"] != "struct"]
+    leaves = [
+        (path, part["kind"]) for path, part in parts_of(dtype, []) if part["kind"] != "struct"
+    ]
     columns, kinds = [path for path, _ in leaves], [kind for _, kind in leaves]
     if leaves and chance.random() < 0.8:
         # One kind for both sides, so that most scans are accepted.
         kind = chance.choice(kinds)
         columns = [path for path, other in leaves if other == kind]
         kinds = [kind]
-    where = [chance.choice(list(TESTS)), random_operand(chance, columns, kinds), random_operand(chance, columns, kinds)]
+    where = [
+        chance.choice(list(TESTS)),
+        random_operand(chance, columns, kinds),
+        random_operand(chance, columns, kinds),
+    ]
     if chance.random() < 0.03:
         where = where[1]
     paths = [path for path, _ in parts_of(dtype, [])]
@@ -608,7 +775,13 @@ def random_session(chance):
         roll = chance.random()
         if roll < 0.08 or not lines:
             dtype = random_type(chance, chance.randint(0, 4))
-            lines.append({"cmd": "create", "dtype": dtype, "length": chance.choice([0, 1, 2, 3, 4, 5, 16, 2**64 - 1])})
+            lines.append(
+                {
+                    "cmd": "create",
+                    "dtype": dtype,
+                    "length": chance.choice([0, 1, 2, 3, 4, 5, 16, 2**64 - 1]),
+                }
+            )
         elif roll < 0.5:
             batch = dtype if chance.random() < 0.6 else alike(chance, dtype)
             if chance.random() < 0.05:
@@ -616,7 +789,9 @@ def random_session(chance):
             lines.append({"cmd": "append", "dtype": batch, "rows": random_rows(chance, batch)})
         else:
             lines.append(random_scan(chance, dtype))
-    return "".join(json.dumps(line, ensure_ascii=chance.random() < 0.5) + "\n" for line in lines).encode()
+    return "".join(
+        json.dumps(line, ensure_ascii=chance.random() < 0.5) + "\n" for line in lines
+    ).encode()
 
 
 def main():

@@ -1,12 +1,18 @@
 #!/usr/bin/env python3
 """Finds written answers that make the check of a crate faster, and writes them into the crate.
 
-answers.py CRATE [SECONDS]    at the top of the repository, with the libraries below the crate built, as `rt check CRATE` leaves them
+answers.py CRATE [SECONDS]    at the top of the repository, with the libraries below the crate
+built, as `rt check CRATE` leaves them
 
-At a goal with no answer the check tries one call of a tactic after another. The first ones walk over each form of a type, so even the call that closes the goal can take seconds, where another takes none. Each function whose goals took over
-SECONDS (2, where none are given) is tried with a written answer for each goal that one call closes, in two orders of the calls; it keeps what is faster by a second at least, and else leaves the function as it was. The crate is checked
-whole two or three times, since times are compared: nothing else should run on the machine meanwhile, but for the same tool on other crates with a processor for each. What it wrote is seen by `git diff`.
+At a goal with no answer the check tries one call of a tactic after another. The first ones walk
+over each form of a type, so even the call that closes the goal can take seconds, where another
+takes none. Each function whose goals took over SECONDS (2, where none are given) is tried with a
+written answer for each goal that one call closes, in two orders of the calls; it keeps what is
+faster by a second at least, and else leaves the function as it was. The crate is checked whole two or three times, by one job, and processor
+seconds are compared, which other work on the machine changes little. What it wrote is seen by
+`git diff`.
 """
+import bisect
 import importlib.machinery
 import os
 import re
@@ -14,6 +20,7 @@ import shutil
 import subprocess
 import sys
 import tempfile
+import time
 
 sys.dont_write_bytecode = True
 COMMON = "Rattle.std.proofs.Common"
@@ -26,7 +33,9 @@ FASTER = 1.0
 
 def load():
     """The kit's own `rt`, whose words for a check are used here."""
-    return importlib.machinery.SourceFileLoader("rt", os.path.realpath(shutil.which("rt"))).load_module()
+    return importlib.machinery.SourceFileLoader(
+        "rt", os.path.realpath(shutil.which("rt"))
+    ).load_module()
 
 
 class Tried:
@@ -38,9 +47,16 @@ class Tried:
         self.lib.guarded()
         self.crate = next(it for it in self.lib.crates_below(os.getcwd()) if it.name == name)
         self.room = tempfile.mkdtemp(prefix="answers-")
-        self.copy, self.kept, self.printed = (os.path.join(self.room, it) for it in ("crate", "kept", "printed"))
-        shutil.copytree(self.crate.folder, self.copy, ignore=shutil.ignore_patterns("out", "must-fail"))
-        self.own = {self.function_of(path): text_of(path) for path in files_named("Answers.antt", os.path.join(self.copy, "proofs"))}
+        self.copy, self.kept, self.printed = (
+            os.path.join(self.room, it) for it in ("crate", "kept", "printed")
+        )
+        shutil.copytree(
+            self.crate.folder, self.copy, ignore=shutil.ignore_patterns("out", "must-fail")
+        )
+        self.own = {
+            self.function_of(path): text_of(path)
+            for path in files_named("Answers.antt", os.path.join(self.copy, "proofs"))
+        }
 
     def function_of(self, path):
         return os.path.relpath(os.path.dirname(path), os.path.join(self.copy, "proofs"))
@@ -50,18 +66,29 @@ class Tried:
 
     def check(self, *flags):
         words = self.crate.words(["--jobs", "1"], keeps=False)
-        ran = subprocess.run([*self.lib.guarded(), self.lib.RATTLE, "check", *words, "--incremental", self.kept, *flags], cwd=self.copy, stdin=subprocess.DEVNULL, stdout=subprocess.PIPE, stderr=subprocess.STDOUT, errors="replace")
-        return ran.stdout
+        words = [self.lib.RATTLE, "check", *words, "--incremental", self.kept, *flags]
+        with tempfile.TemporaryFile("w+", errors="replace") as said:
+            how = {"stdin": subprocess.DEVNULL, "stdout": said, "stderr": subprocess.STDOUT}
+            ran = subprocess.Popen([*self.lib.guarded(), *words], cwd=self.copy, **how)
+            self.clock = clock_of(ran)
+            said.seek(0)
+            return said.read()
 
     def times(self):
-        """The seconds that each function's goals took, by when the files of a check from nothing were written."""
-        files = sorted((os.stat(path).st_mtime, os.path.basename(path)) for path in files_named("", self.kept))
+        """The processor seconds that each function's goals took in the last check, by when their
+        files were written."""
+        files = sorted(
+            (os.stat(path).st_mtime, os.path.basename(path)) for path in files_named("", self.kept)
+        )
         took = {}
         for (before, _), (at, name) in zip(files, files[1:]):
-            found = re.match(r"Rattle-%s-proofs\.(.*)\.(Proof|Answers)(\.decls)?\.oantt$" % self.name, name)
+            found = re.match(
+                r"Rattle-%s-proofs\.(.*)\.(Proof|Answers)(\.decls)?\.oantt$" % self.name, name
+            )
             if found:
                 function = found.group(1).replace(".", "/")
-                took[function] = took.get(function, 0.0) + at - before
+                spent = spent_by(self.clock, at) - spent_by(self.clock, before)
+                took[function] = took.get(function, 0.0) + spent
         return took
 
     def times_anew(self):
@@ -75,27 +102,65 @@ class Tried:
         if not os.path.exists(file):
             return {}
         answered = set(re.findall(r"^(?:abbrev )?pub (\S+) :", self.own.get(function, ""), re.M))
-        return {goal: found for goal, found in goals_in(text_of(file)).items() if goal not in answered}
+        return {
+            goal: found for goal, found in goals_in(text_of(file)).items() if goal not in answered
+        }
 
     def write(self, function, goals, answers):
         """Writes the function's own answers and these."""
         text = self.own.get(function, "")
         if answers:
-            text = with_answers(text, "Rattle.%s.proofs.%s.Goals" % (self.name, function.replace("/", ".")), {goal: (goals[goal][0], *call) for goal, call in answers.items()})
+            text = with_answers(
+                text,
+                "Rattle.%s.proofs.%s.Goals" % (self.name, function.replace("/", ".")),
+                {goal: (goals[goal][0], *call) for goal, call in answers.items()},
+            )
         put(self.file_of(function), text)
 
     def refused(self, said):
-        """The goals whose answers the check refused, and a goal None for a file that it could not read."""
+        """The goals whose answers the check refused, and a goal None for a file that it could not
+        read."""
         found = set()
-        for path, line in re.findall(r"^(?:note: )?(?:\./)?proofs/(\S+)/Answers\.antt:(\d+):\d+: .*error", said, re.M):
+        for path, line in re.findall(
+            r"^(?:note: )?(?:\./)?proofs/(\S+)/Answers\.antt:(\d+):\d+: .*error", said, re.M
+        ):
             above = text_of(self.file_of(path)).split("\n")[: int(line)]
-            names = [it.group(1) for it in (re.match(r"(?:abbrev )?pub (\S+) :", row) for row in above) if it]
+            names = [
+                it.group(1)
+                for it in (re.match(r"(?:abbrev )?pub (\S+) :", row) for row in above)
+                if it
+            ]
             found.add((path, names[-1] if names else None))
         return found
 
 
+def clock_of(process):
+    """Waits for the process. Answers, in order, moments and the processor seconds spent by then."""
+    ticks, clock = os.sysconf("SC_CLK_TCK"), [(0.0, 0.0)]
+    while process.poll() is None:
+        with open("/proc/%d/stat" % process.pid) as it:
+            parts = it.read().rpartition(")")[2].split()
+        clock.append((time.time(), (int(parts[11]) + int(parts[12])) / ticks))
+        time.sleep(0.05)
+    return clock
+
+
+def spent_by(clock, moment):
+    """The processor seconds spent by a moment, read off between the two next to it."""
+    at = bisect.bisect(clock, (moment,))
+    if at in (0, len(clock)):
+        return clock[at - 1][1]
+    (before, spent), (after, all_spent) = clock[at - 1], clock[at]
+    return spent + (all_spent - spent) * (moment - before) / (after - before)
+
+
 def files_named(name, folder):
-    return [os.path.join(at, it) for at, _, files in os.walk(folder) for it in files if it == name or not name]
+    return [
+        os.path.join(at, it)
+        for at, _, files in os.walk(folder)
+        for it in files
+        if it == name or not name
+    ]
 
 
 def text_of(path):
@@ -120,19 +185,35 @@ def put(path, text):
 def goals_in(text):
     """The goals of a printed proof for which the check has a list of calls."""
     whole, bare = {}, {}
-    for module, names, path, other in re.findall(r"^use (\S+?)(?:\.\{([^}]*)\}|()| as (\S+))$", text, re.M):
+    for module, names, path, other in re.findall(
+        r"^use (\S+?)(?:\.\{([^}]*)\}|()| as (\S+))$", text, re.M
+    ):
         if names:
-            bare.update({it.strip().split(" as ")[-1]: (module, it.strip().split(" as ")[0]) for it in names.split(",")})
+            bare.update(
+                {
+                    it.strip().split(" as ")[-1]: (module, it.strip().split(" as ")[0])
+                    for it in names.split(",")
+                }
+            )
         else:
             whole[other or module.split(".")[-1]] = module
     lines, found = text.split("\n"), {}
-    begins = [it for it, line in enumerate(lines) if re.match(r"\s*[^\s=()]+ (?:[^\s:()→]+ )*=( |$)", line) and not line.lstrip().startswith(("let ", "use ", "--"))]
+    begins = [
+        it
+        for it, line in enumerate(lines)
+        if re.match(r"\s*[^\s=()]+ (?:[^\s:()→]+ )*=( |$)", line)
+        and not line.lstrip().startswith(("let ", "use ", "--"))
+    ]
     stated = [it for it, line in enumerate(lines) if re.match(r"\s*(pub )?[^\s=()]+ :( |$)", line)]
     for at in begins:
         goal, arguments = re.match(r"\s*([^\s=()]+) ((?:[^\s=:()→]+ )*)=", lines[at]).groups()
-        body = "\n".join(lines[at : min([it for it in begins + stated if it > at], default=len(lines))])
+        body = "\n".join(
+            lines[at : min([it for it in begins + stated if it > at], default=len(lines))]
+        )
         if arguments and "first_of (" in body:
-            found[goal] = arguments.strip(), [named(it, whole, bare) for it in calls_in(body[body.index("first_of (") :])]
+            found[goal] = arguments.strip(), [
+                named(it, whole, bare) for it in calls_in(body[body.index("first_of (") :])
+            ]
     return found
 
 
@@ -168,7 +249,10 @@ def plain(call):
         else:
             parts[-1] += letter
     parts = [it.strip() for it in parts]
-    return "%s (%s)" % (word, ", ".join(it for it in parts if re.fullmatch(r"[^\s()]+|\(as_err c\.[^\s()]+\)\.1", it)))
+    return "%s (%s)" % (
+        word,
+        ", ".join(it for it in parts if re.fullmatch(r"[^\s()]+|\(as_err c\.[^\s()]+\)\.1", it)),
+    )
 
 
 def named(call, whole, bare):
@@ -182,7 +266,9 @@ def named(call, whole, bare):
         if name == "arith":
             imports.append((COMMON, name))
         elif name == "the_lemmas":
-            as_name = {"TheTie": "laws"}.get(module.split(".")[-1]) or re.sub(r"(?<=[a-z])(?=[A-Z])", "_", module.split(".")[-2]).lower() + "_folds"
+            as_name = {"TheTie": "laws"}.get(module.split(".")[-1]) or re.sub(
+                r"(?<=[a-z])(?=[A-Z])", "_", module.split(".")[-2]
+            ).lower() + "_folds"
             imports.append((module + " as", as_name))
             return "%s.%s" % (as_name, name)
         else:
@@ -191,7 +277,9 @@ def named(call, whole, bare):
 
     call = re.sub(r"(?<![\w.])([A-Z][\w']*)\.([^\s,()]+)", short, call)
     for name in BARE:
-        if re.search(r"(?<![\w.])%s(?![\w.])" % name, call) and not any(it == name for _, it in imports):
+        if re.search(r"(?<![\w.])%s(?![\w.])" % name, call) and not any(
+            it == name for _, it in imports
+        ):
             imports.append((COMMON, name) if name == "rules" else bare.get(name, (COMMON, name)))
     return call, tuple(imports)
 
@@ -200,7 +288,9 @@ def with_answers(text, goals_module, answers):
     """A file of answers with these added: goal to arguments, call and imports."""
     lines = text.split("\n")
     count = next((at for at, line in enumerate(lines) if not line.startswith("use ")), len(lines))
-    uses, body = [it for it in lines[:count] if not it.startswith("use %s as" % goals_module)], "\n".join(lines[count:]).strip("\n")
+    uses, body = [
+        it for it in lines[:count] if not it.startswith("use %s as" % goals_module)
+    ], "\n".join(lines[count:]).strip("\n")
     wanted = {}
     for _, _, imports in answers.values():
         for module, name in imports:
@@ -212,21 +302,44 @@ def with_answers(text, goals_module, answers):
             continue
         had = [it for it in uses if it.startswith("use %s.{" % module)]
         known = [it.strip() for line in had for it in line.split("{")[1].rstrip("}").split(",")]
-        uses = [*(it for it in uses if it not in had), "use %s.{%s}" % (module, ", ".join([*known, *(it for it in names if it not in known)]))]
-    uses.sort(key=lambda it: (not it.startswith("use %s." % COMMON), not it.startswith("use Rattle.std.")))
-    written = ["pub %s : goal.%s\n%s %s = %s" % (goal, goal, goal, arguments, call) for goal, (arguments, call, _) in answers.items()]
-    return "\n\n".join(["\n".join([*uses, "use %s as goal" % goals_module]), *([body] if body else []), *written]) + "\n"
+        uses = [
+            *(it for it in uses if it not in had),
+            "use %s.{%s}" % (module, ", ".join([*known, *(it for it in names if it not in known)])),
+        ]
+    uses.sort(
+        key=lambda it: (not it.startswith("use %s." % COMMON), not it.startswith("use Rattle.std."))
+    )
+    written = [
+        "pub %s : goal.%s\n%s %s = %s" % (goal, goal, goal, arguments, call)
+        for goal, (arguments, call, _) in answers.items()
+    ]
+    return (
+        "\n\n".join(
+            [
+                "\n".join([*uses, "use %s as goal" % goals_module]),
+                *([body] if body else []),
+                *written,
+            ]
+        )
+        + "\n"
+    )
 
 
 def closed(tried, goals, orders):
     """For each function, the goals that a call of its order closes, with the first that does."""
-    found, left = {it: {} for it in goals}, {(function, goal) for function in goals for goal in goals[function]}
+    found, left = {it: {} for it in goals}, {
+        (function, goal) for function in goals for goal in goals[function]
+    }
     for turn in range(4):
         calls = {key: orders[key][turn] for key in left if turn < len(orders[key])}
         if not calls:
             break
         for function in goals:
-            tried.write(function, goals[function], {goal: calls.get((function, goal), ("?", ())) for goal in goals[function]})
+            tried.write(
+                function,
+                goals[function],
+                {goal: calls.get((function, goal), ("?", ())) for goal in goals[function]},
+            )
         refused = tried.refused(tried.check("--allow-holes"))
         for function, goal in calls:
             if not refused & {(function, goal), (function, None)}:
@@ -236,9 +349,17 @@ def closed(tried, goals, orders):
 
 
 def orders_of(goals, is_short):
-    """The calls to try at each goal, in order: those of `grind` that the check would try, below the short search or without it."""
-    calls = {(function, goal): [it for it in goals[function][goal][1] if it[0].startswith("grind")] for function in goals for goal in goals[function]}
-    return {key: list(dict.fromkeys([*([SHORT] if is_short else []), *found])) for key, found in calls.items()}
+    """The calls to try at each goal, in order: those of `grind` that the check would try, below the
+    short search or without it."""
+    calls = {
+        (function, goal): [it for it in goals[function][goal][1] if it[0].startswith("grind")]
+        for function in goals
+        for goal in goals[function]
+    }
+    return {
+        key: list(dict.fromkeys([*([SHORT] if is_short else []), *found]))
+        for key, found in calls.items()
+    }
 
 
 def main(name, seconds=2.0):
@@ -247,7 +368,9 @@ def main(name, seconds=2.0):
     before = tried.times()
     if not before:
         sys.exit(said[-2000:])
-    goals = {function: tried.goals(function) for function, took in before.items() if took >= seconds}
+    goals = {
+        function: tried.goals(function) for function, took in before.items() if took >= seconds
+    }
     goals = {function: found for function, found in goals.items() if found}
     best = {function: (before[function], {}) for function in goals}
     for is_short in (True, False):
@@ -257,14 +380,39 @@ def main(name, seconds=2.0):
             tried.write(function, goals[function], found.get(function) or best[function][1])
         after = tried.times_anew() if any(found.values()) else {}
         for function in slow:
-            print("%s: %s: %.1f s, %.1f with answers for %d of %d goals" % (name, function, before[function], after.get(function, 0.0), len(found[function]), len(goals[function])), flush=True)
-            if found[function] and after.get(function, before[function]) < best[function][0] - FASTER:
+            print(
+                "%s: %s: %.1f s, %.1f with answers for %d of %d goals"
+                % (
+                    name,
+                    function,
+                    before[function],
+                    after.get(function, 0.0),
+                    len(found[function]),
+                    len(goals[function]),
+                ),
+                flush=True,
+            )
+            if (
+                found[function]
+                and after.get(function, before[function]) < best[function][0] - FASTER
+            ):
                 best[function] = after[function], found[function]
     for function, (took, answers) in best.items():
         tried.write(function, goals[function], answers)
-        put(os.path.join(tried.crate.folder, "proofs", function, "Answers.antt"), text_of(tried.file_of(function)) if os.path.exists(tried.file_of(function)) else "")
+        put(
+            os.path.join(tried.crate.folder, "proofs", function, "Answers.antt"),
+            text_of(tried.file_of(function)) if os.path.exists(tried.file_of(function)) else "",
+        )
     said = tried.check()
-    print("%s: %d answers, %.0f s less, %s" % (name, sum(len(it) for _, it in best.values()), sum(before[it] - took for it, (took, _) in best.items()), "proved" if "logic=proved" in said else "NOT PROVED"))
+    print(
+        "%s: %d answers, %.0f s less, %s"
+        % (
+            name,
+            sum(len(it) for _, it in best.values()),
+            sum(before[it] - took for it, (took, _) in best.items()),
+            "proved" if "logic=proved" in said else "NOT PROVED",
+        )
+    )
     shutil.rmtree(tried.room)
 
 
