@@ -1,4 +1,5 @@
 pub mod Checks
 pub mod Classes
+mod FormedLiterals
 pub mod Items
 pub mod Truths

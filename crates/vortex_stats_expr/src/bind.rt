@@ -4,9 +4,10 @@
 ghost use Rattle.std.specs.Prelude.{◌≡◌, IfOk, IfErr, OnOk, option_map, None, true};
 ghost use Rattle.vortex_model.specs.LogicalType.{LogicalType};
 ghost use Rattle.vortex_model.specs.Content.{Content};
-ghost use Rattle.vortex_model.specs.Expression.{literal, column};
+ghost use Rattle.vortex_model.specs.Expression.{literal, column, HasFormedLiterals};
 ghost use Rattle.vortex_model.specs.Path.{positions};
 ghost use Rattle.vortex_model.specs.Truth.{value_at};
+ghost use Rattle.vortex_model.specs.Valid.{IsContent};
 ghost use Rattle.vortex_model.specs.Command.{predicate_fault};
 ghost use Rattle.vortex_model.specs.Pruning.{has_no_like};
 ghost use Rattle.vortex_dtype_core.specs.View.{type_of};
@@ -84,6 +85,7 @@ pub fn bind(alloc: Global, e: &Expression, dtype: &DType) -> Result<BoundExpress
         ≡ value_at (type_of dtype.now) e.now row) }
     // Nothing that makes a predicate makes a LIKE.
     ensures no_like { OnOk result (has_no_like e.now ≡ true) }
+    ensures formed { OnOk result (HasFormedLiterals e.now) }
 {
     match check(dtype, e)? {
         Leaf::Bool => Ok(resolve(alloc, dtype, e)?),
@@ -177,9 +179,10 @@ fn check_truths(left: Leaf, right: Leaf) -> Result<Leaf, PredicateError>
 fn resolve(alloc: Global, dtype: &DType, e: &Expression) -> Result<BoundExpression, AllocError>
     ensures tree { IfOk result (λ bound. bound ≡ bound_of (type_of dtype.now) e.now) }
     ensures no_like { OnOk result (has_no_like e.now ≡ true) }
+    ensures formed { OnOk result (HasFormedLiterals e.now) }
 {
     match &e.node {
-        Node::Literal(value) => literal_of(value),
+        Node::Literal(value) => resolve_literal(value),
         Node::Column(path) => resolve_column(alloc, dtype, path),
         Node::Compare(comparison, x, y) => {
             let (left, right) = resolve_both(alloc, dtype, x, y)?;
@@ -193,9 +196,12 @@ fn resolve(alloc: Global, dtype: &DType, e: &Expression) -> Result<BoundExpressi
             let (left, right) = resolve_both(alloc, dtype, x, y)?;
             bound_or(alloc, left, right)
         }
-        Node::Stat(_, _) => Ok(BoundExpression {
-            node: BoundNode::Literal(None),
-        }),
+        Node::Stat(_, x) => {
+            resolve(alloc, dtype, x)?;
+            Ok(BoundExpression {
+                node: BoundNode::Literal(None),
+            })
+        }
     }
 }
 
@@ -210,14 +216,18 @@ fn resolve_both(
     ensures right { IfOk result (λ both. both.1 ≡ bound_of (type_of dtype.now) right.now) }
     ensures no_like { OnOk result (has_no_like left.now ≡ true) }
     ensures no_like_right { OnOk result (has_no_like right.now ≡ true) }
+    ensures formed { OnOk result (HasFormedLiterals left.now) }
+    ensures formed_right { OnOk result (HasFormedLiterals right.now) }
 {
     let first = resolve(alloc, dtype, left)?;
     let second = resolve(alloc, dtype, right)?;
     Ok((first, second))
 }
 
-fn literal_of(value: &Scalar) -> Result<BoundExpression, AllocError>
-    ensures { IfOk result (λ bound. bound ≡ fixed (scalar_content value.now)) }
+#[tactic(auto, using(crate::proofs::FormedLiterals::valid_is_formed))]
+fn resolve_literal(value: &Scalar) -> Result<BoundExpression, AllocError>
+    ensures tree { IfOk result (λ bound. bound ≡ fixed (scalar_content value.now)) }
+    ensures formed { OnOk result (IsContent (scalar_type value.now) (scalar_content value.now)) }
 {
     let value = clone_value(value.value())?;
     Ok(BoundExpression {
