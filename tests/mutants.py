@@ -30,7 +30,6 @@ import importlib.util
 import json
 import os
 import re
-import resource
 import shutil
 import subprocess
 import sys
@@ -132,8 +131,14 @@ class Kit:
         only = [word for it in functions for word in ("--only", it)]
         kept = ["--incremental", kept]
         words = [*self.guarded(), self.rattle, "check", *self.words[crate.name], *kept, *only]
-        how = {"stdout": subprocess.PIPE, "stderr": subprocess.STDOUT, "errors": "replace"}
-        return subprocess.run(words, cwd=copy, stdin=subprocess.DEVNULL, **how).stdout
+        with tempfile.TemporaryFile("w+", errors="replace") as said:
+            how = {"stdin": subprocess.DEVNULL, "stdout": said, "stderr": subprocess.STDOUT}
+            ran = subprocess.Popen(words, cwd=copy, **how)
+            used = os.wait4(ran.pid, 0)[2]
+            ran.returncode = 0
+            crate.seconds += used.ru_utime + used.ru_stime
+            said.seek(0)
+            return said.read()
 
     def ends(self, said):
         """How many functions a check was asked for and proved, or None, and its last line."""
@@ -169,6 +174,8 @@ class Crate:
         self.name, self.uses = name, uses
         self.folder = os.path.join(TOP, "crates", name)
         self.below = []
+        # The processor seconds of its checks in this run.
+        self.seconds = 0.0
 
     def edits(self):
         folder = os.path.join(self.folder, FOLDER)
@@ -428,8 +435,9 @@ def main():
             for name, why in found:
                 print("mutants %s/%s: %s" % (crate.name, name, why or WELL), flush=True)
                 passed, failed = passed + (not why), failed + bool(why)
-    used = resource.getrusage(resource.RUSAGE_CHILDREN)
-    minutes = (used.ru_utime + used.ru_stime) / 60
+            if count:
+                print("mutants %s: %.0f processor seconds" % (crate.name, crate.seconds), flush=True)
+    minutes = sum(it.seconds for it in crates) / 60
     of = "%d of %d wrong bodies were tried in this run" % (new, passed + failed)
     print("mutants: %s, in %.1f processor minutes; the others are kept" % (of, minutes))
     print("%d passed, %d failed" % (passed, failed))
