@@ -24,22 +24,22 @@ record_named x i = struct (field x (integer_type i non_nullable) no_fields) non_
 abbrev row_of : ℕ → Content
 row_of n = tuple (first (integer (pos n)) nothing)
 
-abbrev a : Expression
+abbrev pub a : Expression
 a = column (codes "a" ∷ [])
 
 abbrev number : ℕ → Expression
 number n = literal (integer_type i32 non_nullable) (integer (pos n))
 
-abbrev low_chunk : List Content
+abbrev pub low_chunk : List Content
 low_chunk = row_of 1 ∷ row_of 9 ∷ []
 
 abbrev high_chunk : List Content
 high_chunk = row_of 5 ∷ row_of 30 ∷ []
 
-abbrev table : Table
+abbrev pub table : Table
 table = record { kind = record_named (codes "a") i32; default = 16; lengths = []; chunks = low_chunk ∷ low_chunk ∷ high_chunk ∷ []; groups = 2 ∷ 1 ∷ [] }
 
-abbrev above_20 : Expression
+abbrev pub above_20 : Expression
 above_20 = compare greater a (number 20)
 
 -- ---- groups, and counts
