@@ -1,9 +1,11 @@
 //! Types of columns: what values a column may have, paths to their parts, and how they cross a
 //! boundary.
 //!
-//! The layer stands in eight crates, and this one gathers their items, as a reader of types alone
+//! The layer stands in seven crates, and this one gathers their items, as a reader of types alone
 //! takes them.
 #![tactic(auto)]
+
+pub mod laws;
 
 pub use vortex_dtype_core::dtype::DType;
 pub use vortex_dtype_core::extension::ExtDTypeRef;
@@ -23,9 +25,10 @@ pub use vortex_dtype_fields::variants_iter::VariantsIter;
 pub use vortex_dtype_native::downcast::{PTypeDowncast, PTypeDowncastExt, PTypeUpcast};
 pub use vortex_dtype_native::little_endian::{ToBytes, TryFromBytes};
 pub use vortex_dtype_native::native::{
-    IntegerPType, NativePType, OffsetBuilderPType, PhysicalPType, UnsignedPType,
+    IntegerPType, NativePType, OffsetBuilderPType, PhysicalPType, UnsignedPType, offsets,
 };
 pub use vortex_dtype_native::native_dtype::NativeDType;
+pub use vortex_dtype_native::private::Sealed;
 pub use vortex_dtype_native::{
     match_each_integer_ptype, match_each_native_ptype, match_each_signed_integer_ptype,
     match_each_unsigned_integer_ptype,

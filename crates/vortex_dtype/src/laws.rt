@@ -1,0 +1,14 @@
+//! Laws of types. Those over definitions are functions without arguments, whose clauses are the
+//! laws. The others make the calls that the law speaks of, and answer what each of them gave.
+pub use vortex_dtype_fields::laws::{
+    equal_types_are_fed_alike, equality_ignoring_nullability_is_an_equivalence,
+    fitting_is_reflexive, fitting_is_transitive, projections_have_the_names, tags_lead_back,
+};
+pub use vortex_dtype_path::laws::{
+    beginnings_exist, coverage_tells_iteration, coverage_tells_outermost, equal_paths_pass,
+    equal_steps_pass, field_path_is_of_its_names, outermost_are_needed, outermost_cover_all,
+    overlaps_are_shared, resolving_goes_on,
+};
+pub use vortex_dtype_proto::laws::{
+    read_types_are_read_again, written_trees_read_alike, written_types_are_read,
+};
