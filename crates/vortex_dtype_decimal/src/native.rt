@@ -1,4 +1,4 @@
-//! The machine's integers as values of decimals.
+//! Native integers as values of decimals.
 ghost use Rattle.std.specs.Prelude.{◌≡◌, ◌≤◌, ℤ};
 ghost use Rattle.std.proofs.Common.{lit≤};
 ghost use Rattle.vortex_dtype_decimal.specs.declared.decimal_type.DecimalType.{DecimalType};
@@ -7,7 +7,7 @@ ghost use Rattle.vortex_dtype_decimal.specs.DecimalValues.{bits_of};
 
 use crate::decimal_type::DecimalType;
 
-/// An integer of the machine that stores decimals, as Vortex's `NativeDecimalType`.
+/// A native integer that stores decimals, as Vortex's `NativeDecimalType`.
 pub trait NativeDecimalType: Copy + Drop {
     // The integers that it is one of.
     ghost stored: { DecimalType };

@@ -1,4 +1,4 @@
-//! The shape of decimals that an integer of the machine stores.
+//! The shape of decimals that a native integer stores.
 ghost use Rattle.std.specs.Prelude.{⊤, ◌≡◌, ◌<◌, ◌^◌, ◌↔◌, IsTrue, IfOk, OnOk, IfErr, false, unsigned_abs};
 ghost use Rattle.vortex_dtype_ptype.specs.declared.error.DTypeError.TheVariants.{DecimalShape};
 ghost use Rattle.vortex_dtype_decimal.specs.DecimalValues.{is_held_shape};

@@ -1,4 +1,4 @@
-//! The types of the machine's own values.
+//! The types of native values.
 #![tactic(auto)]
 
 pub mod by_kind;

@@ -1,4 +1,4 @@
-//! Integers of the machine as bytes, the least first.
+//! Native integers as bytes, the least first.
 ghost use Rattle.std.specs.Prelude.{◌≡◌, take, drop, length, IfOk, IfErr};
 ghost use Rattle.vortex_dtype_ptype.specs.declared.error.DTypeError.TheVariants.{Length};
 ghost use Rattle.vortex_dtype_ptype.specs.Numbers.{integral, HasByteWidth};

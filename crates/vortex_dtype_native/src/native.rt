@@ -1,4 +1,4 @@
-//! The integers of the machine, one trait for all and one for those of each use.
+//! Native integers, one trait for all and one for those of each use.
 ghost use Rattle.std.specs.Prelude.{◌≡◌, ◌↔◌, true, refl, unsigned_abs, is_some, IfSome, IsTrue};
 ghost use Rattle.std.specs.Ordering.{int_cmp};
 ghost use Rattle.std.proofs.Common.{ap};
@@ -13,7 +13,7 @@ use num_traits::{PrimInt, Unsigned};
 use std::cmp::Ordering;
 use vortex_dtype_ptype::ptype::PType;
 
-/// An integer of the machine, as Vortex's `NativePType`. Floats are no native type here: they are
+/// A native integer, as Vortex's `NativePType`. Floats are no native type here: they are
 /// names alone.
 pub trait NativePType: Copy + Drop + ToBytes + TryFromBytes {
     /// The kind of integers that it is one of.

@@ -1,8 +1,8 @@
-//! What contracts see of an integer of the machine. Nobody else implements it.
+//! What contracts see of a native integer. Nobody else implements it.
 ghost use Rattle.std.specs.Prelude.{ℤ, pos};
 ghost use Rattle.vortex_model.specs.LogicalType.{IntKind, u8, u16, u32, u64, i8, i16, i32, i64};
 
-/// An integer of the machine.
+/// A native integer.
 pub trait Sealed: Sized {
     // The kind of integers that it is one of.
     ghost kind: { IntKind };

@@ -1,4 +1,4 @@
-//! Makers of values with their type.
+//! Constructors of values with their type.
 ghost use Rattle.std.specs.Prelude.{◌≡◌, IsUtf8, is_ok, IfOk, OnOk, IfErr};
 ghost use Rattle.vortex_model.specs.LogicalType.{LogicalType, boolean_type, integer_type, utf8, binary, list, variant, non_nullable, nullable, with_nullability, eq_type};
 ghost use Rattle.vortex_model.specs.Content.{Raw, raw_null, raw_boolean, raw_number, raw_text, raw_byte_string, raw_tuple, raw_scalar, no_raws};
@@ -26,7 +26,7 @@ use vortex_scalar_core::scalar::Scalar;
 use vortex_scalar_value::error::ScalarError;
 use vortex_scalar_value::pvalue::PValue;
 
-/// Makers of a value with its type, as those of Vortex's `Scalar`. No value that a maker is given
+/// Constructors of a value with its type, as those of Vortex's `Scalar`. No value that one is given
 /// is null, but for those with a type of their own.
 pub trait ScalarConstructors {
     ghost kind: { Self → LogicalType };

@@ -1,4 +1,4 @@
-//! Makers of nested values with their type.
+//! Constructors of nested values with their type.
 ghost use Rattle.std.specs.Prelude.{◌≡◌, ◌≢◌, ◌&&◌, true, false, IfOk, IfErr, IsTrue, map, length, nat_le};
 ghost use Rattle.vortex_model.specs.LogicalType.{LogicalType, list, fixed_list, mapping, union, extension};
 ghost use Rattle.vortex_model.specs.Content.{Raw, raw_tuple, raw_tagged};
@@ -26,9 +26,9 @@ use vortex_scalar_value::error::ScalarError;
 use vortex_scalar_value::scalar_value::ScalarValue;
 use vortex_scalar_value::union_value::UnionValue;
 
-/// Makers of a nested value of its parts, as those of Vortex's `Scalar`. Each moves its parts and
-/// copies none, and takes time linear in their count and in their types. `Memory` says that there
-/// was no memory.
+/// Constructors of a nested value of its parts, as those of Vortex's `Scalar`. Each moves its parts
+/// and copies none, and takes time linear in their count and in their types. `Memory` says that
+/// there was no memory.
 pub trait NestedScalarConstructors {
     ghost kind: { Self → LogicalType };
 
