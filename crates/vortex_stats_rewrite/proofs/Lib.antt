@@ -1,3 +1,4 @@
 pub mod Falsifiers
 pub mod Placeholders
 pub mod TruthLiterals
+pub mod Views

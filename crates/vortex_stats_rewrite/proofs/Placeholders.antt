@@ -155,3 +155,5 @@ pub float_by_class : (c : Option TypeClass) (o : Option LogicalType) → IsClass
 float_by_class None None h = refl
 float_by_class (Some c) (Some k) h = float_of c k h
 float_by_class c o h = absurd h
+
+pub ruleset classes = (placeholder_class, no_placeholder)

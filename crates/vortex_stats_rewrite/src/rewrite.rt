@@ -105,7 +105,7 @@ pub fn satisfy(
 }
 
 // A literal truth value, of the type without null.
-#[tactic(auto, using(vortex_dtype_core::proofs::Views::one_level, vortex_scalar_value::proofs::Views::one_level))]
+#[tactic(auto, using(crate::proofs::Views::one_level))]
 fn truth(value: bool) -> Expression
     ensures { result ≡ boolean_literal value }
 {
@@ -317,7 +317,7 @@ fn no_nan(alloc: Global, guard: NanGuard, e: &Expression) -> Result<Expression, 
 }
 
 // The literal count 0.
-#[tactic(auto, using(vortex_dtype_core::proofs::Views::one_level, vortex_scalar_value::proofs::Views::one_level))]
+#[tactic(auto, using(crate::proofs::Views::one_level))]
 fn no_rows() -> Expression
     ensures { result ≡ count_literal 0 }
 {

@@ -97,7 +97,7 @@ fn bind_stat<B: StatBinder>(
     }
 }
 
-#[tactic(auto, using(vortex_dtype_core::proofs::Views::one_level, vortex_scalar_value::proofs::Views::one_level))]
+#[tactic(auto, using(crate::proofs::Views::one_level))]
 fn missing_stat() -> Expression
     ensures { result ≡ literal (boolean_type nullable) null }
 {

@@ -13,7 +13,7 @@ use vortex_stats_expr::types::{Leaf, TypeClass, class_of, column_class};
 
 // `None` where the expression has no type: a column that leads nowhere, or a statistic that its
 // input doesn't have.
-#[tactic(auto, using(crate::proofs::Placeholders::placeholder_class, crate::proofs::Placeholders::no_placeholder))]
+#[tactic(auto, using(crate::proofs::Placeholders::classes))]
 pub(crate) fn type_class(dtype: &DType, e: &Expression) -> Option<TypeClass>
     ensures { IsClass result (expression_type (type_of dtype.now) e.now) }
 {
