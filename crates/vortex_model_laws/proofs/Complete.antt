@@ -1,20 +1,23 @@
--- The falsifier of a predicate of ranges is true, or some choice in the box makes the predicate true.
-use Rattle.std.proofs.Common.{◌≡◌, refl, sym, ◌∙◌, ap, subst, List, [], ◌∷◌, ◌++◌, Bool, true, false, not, ◌&&◌, ◌||◌, if◌then◌else◌, Some, ◌⊎◌, inl, inr}
+-- The falsifier of a predicate of the wide class is true, or some choice in the box makes the predicate true.
+use Rattle.std.proofs.Common.{◌≡◌, refl, sym, ◌∙◌, ap, subst, ℕ, ◌<◌, ◌≤◌, ◌==◌, arith, List, [], ◌∷◌, ◌++◌, Bool, true, false, not, ◌&&◌, ◌||◌, if◌then◌else◌, Some, ◌⊎◌, inl, inr, IsUtf8, chars, eqb-true}
 use Rattle.std.specs.List.{AllByRecursion, list_any}
 use Rattle.std.specs.Cmp.Lexicographic.{bytes_decides}
-use Rattle.vortex_model.specs.LogicalType.{LogicalType}
-use Rattle.vortex_model.specs.Content.{Content, boolean}
+use Rattle.std.proofs.lemmas.Bool.{cases_lt, eq-eqb}
+use Rattle.vortex_model.specs.LogicalType.{LogicalType, Nullability, utf8}
+use Rattle.vortex_model.specs.Content.{Content, null, boolean, text, is_null}
 use Rattle.vortex_model.specs.Path.{Names, begins}
-use Rattle.vortex_model.specs.Expression.{Expression, literal, column, compare, both, either, between, Comparison, equal, not_equal, greater, at_least, less, at_most}
-use Rattle.vortex_model.specs.Truth.{evaluate, compared, kleene_and, kleene_or}
+use Rattle.vortex_model.specs.Expression.{Expression, literal, column, compare, both, either, negation, is_null as is_null_test, is_not_null as is_not_null_test, is_nan, between, like, row_count, statistic, Comparison, equal, not_equal, greater, at_least, less, at_most}
+use Rattle.vortex_model.specs.Truth.{evaluate, compared, kleene_and, kleene_or, kleene_not, end_of, liked}
 use Rattle.vortex_model.specs.Statistics.{shown}
-use Rattle.vortex_model.specs.Rewrite.{comparison_falsifier, falsifier}
-use Rattle.vortex_model.specs.Class.{Box, IsBetween, IsIn, of_choice, columns_of, eq_names, all_distinct}
+use Rattle.vortex_model.specs.Rewrite.{comparison_falsifier, falsifier, shape_of}
+use Rattle.vortex_model.specs.Class.{Box, IsBetween, IsCounted, IsTested, IsIn, IsValueOf, of_choice, columns_of, eq_names, all_distinct, is_text_form}
 use Rattle.vortex_model.proofs.Chains.{not_above_chain}
 use Rattle.vortex_model.proofs.ContentOrder.{le, by_le, true_left, true_right}
-use Rattle.vortex_model.proofs.Groups.{all_append, front_of_all, back_of_all, or_false_left, or_false_right}
+use Rattle.vortex_model.proofs.Groups.{front_of_all, back_of_all, or_false_left, or_false_right}
 use Rattle.vortex_model.proofs.Honesty.{all_among, each_among}
 use Rattle.vortex_model.proofs.Leasts.{all_mapped, at_most_both}
+use Rattle.vortex_model.proofs.Texts.{IsTextual}
+use Rattle.vortex_model_laws.proofs.Liked.{like_fails, like_chosen}
 use Rattle.vortex_model_laws.proofs.Members.{IsMember, member_not_null, member_itself, member_total}
 use Rattle.vortex_model_laws.proofs.Tighter.{Comparable, passed, or_left_true, or_right_true, and_made, or_made_left, or_made_right, not_true}
 
@@ -50,7 +53,7 @@ module _ (u : LogicalType) where
   comparable : (c d : Content) → IsMember u c → IsMember u d → Comparable c d
   comparable c d h g = either_way (le c d) (λ e. or_left_true (le c d) (le d c) e) (λ e. or_right_true (le c d) (le d c) (member_total u c d h g e))
 
-  made : (op : Comparison) (c d : Content) → IsMember u c → IsMember u d → by_le op (le c d) (le d c) ≡ true → compared op c d ≡ boolean true
+  pub made : (op : Comparison) (c d : Content) → IsMember u c → IsMember u d → by_le op (le c d) (le d c) ≡ true → compared op c d ≡ boolean true
   made op c d h g t = passed op c d (member_not_null u c h) (member_not_null u d g) (comparable c d h g) t
 
   pub or_cases : (b c : Bool) → b || c ≡ true → (b ≡ true) ⊎ (c ≡ true)
@@ -194,6 +197,12 @@ apart_where_distinct e h = tt
 abbrev put : Names → Content → (Names → Content) → Names → Content
 put xs v f ys = if eq_names xs ys then v else f ys
 
+put_here : (xs : Names) (v : Content) (f : Names → Content) → put xs v f xs ≡ v
+put_here xs v f = ap (λ b. if b then v else f xs) (names_same xs)
+
+put_elsewhere : (xs : Names) (v : Content) (f : Names → Content) (j : Names) → NotAmong j (xs ∷ []) → put xs v f j ≡ f j
+put_elsewhere xs v f j n = ap (λ b. if b then v else f j) n.0
+
 -- where a side is a column, with this value there
 abbrev assign : Expression → Content → (Names → Content) → Names → Content
 assign (column xs) v f = put xs v f
@@ -206,31 +215,118 @@ is_side (literal l c) = true
 is_side x = false
 
 assign_others : (x : Expression) (v : Content) (f : Names → Content) (j : Names) → is_side x ≡ true → NotAmong j (columns_of x) → assign x v f j ≡ f j
-assign_others (column xs) v f j w n = ap (λ b. if b then v else f j) n.0
+assign_others (column xs) v f j w n = put_elsewhere xs v f j n
 assign_others (literal l c) v f j w n = refl
 assign_others x v f j w n = absurd (cc (w))
 
-side_agrees : (x : Expression) (f h : Names → Content) → is_side x ≡ true → AllByRecursion (λ xs. f xs ≡ h xs) (columns_of x) → evaluate (of_choice f) x ≡ evaluate (of_choice h) x
-side_agrees (column xs) f h w e = e.0
-side_agrees (literal l c) f h w e = refl
-side_agrees x f h w e = absurd (cc (w))
+-- the choices give each of these columns the same value
+abbrev pub Agree : (Names → Content) → (Names → Content) → List Names → Type 0
+Agree f h xss = AllByRecursion (λ xs. f xs ≡ h xs) xss
+
+agree_front : (f h : Names → Content) (xss yss : List Names) → Agree f h (xss ++ yss) → Agree f h xss
+agree_front f h xss yss e = front_of_all (λ xs. f xs ≡ h xs) xss yss e
+
+agree_back : (f h : Names → Content) (xss yss : List Names) → Agree f h (xss ++ yss) → Agree f h yss
+agree_back f h xss yss e = back_of_all (λ xs. f xs ≡ h xs) xss yss e
+
+-- then the expression has the same value
+agreement : (e : Expression) (f h : Names → Content) → Agree f h (columns_of e) → evaluate (of_choice f) e ≡ evaluate (of_choice h) e
+agreement (literal l c) f h e = refl
+agreement (column xs) f h e = e.0
+agreement (compare op x y) f h e =
+    let l = agreement x f h (agree_front f h (columns_of x) (columns_of y) e) in
+    let r = agreement y f h (agree_back f h (columns_of x) (columns_of y) e) in
+    λ i. compared op (l i) (r i)
+agreement (both x y) f h e =
+    let l = agreement x f h (agree_front f h (columns_of x) (columns_of y) e) in
+    let r = agreement y f h (agree_back f h (columns_of x) (columns_of y) e) in
+    λ i. kleene_and (l i) (r i)
+agreement (either x y) f h e =
+    let l = agreement x f h (agree_front f h (columns_of x) (columns_of y) e) in
+    let r = agreement y f h (agree_back f h (columns_of x) (columns_of y) e) in
+    λ i. kleene_or (l i) (r i)
+agreement (negation x) f h e = ap kleene_not (agreement x f h e)
+agreement (is_null_test x) f h e = ap (λ c. boolean (is_null c)) (agreement x f h e)
+agreement (is_not_null_test x) f h e = ap (λ c. boolean (not (is_null c))) (agreement x f h e)
+agreement (is_nan x) f h e = refl
+agreement (between x lo hi s t) f h e =
+    let front = agree_front f h (columns_of x ++ columns_of lo) (columns_of hi) e in
+    let m = agreement x f h (agree_front f h (columns_of x) (columns_of lo) front) in
+    let l = agreement lo f h (agree_back f h (columns_of x) (columns_of lo) front) in
+    let r = agreement hi f h (agree_back f h (columns_of x ++ columns_of lo) (columns_of hi) e) in
+    λ i. kleene_and (compared (end_of s) (l i) (m i)) (compared (end_of t) (m i) (r i))
+agreement (like x form n true) f h e = refl
+agreement (like x form n false) f h e =
+    let l = agreement x f h (agree_front f h (columns_of x) (columns_of form) e) in
+    let r = agreement form f h (agree_back f h (columns_of x) (columns_of form) e) in
+    λ i. liked (l i) (r i) n
+agreement row_count f h e = refl
+agreement (statistic x a) f h e = refl
 
 module _ (k : LogicalType) (box : Box) where
+  -- and lies in the box, if the other does
+  tested_moved : (x : Expression) (f h : Names → Content) → Agree f h (columns_of x) → IsTested k box h x → IsTested k box f x
+  tested_moved (column xs) f h e i = subst (IsCounted k box xs) (sym e.0) i
+  tested_moved x f h e i = tt
+
+  moved : (e : Expression) (f h : Names → Content) → Agree f h (columns_of e) → IsIn k box h e → IsIn k box f e
+  moved (literal l c) f h e i = tt
+  moved (column xs) f h e i = subst (IsBetween k box xs) (sym e.0) i
+  moved (compare op x y) f h e i =
+      (moved x f h (agree_front f h (columns_of x) (columns_of y) e) i.0, moved y f h (agree_back f h (columns_of x) (columns_of y) e) i.1)
+  moved (both x y) f h e i = (moved x f h (agree_front f h (columns_of x) (columns_of y) e) i.0, moved y f h (agree_back f h (columns_of x) (columns_of y) e) i.1)
+  moved (either x y) f h e i = (moved x f h (agree_front f h (columns_of x) (columns_of y) e) i.0, moved y f h (agree_back f h (columns_of x) (columns_of y) e) i.1)
+  moved (negation x) f h e i = moved x f h e i
+  moved (is_null_test x) f h e i = tested_moved x f h e i
+  moved (is_not_null_test x) f h e i = tested_moved x f h e i
+  moved (is_nan x) f h e i = moved x f h e i
+  moved (between x lo hi s t) f h e i =
+      let front = agree_front f h (columns_of x ++ columns_of lo) (columns_of hi) e in (
+        moved x f h (agree_front f h (columns_of x) (columns_of lo) front) i.0,
+        moved lo f h (agree_back f h (columns_of x) (columns_of lo) front) i.1,
+        moved hi f h (agree_back f h (columns_of x ++ columns_of lo) (columns_of hi) e) i.2,
+      )
+  moved (like x form n c) f h e i = (moved x f h (agree_front f h (columns_of x) (columns_of form) e) i.0, moved form f h (agree_back f h (columns_of x) (columns_of form) e) i.1)
+  moved row_count f h e i = tt
+  moved (statistic x a) f h e i = tt
+
   abbrev pub lows : Names → Content
   lows xs = shown (box xs).low
 
   abbrev pub highs : Names → Content
   highs xs = shown (box xs).high
 
+  abbrev low_at : Expression → Content
+  low_at x = evaluate (of_choice lows) x
+
+  abbrev high_at : Expression → Content
+  high_at x = evaluate (of_choice highs) x
+
   -- a side of a comparison: its bounds are values of the type, and each value of the type between them fits
   pub record IsSide (u : LogicalType) (x : Expression) : Type 0 where
     pub single : is_side x ≡ true
-    pub low : IsMember u (evaluate (of_choice lows) x)
-    pub high : IsMember u (evaluate (of_choice highs) x)
-    pub ordered : le (evaluate (of_choice lows) x) (evaluate (of_choice highs) x) ≡ true
-    pub fits : (v : Content) → IsMember u v → le (evaluate (of_choice lows) x) v ≡ true → le v (evaluate (of_choice highs) x) ≡ true → IsIn k box (λ xs. v) x
+    pub low : IsMember u (low_at x)
+    pub high : IsMember u (high_at x)
+    pub ordered : le (low_at x) (high_at x) ≡ true
+    pub fits : (v : Content) → IsMember u v → le (low_at x) v ≡ true → le v (high_at x) ≡ true → IsIn k box (λ xs. v) x
 
-  -- comparisons of such sides, ranges and truth values, joined by AND and OR
+  -- a column under a null test: its type has values, and of some rows no more are null than there are
+  pub record IsTestable (xs : Names) : Type 0 where
+    pub value : Content
+    pub not_null : is_null value ≡ false
+    pub held : IsValueOf k xs value
+    pub fewer : (box xs).nulls ≤ (box xs).rows
+    pub some : 0 < (box xs).rows
+
+  -- a column of texts under a LIKE of a pattern of the wide class
+  pub record IsLikeable (x : Expression) (form : List ℕ) : Type 0 where
+    pub nullability : Nullability
+    pub side : IsSide (utf8 nullability) x
+    pub texts : (f : Names → Content) → IsIn k box f x → IsTextual (evaluate (of_choice f) x)
+    pub valid : IsUtf8 form
+    pub formed : is_text_form form ≡ true
+
+  -- such leaves, ranges and truth values, joined by AND and OR
   abbrev pub IsGood : Expression → Type 0
   IsGood (compare op x y) = (u : LogicalType) × IsSide u x × IsSide u y × (falsifier k (compare op x y) ≡ Some (comparison_falsifier op x y))
   IsGood (both x y) = IsGood x × IsGood y
@@ -238,157 +334,265 @@ module _ (k : LogicalType) (box : Box) where
   IsGood (literal l (boolean b)) = Unit {0}
   IsGood (between x (literal l c) (literal m d) false false) = (u : LogicalType) × IsSide u x × IsMember u c × IsMember u d × (le c d ≡ true)
       × (falsifier k (between x (literal l c) (literal m d) false false) ≡ Some (either (comparison_falsifier at_most (literal l c) x) (comparison_falsifier at_most x (literal m d))))
+  IsGood (is_null_test (column xs)) = IsTestable xs
+  IsGood (is_not_null_test (column xs)) = IsTestable xs
+  IsGood (like x (literal l (text form)) false false) = IsLikeable x form
   IsGood e = ⊥
 
+  -- whether the box rules the tree out
   abbrev pub tree_fails : Expression → Bool
-  tree_fails (compare op x y) = fails op (evaluate (of_choice lows) x) (evaluate (of_choice highs) x) (evaluate (of_choice lows) y) (evaluate (of_choice highs) y)
+  tree_fails (compare op x y) = fails op (low_at x) (high_at x) (low_at y) (high_at y)
   tree_fails (both x y) = tree_fails x || tree_fails y
   tree_fails (either x y) = tree_fails x && tree_fails y
   tree_fails (literal l (boolean b)) = not b
-  tree_fails (between x (literal l c) (literal m d) false false) = not (le c (evaluate (of_choice highs) x)) || not (le (evaluate (of_choice lows) x) d)
+  tree_fails (between x (literal l c) (literal m d) false false) = not (le c (high_at x)) || not (le (low_at x) d)
+  tree_fails (is_null_test (column xs)) = (box xs).nulls == 0
+  tree_fails (is_not_null_test (column xs)) = (box xs).nulls == (box xs).rows
+  tree_fails (like x (literal l (text form)) false false) = like_fails (shape_of (chars form)) (low_at x) (high_at x)
   tree_fails e = false
 
-  abbrev AreInside : (Names → Content) → List Names → Type 0
-  AreInside f xss = AllByRecursion (λ xs. IsBetween k box xs (f xs)) xss
+  -- ---- one side, or two, at chosen values
 
-  inside_side : (x : Expression) (v : Content) (f : Names → Content) → is_side x ≡ true → IsIn k box (λ xs. v) x → evaluate (of_choice f) x ≡ v → AreInside f (columns_of x)
-  inside_side (column xs) v f w h e = (subst (IsBetween k box xs) (sym e) h, tt)
+  assign_reads : (u : LogicalType) (x : Expression) (v : Content) (f : Names → Content) → IsSide u x → le (low_at x) v ≡ true → le v (high_at x) ≡ true →
+      evaluate (of_choice (assign x v f)) x ≡ v
+  assign_reads u (column xs) v f s h g = put_here xs v f
+  assign_reads u (literal l c) v f s h g = at_most_both c v h g
+  assign_reads u x v f s h g = absurd (let w = s.single in cc (w))
+
+  inside_side : (x : Expression) (v : Content) (f : Names → Content) → is_side x ≡ true → IsIn k box (λ xs. v) x → evaluate (of_choice f) x ≡ v → IsIn k box f x
+  inside_side (column xs) v f w h e = subst (IsBetween k box xs) (sym e) h
   inside_side (literal l c) v f w h e = tt
   inside_side x v f w h e = absurd (cc (w))
 
-  in_side : (x : Expression) (f : Names → Content) → is_side x ≡ true → AreInside f (columns_of x) → IsIn k box f x
-  in_side (column xs) f w h = h.0
-  in_side (literal l c) f w h = tt
-  in_side x f w h = absurd (cc (w))
+  -- a choice that gives the side this value, and is as before in all other columns
+  record Placed (x : Expression) (v : Content) (base : Names → Content) : Type 0 where
+    choice : Names → Content
+    reads : evaluate (of_choice choice) x ≡ v
+    inside : IsIn k box choice x
+    others : (j : Names) → NotAmong j (columns_of x) → choice j ≡ base j
 
-  -- a column beside literals
-  alone_inside : (x : Expression) (f : Names → Content) → AreInside f ((columns_of x ++ []) ++ []) → AreInside f (columns_of x)
-  alone_inside x f h = front_of_all (λ xs. IsBetween k box xs (f xs)) (columns_of x) [] (front_of_all (λ xs. IsBetween k box xs (f xs)) (columns_of x ++ []) [] h)
+  placed : (u : LogicalType) (x : Expression) (v : Content) (base : Names → Content) → IsSide u x → IsMember u v → le (low_at x) v ≡ true → le v (high_at x) ≡ true → Placed x v base
+  placed u x v base s m from to =
+      let f = assign x v base in let reads = assign_reads u x v base s from to in record {
+        choice = f;
+        reads = reads;
+        inside = inside_side x v f s.single (s.fits v m from to) reads;
+        others = λ j n. assign_others x v base j s.single n;
+      }
 
-  inside_alone : (x : Expression) (f : Names → Content) → AreInside f (columns_of x) → AreInside f ((columns_of x ++ []) ++ [])
-  inside_alone x f h = all_append (λ xs. IsBetween k box xs (f xs)) (columns_of x ++ []) [] (all_append (λ xs. IsBetween k box xs (f xs)) (columns_of x) [] h tt) tt
+  record PlacedBoth (x y : Expression) (v w : Content) (base : Names → Content) : Type 0 where
+    choice : Names → Content
+    left : evaluate (of_choice choice) x ≡ v
+    right : evaluate (of_choice choice) y ≡ w
+    inside : IsIn k box choice x × IsIn k box choice y
+    others : (j : Names) → NotAmong j (columns_of x ++ columns_of y) → choice j ≡ base j
 
-  pub is_in : (e : Expression) (f : Names → Content) → IsGood e → AreInside f (columns_of e) → IsIn k box f e
-  is_in (compare op x y) f g h =
-      (in_side x f g.1.single (front_of_all (λ xs. IsBetween k box xs (f xs)) (columns_of x) (columns_of y) h), in_side y f g.2.single (back_of_all (λ xs. IsBetween k box xs (f xs)) (columns_of x) (columns_of y) h))
-  is_in (both x y) f g h =
-      (is_in x f g.0 (front_of_all (λ xs. IsBetween k box xs (f xs)) (columns_of x) (columns_of y) h), is_in y f g.1 (back_of_all (λ xs. IsBetween k box xs (f xs)) (columns_of x) (columns_of y) h))
-  is_in (either x y) f g h =
-      (is_in x f g.0 (front_of_all (λ xs. IsBetween k box xs (f xs)) (columns_of x) (columns_of y) h), is_in y f g.1 (back_of_all (λ xs. IsBetween k box xs (f xs)) (columns_of x) (columns_of y) h))
-  is_in (literal l (boolean b)) f g h = tt
-  is_in (between x (literal l c) (literal m d) false false) f g h = (in_side x f g.1.single (alone_inside x f h), tt, tt)
-  is_in e f g h = absurd g
+  not_front : (j : Names) (xss yss : List Names) → NotAmong j (xss ++ yss) → NotAmong j xss
+  not_front j xss yss n = front_of_all (λ xs. eq_names xs j ≡ false) xss yss n
 
-  moved : (xss : List Names) (f h : Names → Content) → AllByRecursion (λ xs. f xs ≡ h xs) xss → AreInside h xss → AreInside f xss
-  moved [] f h e i = tt
-  moved (xs ∷ xss) f h e i = (subst (IsBetween k box xs) (sym e.0) i.0, moved xss f h e.1 i.1)
+  not_back : (j : Names) (xss yss : List Names) → NotAmong j (xss ++ yss) → NotAmong j yss
+  not_back j xss yss n = back_of_all (λ xs. eq_names xs j ≡ false) xss yss n
 
-  agreement : (e : Expression) (f h : Names → Content) → IsGood e → AllByRecursion (λ xs. f xs ≡ h xs) (columns_of e) → evaluate (of_choice f) e ≡ evaluate (of_choice h) e
-  agreement (compare op x y) f h g e =
-      let l = side_agrees x f h g.1.single (front_of_all (λ xs. f xs ≡ h xs) (columns_of x) (columns_of y) e) in
-      let r = side_agrees y f h g.2.single (back_of_all (λ xs. f xs ≡ h xs) (columns_of x) (columns_of y) e) in
-      λ i. compared op (l i) (r i)
-  agreement (both x y) f h g e =
-      let l = agreement x f h g.0 (front_of_all (λ xs. f xs ≡ h xs) (columns_of x) (columns_of y) e) in
-      let r = agreement y f h g.1 (back_of_all (λ xs. f xs ≡ h xs) (columns_of x) (columns_of y) e) in
-      λ i. kleene_and (l i) (r i)
-  agreement (either x y) f h g e =
-      let l = agreement x f h g.0 (front_of_all (λ xs. f xs ≡ h xs) (columns_of x) (columns_of y) e) in
-      let r = agreement y f h g.1 (back_of_all (λ xs. f xs ≡ h xs) (columns_of x) (columns_of y) e) in
-      λ i. kleene_or (l i) (r i)
-  agreement (literal l (boolean b)) f h g e = refl
-  agreement (between x (literal l c) (literal m d) false false) f h g e =
-      let s = side_agrees x f h g.1.single (front_of_all (λ xs. f xs ≡ h xs) (columns_of x) [] (front_of_all (λ xs. f xs ≡ h xs) (columns_of x ++ []) [] e)) in
-      λ i. kleene_and (compared at_most c (s i)) (compared at_most (s i) d)
-  agreement e f h g i = absurd g
+  -- what differs elsewhere alone agrees here
+  others_agree : (f h : Names → Content) (xss yss : List Names) → ((j : Names) → NotAmong j yss → f j ≡ h j) → AllByRecursion (λ xs. NotAmong xs yss) xss → Agree f h xss
+  others_agree f h xss yss others apart = all_mapped (λ xs. NotAmong xs yss) (λ xs. f xs ≡ h xs) others xss apart
+
+  both_placed : (x y : Expression) (v w : Content) (base : Names → Content) → AreApart (columns_of x) (columns_of y) → Placed x v base →
+      ((f : Names → Content) → Placed y w f) → PlacedBoth x y v w base
+  both_placed x y v w base apart p next =
+      let q = next p.choice in let kept = others_agree q.choice p.choice (columns_of x) (columns_of y) q.others apart.1 in record {
+        choice = q.choice;
+        left = agreement x q.choice p.choice kept ∙ p.reads;
+        right = q.reads;
+        inside = (moved x q.choice p.choice kept p.inside, q.inside);
+        others = λ j n. q.others j (not_back j (columns_of x) (columns_of y) n) ∙ p.others j (not_front j (columns_of x) (columns_of y) n);
+      }
+
+  lowest : (u : LogicalType) (x : Expression) (base : Names → Content) → IsSide u x → Placed x (low_at x) base
+  lowest u x base s = placed u x (low_at x) base s s.low (member_itself u (low_at x) s.low) s.ordered
+
+  -- ---- null tests
+
+  null_counted : (xs : Names) (v : Content) → is_null v ≡ true → ((box xs).nulls == 0) ≡ false → IsCounted k box xs v
+  null_counted xs v n some = record {
+    at_null = λ e zero. (let f : true ≡ false = sym (eq-eqb (box xs).nulls 0 zero) ∙ some in cc (f));
+    at_value = λ e. absurd (let f : true ≡ false = sym n ∙ e in cc (f));
+  }
+
+  value_counted : (xs : Names) (v : Content) → is_null v ≡ false → IsValueOf k xs v → (box xs).nulls < (box xs).rows → IsCounted k box xs v
+  value_counted xs v n held lt = record {
+    at_null = λ e. absurd (let f : true ≡ false = sym e ∙ n in cc (f));
+    at_value = λ e. (held, lt);
+  }
+
+  fewer_nulls : (n m : ℕ) → n ≤ m → (n == m) ≡ false → n < m
+  fewer_nulls n m le e = elim (cases_lt n m) [
+    | inl lt ↦ lt
+    | inr back ↦ (let same : n ≡ m = omega (arith, le, back) in let f : true ≡ false = sym (eq-eqb n m same) ∙ e in absurd (cc (f)))
+  ]
+
+  no_nulls : (n m : ℕ) → 0 < m → (n == 0) ≡ true → n < m
+  no_nulls n m some e = let zero = eqb-true n 0 e in omega (arith, zero, some)
+
+  -- a choice that gives the column this value, and is as before in all other columns
+  record PlacedColumn (xs : Names) (v : Content) (base : Names → Content) : Type 0 where
+    choice : Names → Content
+    reads : choice xs ≡ v
+    inside : IsCounted k box xs (choice xs)
+    others : (j : Names) → NotAmong j (xs ∷ []) → choice j ≡ base j
+
+  placed_column : (xs : Names) (v : Content) (base : Names → Content) → IsCounted k box xs v → PlacedColumn xs v base
+  placed_column xs v base c = record {
+    choice = put xs v base;
+    reads = put_here xs v base;
+    inside = subst (IsCounted k box xs) (sym (put_here xs v base)) c;
+    others = λ j n. put_elsewhere xs v base j n;
+  }
+
+  -- ---- choices in the box
+
+  -- a choice in the box, as before in all other columns
+  record Starts (e : Expression) (base : Names → Content) : Type 0 where
+    choice : Names → Content
+    inside : IsIn k box choice e
+    others : (j : Names) → NotAmong j (columns_of e) → choice j ≡ base j
+
+  tested_start : (xs : Names) (v : Content) (base : Names → Content) → PlacedColumn xs v base → Starts (is_null_test (column xs)) base
+  tested_start xs v base p = record { choice = p.choice; inside = p.inside; others = p.others }
+
+  start_tested : (xs : Names) → IsTestable xs → (base : Names → Content) → Starts (is_null_test (column xs)) base
+  start_tested xs g base =
+      either_way ((box xs).nulls == 0)
+      (λ e. tested_start xs g.value base (placed_column xs g.value base (value_counted xs g.value g.not_null g.held (no_nulls (box xs).nulls (box xs).rows g.some e))))
+      (λ e. tested_start xs null base (placed_column xs null base (null_counted xs null refl e)))
+
+  both_start : (x y : Expression) → AreApart (columns_of x) (columns_of y) → (base : Names → Content) → Starts x base → ((f : Names → Content) → Starts y f) → Starts (both x y) base
+  both_start x y apart base a next =
+      let b = next a.choice in let kept = others_agree b.choice a.choice (columns_of x) (columns_of y) b.others apart.1 in record {
+        choice = b.choice;
+        inside = (moved x b.choice a.choice kept a.inside, b.inside);
+        others = λ j n. b.others j (not_back j (columns_of x) (columns_of y) n) ∙ a.others j (not_front j (columns_of x) (columns_of y) n);
+      }
+
+  start : (e : Expression) → IsGood e → IsApart e → (base : Names → Content) → Starts e base
+  start (compare op x y) g apart base =
+      let p = both_placed x y (low_at x) (low_at y) base apart (lowest g.0 x base g.1) (λ f. lowest g.0 y f g.2) in
+      record { choice = p.choice; inside = p.inside; others = p.others }
+  start (both x y) g apart base = both_start x y apart.2 base (start x g.0 apart.0 base) (λ f. start y g.1 apart.1 f)
+  start (either x y) g apart base =
+      let s = both_start x y apart.2 base (start x g.0 apart.0 base) (λ f. start y g.1 apart.1 f) in
+      record { choice = s.choice; inside = s.inside; others = s.others }
+  start (literal l (boolean b)) g apart base = record { choice = base; inside = tt; others = λ j n. refl }
+  start (between x (literal l c) (literal m d) false false) g apart base =
+      let p = lowest g.0 x base g.1 in
+      record { choice = p.choice; inside = (p.inside, tt, tt); others = λ j n. p.others j (not_front j (columns_of x) [] (not_front j (columns_of x ++ []) [] n)) }
+  start (is_null_test (column xs)) g apart base = start_tested xs g base
+  start (is_not_null_test (column xs)) g apart base =
+      let s = start_tested xs g base in
+      record { choice = s.choice; inside = s.inside; others = s.others }
+  start (like x (literal l (text form)) false false) g apart base =
+      let p = lowest (utf8 g.nullability) x base g.side in
+      record { choice = p.choice; inside = (p.inside, tt); others = λ j n. p.others j (not_front j (columns_of x) [] n) }
+  start e g apart base = absurd g
+
+  -- ---- choices that make the tree true
 
   -- a choice in the box that makes the tree true, and is as before in all other columns
   pub record Reaches (e : Expression) (base : Names → Content) : Type 0 where
     pub choice : Names → Content
-    pub inside : AreInside choice (columns_of e)
+    pub inside : IsIn k box choice e
     pub others : (j : Names) → NotAmong j (columns_of e) → choice j ≡ base j
     pub holds : evaluate (of_choice choice) e ≡ boolean true
 
-  assign_reads : (u : LogicalType) (x : Expression) (v : Content) (f : Names → Content) → IsSide u x → le (evaluate (of_choice lows) x) v ≡ true → le v (evaluate (of_choice highs) x) ≡ true →
-      evaluate (of_choice (assign x v f)) x ≡ v
-  assign_reads u (column xs) v f s h g = ap (λ b. if b then v else f xs) (names_same xs)
-  assign_reads u (literal l c) v f s h g = at_most_both c v h g
-  assign_reads u x v f s h g = absurd (let w = s.single in cc (w))
+  compared_at : (op : Comparison) (x y : Expression) (v w : Content) (f : Names → Content) → evaluate (of_choice f) x ≡ v → evaluate (of_choice f) y ≡ w → compared op v w ≡ boolean true →
+      evaluate (of_choice f) (compare op x y) ≡ boolean true
+  compared_at op x y v w f l r h = (λ i. compared op (l i) (r i)) ∙ h
 
   reach_comparison : (op : Comparison) (x y : Expression) → IsGood (compare op x y) → AreApart (columns_of x) (columns_of y) → tree_fails (compare op x y) ≡ false → (base : Names → Content) →
       Reaches (compare op x y) base
   reach_comparison op x y g apart works base =
       let u = g.0 in let s = g.1 in let r = g.2 in
-      let w = completed u (evaluate (of_choice lows) x) (evaluate (of_choice highs) x) (evaluate (of_choice lows) y) (evaluate (of_choice highs) y) s.low s.high r.low r.high s.ordered r.ordered op works in
-      let f1 = assign x w.left base in
-      let f2 = assign y w.right f1 in
-      let kept = all_mapped (λ xs. NotAmong xs (columns_of y)) (λ xs. f2 xs ≡ f1 xs) (λ xs n. assign_others y w.right f1 xs r.single n) (columns_of x) apart.1 in
-      let at_x = side_agrees x f2 f1 s.single kept ∙ assign_reads u x w.left base s w.left_from w.left_to in
-      let at_y = assign_reads u y w.right f1 r w.right_from w.right_to in record {
-        choice = f2;
-        inside = all_append (λ xs. IsBetween k box xs (f2 xs)) (columns_of x) (columns_of y)
-            (inside_side x w.left f2 s.single (s.fits w.left w.left_member w.left_from w.left_to) at_x) (inside_side y w.right f2 r.single (r.fits w.right w.right_member w.right_from w.right_to) at_y);
-        others = λ j n. assign_others y w.right f1 j r.single (back_of_all (λ xs. eq_names xs j ≡ false) (columns_of x) (columns_of y) n)
-            ∙ assign_others x w.left base j s.single (front_of_all (λ xs. eq_names xs j ≡ false) (columns_of x) (columns_of y) n);
-        holds = (λ i. compared op (at_x i) (at_y i)) ∙ made u op w.left w.right w.left_member w.right_member w.passes;
+      let w = completed u (low_at x) (high_at x) (low_at y) (high_at y) s.low s.high r.low r.high s.ordered r.ordered op works in
+      let p = both_placed x y w.left w.right base apart (placed u x w.left base s w.left_member w.left_from w.left_to) (λ f. placed u y w.right f r w.right_member w.right_from w.right_to) in record {
+        choice = p.choice;
+        inside = p.inside;
+        others = p.others;
+        holds = compared_at op x y w.left w.right p.choice p.left p.right (made u op w.left w.right w.left_member w.right_member w.passes);
       }
 
-  -- where the bounds do not rule the tree out, some choice in the box makes it true
-  pub complete : (e : Expression) → IsGood e → IsApart e → tree_fails e ≡ false → (base : Names → Content) → AreInside base (columns_of e) → Reaches e base
-  complete (compare op x y) g apart works base inside = reach_comparison op x y g apart works base
-  complete (both x y) g apart works base inside =
-      let xss = columns_of x in let yss = columns_of y in
-      let ra = complete x g.0 apart.0 (or_false_left (tree_fails x) (tree_fails y) works) base (front_of_all (λ xs. IsBetween k box xs (base xs)) xss yss inside) in
-      let at_y = moved yss ra.choice base (all_mapped (λ ys. NotAmong ys xss) (λ ys. ra.choice ys ≡ base ys) ra.others yss apart.2.0) (back_of_all (λ xs. IsBetween k box xs (base xs)) xss yss inside) in
-      let rb = complete y g.1 apart.1 (or_false_right (tree_fails x) (tree_fails y) works) ra.choice at_y in
-      let kept = all_mapped (λ xs. NotAmong xs yss) (λ xs. rb.choice xs ≡ ra.choice xs) rb.others xss apart.2.1 in record {
-        choice = rb.choice;
-        inside = all_append (λ xs. IsBetween k box xs (rb.choice xs)) xss yss (moved xss rb.choice ra.choice kept ra.inside) rb.inside;
-        others = λ j n. rb.others j (back_of_all (λ xs. eq_names xs j ≡ false) xss yss n) ∙ ra.others j (front_of_all (λ xs. eq_names xs j ≡ false) xss yss n);
-        holds = and_made (evaluate (of_choice rb.choice) x) (evaluate (of_choice rb.choice) y) (agreement x rb.choice ra.choice g.0 kept ∙ ra.holds) rb.holds;
+  reach_like : (x : Expression) (l : LogicalType) (form : List ℕ) → IsLikeable x form → like_fails (shape_of (chars form)) (low_at x) (high_at x) ≡ false → (base : Names → Content) →
+      Reaches (like x (literal l (text form)) false false) base
+  reach_like x l form g works base =
+      let n = g.nullability in let s = g.side in
+      let w = like_chosen n form g.valid g.formed (low_at x) (high_at x) s.low s.high s.ordered works in
+      let p = placed (utf8 n) x w.value base s w.member w.from w.to in record {
+        choice = p.choice;
+        inside = (p.inside, tt);
+        others = λ j h. p.others j (not_front j (columns_of x) [] h);
+        holds = ap (λ v. liked v (text form) false) p.reads ∙ w.holds;
       }
-  complete (either x y) g apart works base inside =
+
+  -- where the box doesn't rule the tree out, some choice in it makes the tree true
+  pub complete : (e : Expression) → IsGood e → IsApart e → tree_fails e ≡ false → (base : Names → Content) → Reaches e base
+  complete (compare op x y) g apart works base = reach_comparison op x y g apart works base
+  complete (both x y) g apart works base =
       let xss = columns_of x in let yss = columns_of y in
-      let at_x = front_of_all (λ xs. IsBetween k box xs (base xs)) xss yss inside in let at_y = back_of_all (λ xs. IsBetween k box xs (base xs)) xss yss inside in
+      let a = complete x g.0 apart.0 (or_false_left (tree_fails x) (tree_fails y) works) base in
+      let b = complete y g.1 apart.1 (or_false_right (tree_fails x) (tree_fails y) works) a.choice in
+      let kept = others_agree b.choice a.choice xss yss b.others apart.2.1 in record {
+        choice = b.choice;
+        inside = (moved x b.choice a.choice kept a.inside, b.inside);
+        others = λ j n. b.others j (not_back j xss yss n) ∙ a.others j (not_front j xss yss n);
+        holds = and_made (evaluate (of_choice b.choice) x) (evaluate (of_choice b.choice) y) (agreement x b.choice a.choice kept ∙ a.holds) b.holds;
+      }
+  complete (either x y) g apart works base =
+      let xss = columns_of x in let yss = columns_of y in
       either_way (tree_fails x)
       (λ e.
-      let r = complete y g.1 apart.1 (ap (λ b. b && tree_fails y) (sym e) ∙ works) base at_y in record {
+      let s = start x g.0 apart.0 base in
+      let r = complete y g.1 apart.1 (ap (λ b. b && tree_fails y) (sym e) ∙ works) s.choice in
+      let kept = others_agree r.choice s.choice xss yss r.others apart.2.1 in record {
         choice = r.choice;
-        inside = all_append (λ xs. IsBetween k box xs (r.choice xs)) xss yss (moved xss r.choice base (all_mapped (λ xs. NotAmong xs yss) (λ xs. r.choice xs ≡ base xs) r.others xss apart.2.1) at_x) r.inside;
-        others = λ j n. r.others j (back_of_all (λ xs. eq_names xs j ≡ false) xss yss n);
+        inside = (moved x r.choice s.choice kept s.inside, r.inside);
+        others = λ j n. r.others j (not_back j xss yss n) ∙ s.others j (not_front j xss yss n);
         holds = or_made_right (evaluate (of_choice r.choice) x) (evaluate (of_choice r.choice) y) r.holds;
       })
       (λ e.
-      let r = complete x g.0 apart.0 e base at_x in record {
+      let s = start y g.1 apart.1 base in
+      let r = complete x g.0 apart.0 e s.choice in
+      let kept = others_agree r.choice s.choice yss xss r.others apart.2.0 in record {
         choice = r.choice;
-        inside = all_append (λ xs. IsBetween k box xs (r.choice xs)) xss yss r.inside (moved yss r.choice base (all_mapped (λ ys. NotAmong ys xss) (λ ys. r.choice ys ≡ base ys) r.others yss apart.2.0) at_y);
-        others = λ j n. r.others j (front_of_all (λ xs. eq_names xs j ≡ false) xss yss n);
+        inside = (r.inside, moved y r.choice s.choice kept s.inside);
+        others = λ j n. r.others j (not_front j xss yss n) ∙ s.others j (not_back j xss yss n);
         holds = or_made_left (evaluate (of_choice r.choice) x) (evaluate (of_choice r.choice) y) r.holds;
       })
-  complete (literal l (boolean b)) g apart works base inside = record { choice = base; inside = tt; others = λ j n. refl; holds = ap (λ x. boolean x) (not_false b works) }
-  complete (between x (literal l c) (literal m d) false false) g apart works base inside =
+  complete (literal l (boolean b)) g apart works base = record { choice = base; inside = tt; others = λ j n. refl; holds = ap (λ x. boolean x) (not_false b works) }
+  complete (between x (literal l c) (literal m d) false false) g apart works base =
       let u = g.0 in let s = g.1 in
-      let w = completed u c d (evaluate (of_choice lows) x) (evaluate (of_choice highs) x) g.2 g.3 s.low s.high g.4 s.ordered equal works in
-      let v = w.right in let f = assign x v base in
-      let at_x = assign_reads u x v base s w.right_from w.right_to in
+      let w = completed u c d (low_at x) (high_at x) g.2 g.3 s.low s.high g.4 s.ordered equal works in
+      let v = w.right in let p = placed u x v base s w.right_member w.right_from w.right_to in
       let from = not_above_chain c w.left v w.left_from (true_left (le w.left v) (le v w.left) w.passes) in
       let to = not_above_chain v w.left d (true_right (le w.left v) (le v w.left) w.passes) w.left_to in record {
-        choice = f;
-        inside = inside_alone x f (inside_side x v f s.single (s.fits v w.right_member w.right_from w.right_to) at_x);
-        others = λ j n. assign_others x v base j s.single (front_of_all (λ xs. eq_names xs j ≡ false) (columns_of x) [] (front_of_all (λ xs. eq_names xs j ≡ false) (columns_of x ++ []) [] n));
-        holds = (λ i. kleene_and (compared at_most c (at_x i)) (compared at_most (at_x i) d))
+        choice = p.choice;
+        inside = (p.inside, tt, tt);
+        others = λ j n. p.others j (not_front j (columns_of x) [] (not_front j (columns_of x ++ []) [] n));
+        holds = (λ i. kleene_and (compared at_most c (p.reads i)) (compared at_most (p.reads i) d))
             ∙ and_made (compared at_most c v) (compared at_most v d) (made u at_most c v g.2 w.right_member from) (made u at_most v d w.right_member g.3 to);
       }
-  complete e g apart works base inside = absurd g
-
-  -- the lows lie in the box
-  low_fits : (u : LogicalType) (x : Expression) → IsSide u x → AreInside lows (columns_of x)
-  low_fits u x s = let v = evaluate (of_choice lows) x in inside_side x v lows s.single (s.fits v s.low (member_itself u v s.low) s.ordered) refl
-
-  pub lows_fit : (e : Expression) → IsGood e → AreInside lows (columns_of e)
-  lows_fit (compare op x y) g = all_append (λ xs. IsBetween k box xs (lows xs)) (columns_of x) (columns_of y) (low_fits g.0 x g.1) (low_fits g.0 y g.2)
-  lows_fit (both x y) g = all_append (λ xs. IsBetween k box xs (lows xs)) (columns_of x) (columns_of y) (lows_fit x g.0) (lows_fit y g.1)
-  lows_fit (either x y) g = all_append (λ xs. IsBetween k box xs (lows xs)) (columns_of x) (columns_of y) (lows_fit x g.0) (lows_fit y g.1)
-  lows_fit (literal l (boolean b)) g = tt
-  lows_fit (between x (literal l c) (literal m d) false false) g = inside_alone x lows (low_fits g.0 x g.1)
-  lows_fit e g = absurd g
+  complete (is_null_test (column xs)) g apart works base =
+      let p = placed_column xs null base (null_counted xs null refl works) in record {
+        choice = p.choice;
+        inside = p.inside;
+        others = p.others;
+        holds = ap (λ v. boolean (is_null v)) p.reads;
+      }
+  complete (is_not_null_test (column xs)) g apart works base =
+      let lt = fewer_nulls (box xs).nulls (box xs).rows g.fewer works in
+      let p = placed_column xs g.value base (value_counted xs g.value g.not_null g.held lt) in record {
+        choice = p.choice;
+        inside = p.inside;
+        others = p.others;
+        holds = ap (λ v. boolean (not (is_null v))) p.reads ∙ ap (λ b. boolean (not b)) g.not_null;
+      }
+  complete (like x (literal l (text form)) false false) g apart works base = reach_like x l form g works base
+  complete e g apart works base = absurd g

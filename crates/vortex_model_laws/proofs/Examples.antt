@@ -1,10 +1,11 @@
 -- Worked values: the laws' premises can be met, and what they leave out is left out for a reason.
-use Rattle.std.proofs.Common.{◌≡◌, refl, ℕ, pos, List, [], ◌∷◌, Option, Some, None, map, true, false}
+use Rattle.std.proofs.Common.{◌≡◌, refl, ℕ, pos, arith, List, [], ◌∷◌, Option, Some, None, map, Bool, true, false}
 use Rattle.std.specs.Prelude.{codes, option_map}
-use Rattle.vortex_model.specs.LogicalType.{LogicalType, IntKind, integer_type, struct, field, no_fields, non_nullable, nullable, i16, i32, i64}
-use Rattle.vortex_model.specs.Content.{Content, null, boolean, integer, tuple, nothing, first}
+use Rattle.std.specs.Str.{chars}
+use Rattle.vortex_model.specs.LogicalType.{LogicalType, IntKind, boolean_type, integer_type, utf8, struct, field, no_fields, non_nullable, nullable, i16, i32, i64}
+use Rattle.vortex_model.specs.Content.{Content, null, boolean, integer, text, tuple, nothing, first, is_null}
 use Rattle.vortex_model.specs.Path.{Names}
-use Rattle.vortex_model.specs.Expression.{Expression, literal, column, compare, both, between, is_not_null, statistic, greater, less, equal, not_equal, min, null_count}
+use Rattle.vortex_model.specs.Expression.{Expression, literal, column, compare, both, either, between, like, is_null as is_null_test, is_not_null, statistic, greater, less, equal, not_equal, min, null_count}
 use Rattle.vortex_model.specs.Truth.{evaluate}
 use Rattle.vortex_model.specs.Statistics.{exact, absent}
 use Rattle.vortex_model.specs.ZoneMap.{ZoneMap}
@@ -12,9 +13,9 @@ use Rattle.vortex_model.specs.Rewrite.{falsifier, count_literal}
 use Rattle.vortex_model.specs.Table.{Table}
 use Rattle.vortex_model.specs.Scan.{chunk_zone, proves, skipped_in_group, tested, is_skipped, chunk_outcome, numbers, outcomes, skipped_chunks, proofs, rows_tested}
 use Rattle.vortex_model.specs.Command.{retype, refusal, after, predicate_fault}
-use Rattle.vortex_model.specs.Class.{is_bounded, of_choice}
+use Rattle.vortex_model.specs.Class.{is_bounded, is_wide, of_choice, Hopeless}
 use Rattle.vortex_model_laws.specs.Binding.{Binder, bound}
-use Rattle.vortex_model_laws.specs.Exact.{is_range_predicate, box_of_chunk}
+use Rattle.vortex_model_laws.specs.Exact.{box_of_chunk}
 use Rattle.vortex_model_laws.specs.Laws.{groups_of_many}
 
 -- a record of one number, named by a text
@@ -68,7 +69,7 @@ two_rows = refl
 accepted : predicate_fault table.kind above_20 ≡ None
 accepted = refl
 
-single : is_range_predicate above_20 ≡ true
+single : is_wide above_20 ≡ true
 single = refl
 
 bounds_there : is_bounded (box_of_chunk table high_chunk) above_20 ≡ true
@@ -82,7 +83,7 @@ some_choice = refl
 abbrev from_10 : Expression
 from_10 = between a (number 10) (number 40) false false
 
-single_range : is_range_predicate from_10 ≡ true
+single_range : is_wide from_10 ≡ true
 single_range = refl
 
 range_skipped : skipped_chunks table from_10 ≡ 0 ∷ 1 ∷ []
@@ -92,11 +93,110 @@ range_skipped = refl
 abbrev twice : Expression
 twice = both (compare less a (number 3)) (compare greater a (number 8))
 
-not_single : is_range_predicate twice ≡ false
+not_single : is_wide twice ≡ false
 not_single = refl
 
 tested_twice : chunk_outcome table twice low_chunk ≡ tested
 tested_twice = refl
+
+-- ---- null tests
+
+-- a nullable number and a number
+abbrev pairs : LogicalType
+pairs = struct (field (codes "a") (integer_type i32 nullable) (field (codes "b") (integer_type i32 non_nullable) no_fields)) non_nullable
+
+abbrev pair_of : Content → ℕ → Content
+pair_of c n = tuple (first c (first (integer (pos n)) nothing))
+
+abbrev no_numbers : List Content
+no_numbers = pair_of null 1 ∷ pair_of null 9 ∷ []
+
+abbrev one_number : List Content
+one_number = pair_of null 1 ∷ pair_of (integer (pos 3)) 9 ∷ []
+
+abbrev pair_table : Table
+pair_table = record { kind = pairs; default = 16; lengths = []; chunks = no_numbers ∷ one_number ∷ []; groups = 2 ∷ [] }
+
+abbrev known_and_large : Expression
+known_and_large = both (is_not_null a) (compare greater (column (codes "b" ∷ [])) (number 5))
+
+wide_test : is_wide known_and_large ≡ true
+wide_test = refl
+
+test_accepted : predicate_fault pairs known_and_large ≡ None
+test_accepted = refl
+
+-- bounds are asked of b alone
+tested_needs_no_bounds : is_bounded (box_of_chunk pair_table no_numbers) known_and_large ≡ true
+tested_needs_no_bounds = refl
+
+-- each value of a is null
+only_nulls_skipped : skipped_chunks pair_table known_and_large ≡ 0 ∷ []
+only_nulls_skipped = refl
+
+-- 1 and 9 are values of b, and 7 lies between them
+test_holds : evaluate (of_choice (λ xs. integer (pos 7))) known_and_large ≡ boolean true
+test_holds = refl
+
+no_nulls_skipped : skipped_chunks table (is_null_test a) ≡ 0 ∷ 1 ∷ 2 ∷ []
+no_nulls_skipped = refl
+
+-- A chunk without rows would be hopeless, since its columns have no values, and yet be tested. So a table has none.
+abbrev null_or_any : Expression
+null_or_any = either (is_null_test a) (literal (boolean_type non_nullable) (boolean true))
+
+empty_tested : chunk_outcome pair_table null_or_any [] ≡ tested
+empty_tested = refl
+
+empty_is_hopeless : Hopeless pairs null_or_any (box_of_chunk pair_table [])
+empty_is_hopeless choice inside holds = by_null (is_null (choice (codes "a" ∷ []))) refl
+  where
+    by_null : (b : Bool) → is_null (choice (codes "a" ∷ [])) ≡ b → ⊥
+    by_null true e = inside.0.at_null e refl
+    by_null false e = let none = (inside.0.at_value e).1 in omega (arith, none)
+
+-- ---- LIKE
+
+abbrev texts : LogicalType
+texts = struct (field (codes "s") (utf8 non_nullable) no_fields) non_nullable
+
+abbrev text_row : List ℕ → Content
+text_row t = tuple (first (text t) nothing)
+
+abbrev text_table : Table
+text_table = record {
+  kind = texts;
+  default = 16;
+  lengths = [];
+  chunks = (text_row (codes "zeta") ∷ []) ∷ (text_row (codes "prefix-one") ∷ []) ∷ (text_row (codes "alpha") ∷ text_row (codes "zeta") ∷ []) ∷ [];
+  groups = 1 ∷ 1 ∷ 1 ∷ [];
+}
+
+abbrev s_like : List ℕ → Expression
+s_like form = like (column (codes "s" ∷ [])) (literal (utf8 non_nullable) (text form)) false false
+
+abbrev from_prefix : Expression
+from_prefix = s_like (codes "prefix%")
+
+wide_like : is_wide from_prefix ≡ true
+unfolding chars lib.Utf8.encode
+wide_like = refl
+
+like_accepted : predicate_fault texts from_prefix ≡ None
+like_accepted = refl
+
+-- the last chunk is tested: "prefix" lies between its bounds
+prefix_skipped : skipped_chunks text_table from_prefix ≡ 0 ∷ []
+unfolding chars lib.Utf8.encode
+prefix_skipped = refl
+
+prefix_itself : evaluate (of_choice (λ xs. text (codes "prefix"))) from_prefix ≡ boolean true
+unfolding chars lib.Utf8.encode
+prefix_itself = refl
+
+text_skipped : skipped_chunks text_table (s_like (codes "prefix-two")) ≡ 0 ∷ 1 ∷ []
+unfolding chars lib.Utf8.encode
+text_skipped = refl
 
 -- ---- proofs of zone maps that tell more
 

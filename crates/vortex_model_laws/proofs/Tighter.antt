@@ -393,7 +393,7 @@ true_so true h = refl
 true_so false h = absurd (cc (h))
 
 -- a count by its two proofs
-count_so : (a b : ℕ) → kleene_or (compared equal (integer (pos a)) (integer (pos b))) (boolean (a == b)) ≡ boolean true → a ≡ b
+pub count_so : (a b : ℕ) → kleene_or (compared equal (integer (pos a)) (integer (pos b))) (boolean (a == b)) ≡ boolean true → a ≡ b
 count_so a b t = elim (or_one (compared equal (integer (pos a)) (integer (pos b))) (boolean (a == b)) t) [
   | inl f ↦ number_so (equal_so (integer (pos a)) (integer (pos b)) f)
   | inr f ↦ eqb-true a b (true_so (a == b) f)

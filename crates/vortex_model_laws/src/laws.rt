@@ -54,15 +54,16 @@ pub fn bound_satisfiers_are_sound()
     ensures { BoundSatisfiersAreSound }
 {}
 
-/// A chunk that has both bounds of each column of a predicate of ranges is skipped exactly where no
-/// choice of values between them makes the predicate true. It has comparisons, BETWEEN with its
-/// ends and truth values, joined by AND and OR, and no column stands twice.
+/// A chunk that has both bounds of each column outside null tests is skipped exactly where no
+/// choice of values in its box makes the predicate true. The predicate has comparisons, BETWEEN
+/// with its ends, truth values, null tests and LIKEs of a text or of a beginning, joined by AND and
+/// OR, and no column stands twice.
 pub fn exactly_the_hopeless_are_skipped()
     ensures { ExactlyTheHopelessAreSkipped }
 {}
 
-/// Where a chunk has all bounds of a predicate of ranges and its falsifier is not true of them,
-/// some choice of values between them makes the predicate true.
+/// Where a chunk of one row or more has all such bounds and the predicate's falsifier is not true
+/// of its zone maps, some choice of values in its box makes the predicate true.
 pub fn falsifiers_are_complete()
     ensures { FalsifiersAreComplete }
 {}
