@@ -8,12 +8,12 @@ use Rattle.vortex_model.specs.Path.{Names}
 use Rattle.vortex_model.specs.Expression.{Expression, literal, column, compare, both, either, between, like, is_null as is_null_test, is_not_null, statistic, greater, less, equal, not_equal, min, null_count}
 use Rattle.vortex_model.specs.Truth.{evaluate}
 use Rattle.vortex_model.specs.Statistics.{exact, absent}
-use Rattle.vortex_model.specs.ZoneMap.{ZoneMap}
+use Rattle.vortex_model.specs.ZoneMap.{ZoneMap, zone_of, Joins, alone, together, made_by}
 use Rattle.vortex_model.specs.Rewrite.{falsifier, count_literal}
 use Rattle.vortex_model.specs.Table.{Table}
 use Rattle.vortex_model.specs.Scan.{chunk_zone, proves, skipped_in_group, tested, is_skipped, chunk_outcome, numbers, outcomes, skipped_chunks, proofs, rows_tested}
 use Rattle.vortex_model.specs.Command.{retype, refusal, after, predicate_fault}
-use Rattle.vortex_model.specs.Class.{is_bounded, is_wide, of_choice, Hopeless}
+use Rattle.vortex_model.specs.Class.{is_bounded, is_single_use, is_wide, of_choice, Hopeless}
 use Rattle.vortex_model_laws.specs.Binding.{Binder, bound}
 use Rattle.vortex_model_laws.specs.Exact.{box_of_chunk}
 use Rattle.vortex_model_laws.specs.Laws.{groups_of_many}
@@ -197,6 +197,33 @@ prefix_itself = refl
 text_skipped : skipped_chunks text_table (s_like (codes "prefix-two")) ≡ 0 ∷ 1 ∷ []
 unfolding chars lib.Utf8.encode
 text_skipped = refl
+
+-- ---- joins
+
+abbrev zone_of_numbers : List Content → Joins
+zone_of_numbers cs = alone (zone_of (integer_type i32 nullable) 16 cs)
+
+abbrev numbers_of : List ℕ → List Content
+numbers_of ns = map (λ n. integer (pos n)) ns
+
+abbrev two_joined : List Content → List Content → ZoneMap
+two_joined cs ds = made_by (integer_type i32 nullable) (together (zone_of_numbers cs) (zone_of_numbers ds))
+
+sum_of_two : (two_joined (numbers_of (1 ∷ 9 ∷ [])) (numbers_of (5 ∷ 30 ∷ []))).total ≡ exact (pos 45)
+sum_of_two = refl
+
+unequal_lows : (two_joined (numbers_of (7 ∷ 7 ∷ [])) (numbers_of (8 ∷ []))).constant ≡ exact false
+unequal_lows = refl
+
+equal_lows : (two_joined (numbers_of (7 ∷ 7 ∷ [])) (numbers_of (7 ∷ []))).constant ≡ exact true
+equal_lows = refl
+
+-- each is constant, and one has no low
+missing_low : (two_joined (null ∷ []) (numbers_of (7 ∷ []))).constant ≡ absent
+missing_low = refl
+
+single_use : is_single_use above_20 ≡ true
+single_use = refl
 
 -- ---- proofs of zone maps that tell more
 

@@ -6,6 +6,7 @@ mod DefinitionExamples
 mod Encoded
 mod Exact
 mod Examples
+mod Joined
 pub mod Liked
 pub mod Members
 mod Retyping

@@ -1,4 +1,5 @@
 pub mod Binding
 pub mod Exact
+pub mod Joined
 pub mod Laws
 pub mod Tighter

@@ -9,6 +9,11 @@ ghost use Rattle.vortex_model_laws.specs.Exact.{
   FalsifiersAreComplete,
   ExactlyTheHopelessAreSkipped,
 };
+ghost use Rattle.vortex_model_laws.specs.Joined.{
+  JoinsGiveTheTotal,
+  JoinsGiveTheConstancy,
+  SingleUseTreesAreWide,
+};
 ghost use Rattle.vortex_model_laws.specs.Tighter.{ProofsStayTrue, GroupsChangeNothing};
 
 use vortex_model::laws::{conversions_compose, tests_of_conversion_are_right};
@@ -66,4 +71,21 @@ pub fn exactly_the_hopeless_are_skipped()
 /// of its zone maps, some choice of values in its box makes the predicate true.
 pub fn falsifiers_are_complete()
     ensures { FalsifiersAreComplete }
+{}
+
+/// Comparisons under AND and OR in which no column stands twice are of the wide class.
+pub fn single_use_trees_are_wide()
+    ensures { SingleUseTreesAreWide }
+{}
+
+/// Whatever joins make a group of chunks, its sum is that of the rows or missing, and is there
+/// where the sum of each run of its neighbouring chunks fits.
+pub fn joins_give_the_total()
+    ensures { JoinsGiveTheTotal }
+{}
+
+/// Whatever joins make a group of chunks, its constancy is that of the rows or missing, and is
+/// there for one chunk, where some chunk is not constant, and where each has an exact low.
+pub fn joins_give_the_constancy()
+    ensures { JoinsGiveTheConstancy }
 {}

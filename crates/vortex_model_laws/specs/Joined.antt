@@ -1,0 +1,32 @@
+-- The sum and the constancy of a group, whatever joins made it; and the class of the trees that the
+-- wide class widens.
+use Rattle.std.specs.Prelude.{◌≡◌, ℕ, List, map, flat_map, true}
+use Rattle.std.specs.List.{AllByRecursion}
+use Rattle.vortex_model.specs.LogicalType.{LogicalType}
+use Rattle.vortex_model.specs.Content.{Content}
+use Rattle.vortex_model.specs.Valid.{IsContent}
+use Rattle.vortex_model.specs.Kept.{is_leaf}
+use Rattle.vortex_model.specs.Expression.{Expression}
+use Rattle.vortex_model.specs.Statistics.{sum_of}
+use Rattle.vortex_model.specs.ZoneMap.{zone_of, IsGroupTotal, IsGroupConstancy, Joins, all_joined, made_by}
+use Rattle.vortex_model.specs.Class.{is_single_use, is_wide}
+
+-- The sum that joins make of the zone maps of chunks is that of all their rows, or missing, and is
+-- there where the sum of each run of neighbouring chunks fits.
+abbrev pub JoinsGiveTheTotal : Type 0
+JoinsGiveTheTotal = (k : LogicalType) (L : ℕ) (chunks : List (List Content)) (joins : Joins) →
+    all_joined joins ≡ map (zone_of k L) chunks →
+    IsGroupTotal k (map sum_of chunks) (made_by k joins).total
+
+-- The constancy that they make is that of all their rows, or missing, and is there where the chunks
+-- show it.
+abbrev pub JoinsGiveTheConstancy : Type 0
+JoinsGiveTheConstancy = (k : LogicalType) (L : ℕ) (chunks : List (List Content)) (joins : Joins) →
+    is_leaf k ≡ true → AllByRecursion (λ chunk. AllByRecursion (IsContent k) chunk) chunks →
+    all_joined joins ≡ map (zone_of k L) chunks →
+    IsGroupConstancy (flat_map (λ chunk. chunk) chunks) (map (zone_of k L) chunks)
+    (made_by k joins).constant
+
+-- comparisons under AND and OR in which no column stands twice are of the wide class
+abbrev pub SingleUseTreesAreWide : Type 0
+SingleUseTreesAreWide = (e : Expression) → is_single_use e ≡ true → is_wide e ≡ true
