@@ -8,15 +8,16 @@ use Rattle.vortex_model.specs.Path.{Names}
 use Rattle.vortex_model.specs.Expression.{Expression, literal, column, compare, both, either, between, like, is_null as is_null_test, is_not_null, statistic, greater, less, equal, not_equal, min, null_count}
 use Rattle.vortex_model.specs.Truth.{evaluate}
 use Rattle.vortex_model.specs.Statistics.{exact, absent}
-use Rattle.vortex_model.specs.ZoneMap.{ZoneMap, zone_of, Joins, alone, together, made_by}
+use Rattle.vortex_model.specs.ZoneMap.{ZoneMap, low_of_values, high_of_values, zone_of, Joins, alone, together, made_by}
 use Rattle.vortex_model.specs.Rewrite.{falsifier, count_literal}
-use Rattle.vortex_model.specs.Table.{Table}
+use Rattle.vortex_model.specs.Table.{Table, rows_of}
 use Rattle.vortex_model.specs.Scan.{chunk_zone, proves, skipped_in_group, tested, is_skipped, chunk_outcome, numbers, outcomes, skipped_chunks, proofs, rows_tested}
-use Rattle.vortex_model.specs.Command.{retype, refusal, after, predicate_fault}
+use Rattle.vortex_model.specs.Command.{Command, create, append_array, join, retype, refusal, after, predicate_fault, steps}
 use Rattle.vortex_model.specs.Class.{is_bounded, is_single_use, is_wide, of_choice, Hopeless}
 use Rattle.vortex_model_laws.specs.Binding.{Binder, bound}
 use Rattle.vortex_model_laws.specs.Exact.{box_of_chunk}
 use Rattle.vortex_model_laws.specs.Laws.{groups_of_many}
+use Rattle.vortex_model_laws.specs.Runs.{handed_in}
 
 -- a record of one number, named by a text
 abbrev record_named : List ℕ → IntKind → LogicalType
@@ -224,6 +225,36 @@ missing_low = refl
 
 single_use : is_single_use above_20 ≡ true
 single_use = refl
+
+-- ---- values that repeat
+
+-- values 3 and 8 of a dictionary whose third value no code references
+repeated_low : low_of_values 16 (numbers_of (8 ∷ 3 ∷ 8 ∷ 3 ∷ [])) ≡ low_of_values 16 (numbers_of (3 ∷ 8 ∷ []))
+repeated_low = refl
+
+unreferenced_high : high_of_values 16 (numbers_of (3 ∷ 8 ∷ 9 ∷ [])) ≡ exact (integer (pos 9))
+unreferenced_high = refl
+
+sum_of_one : (zone_of (integer_type i32 nullable) 16 (integer (pos 7) ∷ integer (pos 7) ∷ integer (pos 7) ∷ [])).total ≡ exact (pos 21)
+sum_of_one = refl
+
+-- ---- runs
+
+abbrev number_rows : LogicalType
+number_rows = record_named (codes "a") i32
+
+abbrev handed : ℕ → Command
+handed n = append_array number_rows (row_of n ∷ [])
+
+-- a join that is refused, an append to another type that is refused, and a create that begins anew
+abbrev commands : List Command
+commands = handed 1 ∷ create number_rows 16 [] ∷ handed 2 ∷ create number_rows 16 [] ∷ handed 3 ∷ join 7 ∷ append_array pairs no_numbers ∷ handed 4 ∷ join 0 ∷ []
+
+handed_over : handed_in None [] commands ≡ row_of 3 ∷ row_of 4 ∷ []
+handed_over = refl
+
+left_rows : option_map rows_of (steps None commands) ≡ Some (row_of 3 ∷ row_of 4 ∷ [])
+left_rows = refl
 
 -- ---- proofs of zone maps that tell more
 

@@ -4,9 +4,9 @@ use Rattle.std.specs.List.{AllByRecursion, list_all, list_any}
 use Rattle.std.proofs.Math.IntN.{+ℤ_assoc, +ℤ_idl, +ℤ_comm}
 use Rattle.std.proofs.lemmas.Bool.Decides.{nat_tests}
 use Rattle.std.proofs.lemmas.Grind.{flat_map-append}
-use Rattle.std.proofs.lemmas.List.{length-append, map-append}
+use Rattle.std.proofs.lemmas.List.{append-nil, length-append, map-append}
 use Rattle.vortex_model.specs.LogicalType.{LogicalType, IntKind}
-use Rattle.vortex_model.specs.Content.{Content, is_null, equal_content}
+use Rattle.vortex_model.specs.Content.{Content, equal_content}
 use Rattle.vortex_model.specs.Valid.{IsContent, in_range}
 use Rattle.vortex_model.specs.Kept.{is_leaf}
 use Rattle.vortex_model.specs.Typing.{sum_kind}
@@ -23,6 +23,7 @@ use Rattle.vortex_model.proofs.Leasts.{picked, end_picked, at_most_both, contain
 use Rattle.vortex_model_laws.proofs.Complete.{either_way}
 use Rattle.vortex_model_laws.proofs.Members.{IsMember, member_itself, member_total, low_is_member}
 use Rattle.vortex_model_laws.proofs.Tighter.{or_right_true, by_contra}
+use Rattle.vortex_model_laws.proofs.Values.{kept_among}
 
 -- ---- lists of zone maps
 
@@ -70,11 +71,7 @@ fits_so : (i : IntKind) (z : ℤ) → in_range i z ≡ true → sum_in (Some i) 
 fits_so i z h = ap (λ b. if b then exact z else absent) h
 
 whole_fits : (i : IntKind) (sums : List ℤ) → EachRunFits i sums → in_range i (total_of sums) ≡ true
-whole_fits i sums h = h [] sums [] (sym (nothing sums))
-  where
-    nothing : (xs : List ℤ) → xs ++ [] ≡ xs
-    nothing [] = refl
-    nothing (x ∷ xs) = ap (λ ys. x ∷ ys) (nothing xs)
+whole_fits i sums h = h [] sums [] (sym (append-nil sums))
 
 front_fits : (i : IntKind) (xs ys : List ℤ) → EachRunFits i (xs ++ ys) → EachRunFits i xs
 front_fits i xs ys h before run after e = h before run (after ++ ys) (ap (λ l. l ++ ys) e ∙ append_assoc (before ++ run) after ys)
@@ -215,15 +212,6 @@ module _ (k : LogicalType) (L : ℕ) (leaf : is_leaf k ≡ true) where
 
   -- ---- lows
 
-  kept_among : (v : Content) (cs : List Content) → Among v (non_null cs) → Among v cs
-  kept_among v [] a = absurd a
-  kept_among v (c ∷ cs) a = by_test (is_null c) a (kept_among v cs)
-    where
-      by_test : (b : Bool) → Among v (if not b then c ∷ non_null cs else non_null cs) → (Among v (non_null cs) → Among v cs) → Among v (c ∷ cs)
-      by_test true h more = inr (more h)
-      by_test false (inl e) more = inl e
-      by_test false (inr h) more = inr (more h)
-
   honest_one : (p : Precision Content) (cs : List Content) → IsHonestLeast p cs → IsOneOf p cs
   honest_one p cs h v e = let least = subst (λ q. IsHonestLeast q cs) e h in kept_among v cs (contains_among v (non_null cs) least.among)
 
@@ -269,11 +257,7 @@ module _ (k : LogicalType) (L : ℕ) (leaf : is_leaf k ≡ true) where
     some : 0 < length (zones_of chunks)
 
   one_in : (c : List Content) → rows_in (c ∷ []) ≡ c
-  one_in c = nothing c
-    where
-      nothing : (xs : List Content) → xs ++ [] ≡ xs
-      nothing [] = refl
-      nothing (x ∷ xs) = ap (λ ys. x ∷ ys) (nothing xs)
+  one_in c = append-nil c
 
   made_alone : (c : List Content) → AreTyped (c ∷ []) → IsMadeOf (alone (zone_of k L c)) (c ∷ [])
   made_alone c typed = record {

@@ -11,4 +11,6 @@ pub mod Liked
 pub mod Members
 mod Retyping
 mod Ruled
+mod Runs
 pub mod Tighter
+mod Values

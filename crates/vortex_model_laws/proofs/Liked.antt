@@ -11,6 +11,7 @@ use Rattle.std.proofs.Math.Utf8.{scalars}
 use Rattle.std.proofs.lemmas.Bool.{cases_lt, eq-eqb}
 use Rattle.std.proofs.lemmas.Cmp.{nat_list_cmp_total}
 use Rattle.std.proofs.lemmas.Bool.Decides.{nat_tests}
+use Rattle.std.proofs.lemmas.List.{append-nil}
 use Rattle.std.proofs.lemmas.Str.{encode_ascii, encodes-append, encodes-chars, chars-encodes, scalars-chars}
 use Rattle.vortex_model.specs.LogicalType.{Nullability, utf8}
 use Rattle.vortex_model.specs.Content.{Content, null, boolean, text}
@@ -150,15 +151,11 @@ front_behind [] x = refl
 front_behind (y ∷ []) x = refl
 front_behind (y ∷ z ∷ xs) x = ap (λ ys. y ∷ ys) (front_behind (z ∷ xs) x)
 
-nothing_behind : (xs : List ℕ) → xs ++ [] ≡ xs
-nothing_behind [] = refl
-nothing_behind (x ∷ xs) = ap (λ ys. x ∷ ys) (nothing_behind xs)
-
 percent_last : (cs : List ℕ) → ends_in_percent (encode_utf8_all cs) ≡ true → (ds : List ℕ) × (cs ≡ ds ++ 37 ∷ [])
 percent_last [] h = absurd (cc (h))
 percent_last (c ∷ []) h =
     let b = ends_of c in
-    ([], ap (λ x. x ∷ []) (b.percent (subst (λ bs. ends_in_percent bs ≡ true) (ap (λ bs. bs ++ []) b.is ∙ nothing_behind (b.lead ∷ b.rest)) h)))
+    ([], ap (λ x. x ∷ []) (b.percent (subst (λ bs. ends_in_percent bs ≡ true) (ap (λ bs. bs ++ []) b.is ∙ append-nil (b.lead ∷ b.rest)) h)))
 percent_last (c ∷ d ∷ cs) h =
     let b = ends_of d in let behind = b.rest ++ encode_utf8_all cs in
     let is : encode_utf8_all (d ∷ cs) ≡ b.lead ∷ behind = ap (λ bs. bs ++ encode_utf8_all cs) b.is in
@@ -389,7 +386,7 @@ prefix_chosen n form e a b u ordered works =
         member = (e.begin, (e.valid, refl));
         from = le_p;
         to = up_to_high;
-        holds = liked_made form p e.free (e.like p [] (chars-encodes e.begin e.valid ∙ sym (nothing_behind e.begin)));
+        holds = liked_made form p e.free (e.like p [] (chars-encodes e.begin e.valid ∙ sym (append-nil e.begin)));
       }
       | inl over ↦ elim (under_or_upto a s) [
         | inr back ↦ absurd (clashing (le (text s) (text a)) back below_raised)

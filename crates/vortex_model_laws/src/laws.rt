@@ -14,9 +14,11 @@ ghost use Rattle.vortex_model_laws.specs.Joined.{
   JoinsGiveTheConstancy,
   SingleUseTreesAreWide,
 };
+ghost use Rattle.vortex_model_laws.specs.Runs.{RunsKeepWhatIsHandedIn};
 ghost use Rattle.vortex_model_laws.specs.Tighter.{ProofsStayTrue, GroupsChangeNothing};
+ghost use Rattle.vortex_model_laws.specs.Values.{BoundsAreOfTheValues, ConstantsHaveTheirZoneMap};
 
-use vortex_model::laws::{conversions_compose, tests_of_conversion_are_right};
+use vortex_model::laws::{conversions_compose, steps_keep_tables, tests_of_conversion_are_right};
 
 /// Retyping to one type and then to another leaves what retyping at once does.
 pub fn retyping_twice_is_retyping_at_once()
@@ -88,4 +90,24 @@ pub fn joins_give_the_total()
 /// there for one chunk, where some chunk is not constant, and where each has an exact low.
 pub fn joins_give_the_constancy()
     ensures { JoinsGiveTheConstancy }
+{}
+
+/// Whatever the commands, accepted and refused, a run leaves a table whose rows are those that its
+/// accepted appends handed in, in order, behind the last accepted create.
+pub fn runs_keep_what_is_handed_in()
+    ensures { RunsKeepWhatIsHandedIn }
+{
+    steps_keep_tables();
+}
+
+/// Bounds are those of the values, however often these stand in the rows: so those of a
+/// dictionary's rows are those of the values that its codes reference.
+pub fn bounds_are_of_the_values()
+    ensures { BoundsAreOfTheValues }
+{}
+
+/// Rows of one value have the bounds of one such row, that value so many times as sum, and are
+/// constant.
+pub fn constants_have_their_zone_map()
+    ensures { ConstantsHaveTheirZoneMap }
 {}

@@ -1,0 +1,31 @@
+-- What a run of commands leaves.
+use Rattle.std.specs.Prelude.{◌≡◌, List, [], ◌∷◌, ◌++◌, map, Option, Some, None}
+use Rattle.std.specs.List.{AllByRecursion}
+use Rattle.vortex_model.specs.Content.{Content, content_of}
+use Rattle.vortex_model.specs.Table.{Table, IsTable, rows_of}
+use Rattle.vortex_model.specs.Command.{Command, create, append, append_array, refusal_in, step_in, steps}
+use Rattle.vortex_model.specs.Laws.{IsFormed}
+
+-- the rows after an accepted command
+abbrev pub rows_by : Command → List Content → List Content
+rows_by (create k default entries) rows = []
+rows_by (append s values) rows = rows ++ map content_of values
+rows_by (append_array s more) rows = rows ++ more
+rows_by c rows = rows
+
+-- The rows that the accepted appends of a run hand in behind its last accepted create, in order. A
+-- refused command hands in nothing.
+abbrev pub handed_in : Option Table → List Content → List Command → List Content
+handed_in s rows [] = rows
+handed_in s rows (c ∷ cs) =
+    handed_in (step_in s c) (elim (refusal_in s c) [ None ↦ rows_by c rows | Some r ↦ rows ]) cs
+
+-- A table whose rows are what was handed in, none added, dropped or changed.
+pub record IsLeftBy (cs : List Command) (t : Table) : Type 0 where
+  pub table : IsTable t
+  pub rows : rows_of t ≡ handed_in None [] cs
+
+-- That is what any run leaves, refused commands and repeats included, in whatever chunks and groups.
+abbrev pub RunsKeepWhatIsHandedIn : Type 0
+RunsKeepWhatIsHandedIn = (cs : List Command) (t : Table) → AllByRecursion IsFormed cs →
+    steps None cs ≡ Some t → IsLeftBy cs t
