@@ -256,6 +256,10 @@ handed_over = refl
 left_rows : option_map rows_of (steps None commands) ≡ Some (row_of 3 ∷ row_of 4 ∷ [])
 left_rows = refl
 
+-- the two chunks are one group, which isn't skipped; 3 is not above 3
+skipped_behind : option_map (λ t. skipped_chunks t (compare greater a (number 3))) (steps None commands) ≡ Some (0 ∷ [])
+skipped_behind = refl
+
 -- ---- proofs of zone maps that tell more
 
 abbrev zones_from : ℕ → ℕ → Names → Option ZoneMap

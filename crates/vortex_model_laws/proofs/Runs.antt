@@ -1,15 +1,18 @@
 -- A run leaves a table of the rows that were handed in.
-use Rattle.std.proofs.Common.{◌≡◌, refl, sym, ◌∙◌, ap, subst, List, [], ◌∷◌, ◌++◌, map, Option, Some, None}
+use Rattle.std.proofs.Common.{◌≡◌, refl, sym, ◌∙◌, ap, subst, List, [], ◌∷◌, ◌++◌, map, Option, Some, None, filter}
 use Rattle.std.specs.List.{AllByRecursion}
 use Rattle.std.proofs.lemmas.Grind.{flat_map-append}
 use Rattle.std.proofs.lemmas.List.{append-nil}
 use Rattle.vortex_model.specs.LogicalType.{struct, no_fields, non_nullable}
 use Rattle.vortex_model.specs.Content.{Content, content_of}
+use Rattle.vortex_model.specs.Truth.{selects}
+use Rattle.vortex_model.specs.Cut.{cut_row}
 use Rattle.vortex_model.specs.Refusal.{Refusal}
 use Rattle.vortex_model.specs.Table.{Table, IsTable, rows_of}
 use Rattle.vortex_model.specs.Command.{Command, create, append, append_array, join, retype, compact, scan, describe, appended, created, create_fault, refusal, after, refusal_in, after_in, step_in, steps}
 use Rattle.vortex_model.specs.Laws.{IsFormed, StepsKeepTables}
-use Rattle.vortex_model_laws.specs.Runs.{rows_by, handed_in, IsLeftBy}
+use Rattle.vortex_model_laws.specs.Runs.{rows_by, handed_in, IsLeftBy, IsScannedExactly}
+use Rattle.vortex_model_laws.proofs.Exact.{exactly_hopeless}
 
 appended_rows : (t : Table) (rows : List Content) → rows_of (appended t rows) ≡ rows_of t ++ rows
 appended_rows t [] = sym (append-nil (rows_of t))
@@ -58,3 +61,10 @@ module _ (keep : StepsKeepTables) where
   pub runs_keep : (cs : List Command) (t : Table) → AllByRecursion IsFormed cs → steps None cs ≡ Some t → IsLeftBy cs t
   runs_keep cs t formed e =
       let h = subst (λ s. Holds s (handed_in None [] cs)) e (run cs None [] formed tt) in record { table = h.0; rows = h.1 }
+
+  pub runs_scanned : (cs : List Command) (t : Table) → AllByRecursion IsFormed cs → steps None cs ≡ Some t → IsScannedExactly cs t
+  runs_scanned cs t formed e =
+      let left = runs_keep cs t formed e in record {
+        answers = λ paths p. ap (λ rows. map (cut_row paths t.kind) (filter (selects t.kind p) rows)) left.rows;
+        skips = λ p before chunk after. exactly_hopeless t p before chunk after left.table;
+      }

@@ -1,10 +1,18 @@
 -- What a run of commands leaves.
-use Rattle.std.specs.Prelude.{◌≡◌, List, [], ◌∷◌, ◌++◌, map, Option, Some, None}
+use Rattle.std.specs.Prelude.{◌≡◌, ◌↔◌, List, [], ◌∷◌, ◌++◌, length, map, filter, Contains, Option, Some, None, true}
 use Rattle.std.specs.List.{AllByRecursion}
 use Rattle.vortex_model.specs.Content.{Content, content_of}
-use Rattle.vortex_model.specs.Table.{Table, IsTable, rows_of}
+use Rattle.vortex_model.specs.Path.{Names}
+use Rattle.vortex_model.specs.Expression.{Expression}
+use Rattle.vortex_model.specs.Truth.{selects}
+use Rattle.vortex_model.specs.Cut.{cut_row}
+use Rattle.vortex_model.specs.Table.{Table, IsTable, rows_of, answer}
+use Rattle.vortex_model.specs.Scan.{skipped_chunks}
+use Rattle.vortex_model.specs.Pruning.{IsAsked}
+use Rattle.vortex_model.specs.Class.{Hopeless, is_wide, is_bounded}
 use Rattle.vortex_model.specs.Command.{Command, create, append, append_array, refusal_in, step_in, steps}
 use Rattle.vortex_model.specs.Laws.{IsFormed}
+use Rattle.vortex_model_laws.specs.Exact.{box_of_chunk}
 
 -- the rows after an accepted command
 abbrev pub rows_by : Command → List Content → List Content
@@ -29,3 +37,18 @@ pub record IsLeftBy (cs : List Command) (t : Table) : Type 0 where
 abbrev pub RunsKeepWhatIsHandedIn : Type 0
 RunsKeepWhatIsHandedIn = (cs : List Command) (t : Table) → AllByRecursion IsFormed cs →
     steps None cs ≡ Some t → IsLeftBy cs t
+
+-- A scan of the table answers the rows that were handed in and satisfy its predicate, in order, cut
+-- to its paths, and skips exactly the hopeless chunks.
+pub record IsScannedExactly (cs : List Command) (t : Table) : Type 0 where
+  pub answers : (paths : List Names) (e : Expression) → answer t paths e
+      ≡ map (cut_row paths t.kind) (filter (selects t.kind e) (handed_in None [] cs))
+  pub skips : (e : Expression) (before : List (List Content)) (chunk : List Content)
+      (after : List (List Content)) → IsAsked t e → is_wide e ≡ true →
+      t.chunks ≡ before ++ chunk ∷ after → is_bounded (box_of_chunk t chunk) e ≡ true →
+      Contains (skipped_chunks t e) (length before) ↔ Hopeless t.kind e (box_of_chunk t chunk)
+
+-- so it is behind any run
+abbrev pub RunsAreScannedExactly : Type 0
+RunsAreScannedExactly = (cs : List Command) (t : Table) → AllByRecursion IsFormed cs →
+    steps None cs ≡ Some t → IsScannedExactly cs t

@@ -14,7 +14,7 @@ ghost use Rattle.vortex_model_laws.specs.Joined.{
   JoinsGiveTheConstancy,
   SingleUseTreesAreWide,
 };
-ghost use Rattle.vortex_model_laws.specs.Runs.{RunsKeepWhatIsHandedIn};
+ghost use Rattle.vortex_model_laws.specs.Runs.{RunsKeepWhatIsHandedIn, RunsAreScannedExactly};
 ghost use Rattle.vortex_model_laws.specs.Tighter.{ProofsStayTrue, GroupsChangeNothing};
 ghost use Rattle.vortex_model_laws.specs.Values.{BoundsAreOfTheValues, ConstantsHaveTheirZoneMap};
 
@@ -96,6 +96,15 @@ pub fn joins_give_the_constancy()
 /// accepted appends handed in, in order, behind the last accepted create.
 pub fn runs_keep_what_is_handed_in()
     ensures { RunsKeepWhatIsHandedIn }
+{
+    steps_keep_tables();
+}
+
+/// Behind any run a scan answers the rows that were handed in and satisfy its predicate, in order,
+/// cut to its paths. A predicate of the wide class skips exactly the chunks in whose box no choice
+/// of values makes it true, of those that have all its bounds.
+pub fn runs_are_scanned_exactly()
+    ensures { RunsAreScannedExactly }
 {
     steps_keep_tables();
 }
