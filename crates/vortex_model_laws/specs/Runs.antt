@@ -33,7 +33,7 @@ pub record IsLeftBy (cs : List Command) (t : Table) : Type 0 where
   pub table : IsTable t
   pub rows : rows_of t ≡ handed_in None [] cs
 
--- That is what any run leaves, refused commands and repeats included, in whatever chunks and groups.
+-- That is what any run leaves, refused commands and repeats included.
 abbrev pub RunsKeepWhatIsHandedIn : Type 0
 RunsKeepWhatIsHandedIn = (cs : List Command) (t : Table) → AllByRecursion IsFormed cs →
     steps None cs ≡ Some t → IsLeftBy cs t
