@@ -14,7 +14,7 @@ mod Conversions
 pub mod CountUp
 mod Covers
 mod Edges
-mod Encoded
+pub mod Encoded
 pub mod Equality
 mod Examples
 pub mod GroupSkipping

@@ -3,7 +3,6 @@ mod Binding
 pub mod Complete
 mod Counts
 mod DefinitionExamples
-mod Encoded
 mod Exact
 mod Examples
 mod Joined

@@ -23,7 +23,7 @@ use Rattle.vortex_model.specs.Class.{is_plain, last_can_be_raised, front_of, end
 use Rattle.vortex_model.proofs.Beginnings.{scalars_left}
 use Rattle.vortex_model.proofs.ByteOrder.{IsUnder, under_upto, eq_front, under_or_upto, upto_refl}
 use Rattle.vortex_model.proofs.ContentOrder.{le}
-use Rattle.vortex_model_laws.proofs.Encoded.{encode_two, encode_three, encode_four, encode_under}
+use Rattle.vortex_model.proofs.Encoded.{encode_two, encode_three, encode_four, encode_under}
 use Rattle.vortex_model.proofs.Groups.{or_false_left, or_false_right}
 use Rattle.vortex_model.proofs.Likes.{plain_signs}
 use Rattle.vortex_model_laws.proofs.Members.{IsMember}
