@@ -1,0 +1,5 @@
+//! What is known of a statistic: a value that is exact, one that is not, or none; and such a value
+//! as a bound from below or from above.
+#![tactic(auto)]
+
+pub mod precision;
