@@ -2,4 +2,9 @@
 //! as a bound from below or from above.
 #![tactic(auto)]
 
+pub mod bound;
+pub mod bound_ord;
+pub mod intersection;
 pub mod precision;
+pub mod stat_bound;
+mod union;

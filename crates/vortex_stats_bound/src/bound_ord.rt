@@ -1,0 +1,109 @@
+//! The order by which bounds compare.
+ghost use Rattle.std.specs.Prelude.{◌≡◌, refl};
+ghost use Rattle.std.specs.Ordering.{nat_cmp, int_cmp, bool_cmp, as_partial_cmp};
+ghost use Rattle.std.specs.Cmp.{po, nat_cmp_total, int_cmp_total, bool_cmp_total};
+ghost use Rattle.vortex_stats_bound.specs.Order.{Comparison, IsLawful};
+
+use std::cmp::Ordering;
+
+/// Values that bounds are made of. Unlike `PartialOrd` it asks no `PartialEq`, so that values which
+/// are equal and do not compare, as those of variants, have it too.
+pub trait BoundOrd {
+    ghost order: { Comparison Self };
+
+    /// How the two stand, and `None` where they do not compare. It takes no memory.
+    fn bound_cmp(&self, other: &Self) -> Option<Ordering>
+        ensures { result ≡ order self.now other.now };
+
+    ghost lawful: { IsLawful order };
+}
+
+impl BoundOrd for bool {
+    ghost order = { as_partial_cmp bool_cmp };
+
+    ghost lawful = { po bool_cmp_total (λ a b. refl) };
+
+    fn bound_cmp(&self, other: &bool) -> Option<Ordering> {
+        Some(self.cmp(other))
+    }
+}
+
+impl BoundOrd for u8 {
+    ghost order = { as_partial_cmp nat_cmp };
+
+    ghost lawful = { po nat_cmp_total (λ a b. refl) };
+
+    fn bound_cmp(&self, other: &u8) -> Option<Ordering> {
+        Some(self.cmp(other))
+    }
+}
+
+impl BoundOrd for u16 {
+    ghost order = { as_partial_cmp nat_cmp };
+
+    ghost lawful = { po nat_cmp_total (λ a b. refl) };
+
+    fn bound_cmp(&self, other: &u16) -> Option<Ordering> {
+        Some(self.cmp(other))
+    }
+}
+
+impl BoundOrd for u32 {
+    ghost order = { as_partial_cmp nat_cmp };
+
+    ghost lawful = { po nat_cmp_total (λ a b. refl) };
+
+    fn bound_cmp(&self, other: &u32) -> Option<Ordering> {
+        Some(self.cmp(other))
+    }
+}
+
+impl BoundOrd for u64 {
+    ghost order = { as_partial_cmp nat_cmp };
+
+    ghost lawful = { po nat_cmp_total (λ a b. refl) };
+
+    fn bound_cmp(&self, other: &u64) -> Option<Ordering> {
+        Some(self.cmp(other))
+    }
+}
+
+impl BoundOrd for i8 {
+    ghost order = { as_partial_cmp int_cmp };
+
+    ghost lawful = { po int_cmp_total (λ a b. refl) };
+
+    fn bound_cmp(&self, other: &i8) -> Option<Ordering> {
+        Some(self.cmp(other))
+    }
+}
+
+impl BoundOrd for i16 {
+    ghost order = { as_partial_cmp int_cmp };
+
+    ghost lawful = { po int_cmp_total (λ a b. refl) };
+
+    fn bound_cmp(&self, other: &i16) -> Option<Ordering> {
+        Some(self.cmp(other))
+    }
+}
+
+impl BoundOrd for i32 {
+    ghost order = { as_partial_cmp int_cmp };
+
+    ghost lawful = { po int_cmp_total (λ a b. refl) };
+
+    fn bound_cmp(&self, other: &i32) -> Option<Ordering> {
+        Some(self.cmp(other))
+    }
+}
+
+impl BoundOrd for i64 {
+    ghost order = { as_partial_cmp int_cmp };
+
+    ghost lawful = { po int_cmp_total (λ a b. refl) };
+
+    fn bound_cmp(&self, other: &i64) -> Option<Ordering> {
+        Some(self.cmp(other))
+    }
+}

@@ -1,0 +1,121 @@
+//! What can be known of a statistic of two sets of values, from what is known of each.
+ghost use Rattle.std.specs.Prelude.{◌≡◌, Option, option_map};
+ghost use Rattle.std.specs.Option.{option_copied};
+ghost use Rattle.vortex_model.specs.Statistics.{Precision as Known};
+ghost use Rattle.vortex_stats_bound.specs.Precision.{precision_of, exact_value};
+ghost use Rattle.vortex_stats_bound.specs.Order.{seen_from};
+ghost use Rattle.vortex_stats_bound.specs.Bounds.{
+  exact_unless_below,
+  union_plain,
+  intersection_plain,
+  intersection_map,
+};
+ghost use Rattle.vortex_stats_bound.specs.declared.intersection.IntersectionResult.{
+  IntersectionResult as Common,
+};
+
+use crate::bound_ord::BoundOrd;
+use crate::intersection::IntersectionResult;
+use crate::precision::Precision;
+use crate::union::Side;
+use std::cmp::Ordering;
+
+/// What is known of a statistic, read as a bound, as Vortex's `StatBound`.
+pub trait StatBound<T>: Sized {
+    ghost known: { Self → Known T };
+
+    ghost union_of: { Known T → Known T → Option (Known T) };
+
+    ghost intersection_of: { Known T → Known T → Option (Common (Known T)) };
+
+    /// What is known, as a bound.
+    fn lift(value: Precision<T>) -> Self
+        ensures { known result ≡ precision_of value };
+
+    /// What is known.
+    fn into_value(self) -> Precision<T>
+        ensures { precision_of result ≡ known self };
+
+    /// The bound of what either bounds. `None` where a side is absent or the values do not compare.
+    /// It takes no memory.
+    fn union(self, other: Self) -> Option<Self>
+        ensures { option_map known result ≡ union_of (known self) (known other) };
+
+    /// The bound of what both bound. `None` as for `union`. It takes no memory.
+    fn intersection(self, other: Self) -> Option<IntersectionResult<Self>>
+        ensures { option_map (λ common. intersection_map known common) result
+            ≡ intersection_of (known self) (known other) };
+
+    /// The value, if it is exact.
+    fn to_exact(&self) -> Option<&T>
+        ensures { option_copied result ≡ exact_value (known self.now) };
+}
+
+/// A value that bounds nothing. An intersection with what is absent is empty.
+impl<T: BoundOrd + Drop> StatBound<T> for Precision<T> {
+    ghost known = { λ p. precision_of p };
+
+    ghost union_of = { union_plain T.order };
+
+    ghost intersection_of = { intersection_plain T.order };
+
+    fn lift(value: Precision<T>) -> Precision<T>
+        ensures { precision_of result ≡ precision_of value }
+    {
+        value
+    }
+
+    fn into_value(self) -> Precision<T> {
+        self
+    }
+
+    fn union(self, other: Precision<T>) -> Option<Precision<T>> {
+        match self.zip(other) {
+            Precision::Exact((left, right)) => {
+                Some(Precision::Exact(Side::Lower.lesser(left, right)?))
+            }
+            Precision::Inexact((left, right)) => {
+                Some(Precision::Inexact(Side::Lower.lesser(left, right)?))
+            }
+            Precision::Absent => None,
+        }
+    }
+
+    fn intersection(self, other: Precision<T>) -> Option<IntersectionResult<Precision<T>>> {
+        match self {
+            Precision::Exact(left) => match other {
+                Precision::Exact(right) => Side::Lower.same_value(left, right),
+                Precision::Inexact(right) => exact_unless_below(left, right),
+                Precision::Absent => Some(IntersectionResult::Empty),
+            },
+            Precision::Inexact(left) => match other {
+                Precision::Exact(right) => exact_unless_below(right, left),
+                Precision::Inexact(right) => {
+                    let value = Side::Lower.lesser(left, right)?;
+                    Some(IntersectionResult::Value(Precision::Inexact(value)))
+                }
+                Precision::Absent => Some(IntersectionResult::Empty),
+            },
+            Precision::Absent => Some(IntersectionResult::Empty),
+        }
+    }
+
+    fn to_exact(&self) -> Option<&T> {
+        self.as_ref().as_exact()
+    }
+}
+
+// the exact value, no longer exact where it is below the inexact one
+fn exact_unless_below<T: BoundOrd + Drop>(
+    exact: T,
+    inexact: T,
+) -> Option<IntersectionResult<Precision<T>>>
+    ensures { option_map (λ common. intersection_map precision_of common) result
+        ≡ exact_unless_below T.order exact inexact }
+{
+    match exact.bound_cmp(&inexact)? {
+        Ordering::Less => Some(IntersectionResult::Value(Precision::Inexact(exact))),
+        Ordering::Equal => Some(IntersectionResult::Value(Precision::Exact(exact))),
+        Ordering::Greater => Some(IntersectionResult::Value(Precision::Exact(exact))),
+    }
+}
