@@ -1,4 +1,5 @@
--- The tables of unions and intersections. C says how two values stand; where they don't compare, there is no answer.
+-- The tables of unions and intersections. C says how two values stand; where they don't compare,
+-- there is no answer.
 use Rattle.std.specs.Prelude.{Option, Some, None, option_map, if◌then◌else◌}
 use Rattle.std.specs.declared.cmp.Ordering.{Ordering}
 use Rattle.std.specs.declared.cmp.Ordering.TheVariants.{Less, Greater}
@@ -10,6 +11,13 @@ use Rattle.vortex_stats_bound.specs.declared.bound.LowerBound.{LowerBound}
 use Rattle.vortex_stats_bound.specs.declared.bound.UpperBound.{UpperBound}
 use Rattle.vortex_stats_bound.specs.declared.intersection.IntersectionResult.{IntersectionResult}
 use Rattle.vortex_stats_bound.specs.declared.intersection.IntersectionResult.TheVariants.{Value, Empty}
+
+-- how two bounds are united, and what they have in common
+abbrev pub Union : Type 0 → Type 0
+Union A = Precision A → Precision A → Option (Precision A)
+
+abbrev pub Intersection : Type 0 → Type 0
+Intersection A = Precision A → Precision A → Option (IntersectionResult (Precision A))
 
 -- what is known of the bound
 abbrev pub lower_of : {A : Type 0} → LowerBound A → Precision A
@@ -38,7 +46,7 @@ abbrev pub lesser_of_both : {A : Type 0} → Comparison A → A → A → Option
 lesser_of_both C e i = option_map (λ o. if is_gt o then inexact i else exact e) (C e i)
 
 -- the lesser value: exact if an exact side has it, else inexact
-abbrev pub union_lower : {A : Type 0} → Comparison A → Precision A → Precision A → Option (Precision A)
+abbrev pub union_lower : {A : Type 0} → Comparison A → Union A
 union_lower C (exact a) (exact b) = option_map (λ v. exact v) (lesser C a b)
 union_lower C (inexact a) (inexact b) = option_map (λ v. inexact v) (lesser C a b)
 union_lower C (exact e) (inexact i) = lesser_of_both C e i
@@ -46,15 +54,18 @@ union_lower C (inexact i) (exact e) = lesser_of_both C e i
 union_lower C p q = None
 
 -- an exact value that another one bounds from below
-abbrev pub bounded_value : {A : Type 0} → Comparison A → A → A → Option (IntersectionResult (Precision A))
+abbrev pub bounded_value : {A : Type 0} → Comparison A → A → A →
+    Option (IntersectionResult (Precision A))
 bounded_value C e i = option_map (λ o. if is_lt o then Empty else Value (exact e)) (C e i)
 
 -- the exact value, if the two are one
-abbrev pub same_value : {A : Type 0} → Comparison A → A → A → Option (IntersectionResult (Precision A))
+abbrev pub same_value : {A : Type 0} → Comparison A → A → A →
+    Option (IntersectionResult (Precision A))
 same_value C a b = option_map (λ o. if is_eq o then Value (exact a) else Empty) (C a b)
 
--- Two exact values are equal or have nothing in common, of two inexact ones the greater says more, and an exact one stays if the inexact one is not above it.
-abbrev pub intersection_lower : {A : Type 0} → Comparison A → Precision A → Precision A → Option (IntersectionResult (Precision A))
+-- Two exact values are equal or have nothing in common, of two inexact ones the greater says more,
+-- and an exact one stays if the inexact one is not above it.
+abbrev pub intersection_lower : {A : Type 0} → Comparison A → Intersection A
 intersection_lower C (exact a) (exact b) = same_value C a b
 intersection_lower C (inexact a) (inexact b) = option_map (λ v. Value (inexact v)) (greater C a b)
 intersection_lower C (exact e) (inexact i) = bounded_value C e i
@@ -63,16 +74,16 @@ intersection_lower C p q = None
 
 -- ---- upper bounds, which are lower bounds in the order turned round
 
-abbrev pub union_upper : {A : Type 0} → Comparison A → Precision A → Precision A → Option (Precision A)
+abbrev pub union_upper : {A : Type 0} → Comparison A → Union A
 union_upper C p q = union_lower (flip_args C) p q
 
-abbrev pub intersection_upper : {A : Type 0} → Comparison A → Precision A → Precision A → Option (IntersectionResult (Precision A))
+abbrev pub intersection_upper : {A : Type 0} → Comparison A → Intersection A
 intersection_upper C p q = intersection_lower (flip_args C) p q
 
 -- ---- values that are no bounds
 
 -- the lesser value, exact if both are
-abbrev pub union_plain : {A : Type 0} → Comparison A → Precision A → Precision A → Option (Precision A)
+abbrev pub union_plain : {A : Type 0} → Comparison A → Union A
 union_plain C absent q = None
 union_plain C p absent = None
 union_plain C (exact a) (exact b) = option_map (λ v. exact v) (lesser C a b)
@@ -81,11 +92,12 @@ union_plain C (inexact a) (exact b) = option_map (λ v. inexact v) (lesser C a b
 union_plain C (inexact a) (inexact b) = option_map (λ v. inexact v) (lesser C a b)
 
 -- the exact value, which is inexact where it is below the inexact one
-abbrev pub exact_unless_below : {A : Type 0} → Comparison A → A → A → Option (IntersectionResult (Precision A))
+abbrev pub exact_unless_below : {A : Type 0} → Comparison A → A → A →
+    Option (IntersectionResult (Precision A))
 exact_unless_below C e i = option_map (λ o. Value (if is_lt o then inexact e else exact e)) (C e i)
 
 -- Nothing is in common with what is absent.
-abbrev pub intersection_plain : {A : Type 0} → Comparison A → Precision A → Precision A → Option (IntersectionResult (Precision A))
+abbrev pub intersection_plain : {A : Type 0} → Comparison A → Intersection A
 intersection_plain C absent q = Some Empty
 intersection_plain C p absent = Some Empty
 intersection_plain C (exact a) (exact b) = same_value C a b
@@ -114,7 +126,8 @@ abbrev pub unless_greater : Option Ordering → Option Ordering
 unless_greater (Some Greater) = None
 unless_greater o = o
 
--- How what is bounded from below stands to the value, as far as that tells. What an inexact bound that is less bounds may stand anyhow.
+-- How what is bounded from below stands to the value, as far as that tells. What an inexact bound
+-- that is less bounds may stand anyhow.
 abbrev pub cmp_lower : {A : Type 0} → Comparison A → Precision A → A → Option Ordering
 cmp_lower C (exact a) v = C a v
 cmp_lower C (inexact a) v = unless_less (C a v)

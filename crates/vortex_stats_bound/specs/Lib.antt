@@ -1,3 +1,5 @@
 pub mod Bounds
+pub mod Laws
 pub mod Order
 pub mod Precision
+pub mod ScalarOrder

@@ -14,7 +14,8 @@ Comparison A = A → A → Option Ordering
 abbrev pub ties : {A : Type 0} → Comparison A → A → A → Bool
 ties C a b = is_some_and is_eq (C a b)
 
--- Turned round the answer is reversed, what is less chains, and values that tie compare alike with any other.
+-- Turned round the answer is reversed, what is less chains, and values that tie compare alike with
+-- any other.
 abbrev pub IsLawful : {A : Type 0} → Comparison A → Type 0
 IsLawful C = IsPartialOrder (ties C) C
 

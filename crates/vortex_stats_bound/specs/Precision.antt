@@ -32,6 +32,12 @@ known_value (exact a) = Some a
 known_value (inexact a) = Some a
 known_value absent = None
 
+-- what is known, if anything is
+abbrev pub if_known : {A : Type 0} → Precision A → Option (Precision A)
+if_known (exact a) = Some (exact a)
+if_known (inexact a) = Some (inexact a)
+if_known absent = None
+
 -- the same value, no longer exact
 abbrev pub loosened : {A : Type 0} → Precision A → Precision A
 loosened (exact a) = inexact a
@@ -68,7 +74,8 @@ Maps R (inexact a) (inexact b) = R a b
 Maps R absent absent = Unit {0}
 Maps R p q = ⊥
 
--- R relates the first's value to an option: the second is as precise as the first with that value, or absent for None.
+-- R relates the first's value to an option: the second is as precise as the first with that value,
+-- or absent for None.
 abbrev pub Chains : {A B : Type 0} → (A → Option B → Type 0) → Precision A → Precision B → Type 0
 Chains R (exact a) (exact b) = R a (Some b)
 Chains R (exact a) absent = R a None

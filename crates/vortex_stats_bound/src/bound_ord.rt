@@ -3,8 +3,10 @@ ghost use Rattle.std.specs.Prelude.{◌≡◌, refl};
 ghost use Rattle.std.specs.Ordering.{nat_cmp, int_cmp, bool_cmp, as_partial_cmp};
 ghost use Rattle.std.specs.Cmp.{po, nat_cmp_total, int_cmp_total, bool_cmp_total};
 ghost use Rattle.vortex_stats_bound.specs.Order.{Comparison, IsLawful};
+ghost use Rattle.vortex_stats_bound.specs.ScalarOrder.{scalar_order, scalar_order_lawful};
 
 use std::cmp::Ordering;
+use vortex_scalar_core::scalar::Scalar;
 
 /// Values that bounds are made of. Unlike `PartialOrd` it asks no `PartialEq`, so that values which
 /// are equal and do not compare, as those of variants, have it too.
@@ -105,5 +107,17 @@ impl BoundOrd for i64 {
 
     fn bound_cmp(&self, other: &i64) -> Option<Ordering> {
         Some(self.cmp(other))
+    }
+}
+
+/// Values compare where their types are equal up to nullability. Null is least, and those of
+/// variants compare with null alone.
+impl BoundOrd for Scalar {
+    ghost order = { scalar_order };
+
+    ghost lawful = { scalar_order_lawful };
+
+    fn bound_cmp(&self, other: &Scalar) -> Option<Ordering> {
+        self.partial_cmp(other)
     }
 }

@@ -1,17 +1,15 @@
 //! What can be known of a statistic of two sets of values, from what is known of each.
-ghost use Rattle.std.specs.Prelude.{◌≡◌, Option, option_map};
+ghost use Rattle.std.specs.Prelude.{◌≡◌, option_map};
 ghost use Rattle.std.specs.Option.{option_copied};
 ghost use Rattle.vortex_model.specs.Statistics.{Precision as Known};
-ghost use Rattle.vortex_stats_bound.specs.Precision.{precision_of, exact_value};
-ghost use Rattle.vortex_stats_bound.specs.Order.{seen_from};
+ghost use Rattle.vortex_stats_bound.specs.Precision.{precision_of, exact_value, if_known};
 ghost use Rattle.vortex_stats_bound.specs.Bounds.{
+  Union,
+  Intersection,
   exact_unless_below,
   union_plain,
   intersection_plain,
   intersection_map,
-};
-ghost use Rattle.vortex_stats_bound.specs.declared.intersection.IntersectionResult.{
-  IntersectionResult as Common,
 };
 
 use crate::bound_ord::BoundOrd;
@@ -24,9 +22,9 @@ use std::cmp::Ordering;
 pub trait StatBound<T>: Sized {
     ghost known: { Self → Known T };
 
-    ghost union_of: { Known T → Known T → Option (Known T) };
+    ghost union_of: { Union T };
 
-    ghost intersection_of: { Known T → Known T → Option (Common (Known T)) };
+    ghost intersection_of: { Intersection T };
 
     /// What is known, as a bound.
     fn lift(value: Precision<T>) -> Self
@@ -49,6 +47,26 @@ pub trait StatBound<T>: Sized {
     /// The value, if it is exact.
     fn to_exact(&self) -> Option<&T>
         ensures { option_copied result ≡ exact_value (known self.now) };
+}
+
+/// A statistic whose values are read as bounds of one kind: the part of Vortex's `StatType` that
+/// names the bound.
+pub trait BoundOf<T> {
+    /// The bound.
+    type Bound: StatBound<T>;
+}
+
+impl<T> Precision<T> {
+    /// What is known, as the statistic's bound. `None` where nothing is known.
+    pub fn bound<S: BoundOf<T>>(self) -> Option<S::Bound>
+        ensures { option_map S.Bound.known result ≡ if_known (precision_of self) }
+    {
+        match self {
+            Precision::Exact(value) => Some(S::Bound::lift(Precision::Exact(value))),
+            Precision::Inexact(value) => Some(S::Bound::lift(Precision::Inexact(value))),
+            Precision::Absent => None,
+        }
+    }
 }
 
 /// A value that bounds nothing. An intersection with what is absent is empty.
