@@ -26,6 +26,10 @@ judged false r q = refl
 pub next_is : (vs : List (Option ScalarValue)) (i : ℕ) (v : Option ScalarValue) → i < length vs → v ≡ get_or vs i v → drop i vs ≡ v ∷ drop (i + 1) vs
 next_is vs i v inside is = drop_more vs i v inside ∙ ap (λ u. u ∷ drop (i + 1) vs) (sym is)
 
+-- the same, where the value is read of a list that is equal
+pub next_of : (vs us : List (Option ScalarValue)) (i : ℕ) (v : Option ScalarValue) → us ≡ vs → i < length vs → v ≡ get_or us i v → drop i vs ≡ v ∷ drop (i + 1) vs
+next_of vs us i v e inside is = next_is vs i v inside (subst (λ (ws : List (Option ScalarValue)). v ≡ get_or ws i v) e is)
+
 -- the row at this index
 module _ (k : LogicalType) (vs : List (Option ScalarValue)) (i : ℕ) (v : Option ScalarValue) (inside : i < length vs) (is : v ≡ get_or vs i v) where
   first_here : first_invalid i k (map raw_in (drop i vs)) ≡ (if valid k (raw_in v) then first_invalid (i + 1) k (map raw_in (drop (i + 1) vs)) else Some (invalid_value i))
@@ -62,12 +66,6 @@ module _ (k : LogicalType) (v : Option ScalarValue) (behind : List (Option Scala
 
   pub rest_valid : first_invalid 0 k (map raw_in behind) ≡ None
   rest_valid = counted_from 1 0 k (map raw_in behind) (none_behind (valid k (raw_in v)) (invalid_value 0) (first_invalid 1 k (map raw_in behind)) none)
-
-pub valid_at : (k : LogicalType) (vs : List (Option ScalarValue)) (i : ℕ) (v : Option ScalarValue) → i < length vs → v ≡ get_or vs i v →
-    first_invalid 0 k (map raw_in vs) ≡ None → valid k (raw_in v) ≡ true
-valid_at k [] i v inside is none = absurd (omega (arith, inside))
-valid_at k (u ∷ vs) zero v inside is none = ap (λ w. valid k (raw_in w)) is ∙ first_valid k u vs none
-valid_at k (u ∷ vs) (suc i) v inside is none = valid_at k vs i v (omega (arith, inside)) is (rest_valid k u vs none)
 
 -- The value behind these rows, and the values behind it. Once it is converted, the rows are `more`.
 module _ (s t : LogicalType) (rows : List ScalarValue) (v : Option ScalarValue) (behind : List (Option ScalarValue)) where

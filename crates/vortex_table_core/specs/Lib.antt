@@ -1,3 +1,4 @@
+pub mod Append
 pub mod Error
 pub mod Outcome
 pub mod Plan

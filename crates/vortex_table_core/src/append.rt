@@ -1,5 +1,6 @@
 //! The rows of an append: judged by the batch's type, and converted to the table's.
-ghost use Rattle.std.specs.Prelude.{◌≡◌, ◌++◌, ◌∷◌, [], true, None, length, map, option_map, IfOk, OnOk, IfErr, IsTrue};
+ghost use Rattle.std.specs.Prelude.{◌≡◌, ◌<◌, ◌+◌, ◌++◌, ◌∷◌, [], true, None, length, drop, map, option_map, IfOk, OnOk, IfErr, IsTrue};
+ghost use Rattle.std.specs.Cow.{cow_slice_items};
 ghost use Rattle.std.specs.List.{list_all};
 ghost use Rattle.vortex_model.specs.Content.{content_of};
 ghost use Rattle.vortex_model.specs.Valid.{valid};
@@ -15,6 +16,7 @@ ghost use Rattle.vortex_table_core.specs.Error.{Explains};
 use crate::check::check_type;
 use crate::error::TableError;
 use std::alloc::Global;
+use std::borrow::CowSlice;
 use vortex_dtype_core::dtype::DType;
 use vortex_scalar_ops::cast::cast_value;
 use vortex_scalar_ops::validate::validate;
@@ -90,56 +92,51 @@ fn push_converted(
     }
 }
 
+// Frees the row, once it isn't read any more, where the rows were handed over.
+fn free_row(values: &mut CowSlice<'_, Option<ScalarValue>>, index: usize)
+    requires { index < length (cow_slice_items values.old) }
+    ensures len { length (cow_slice_items values.new) ≡ length (cow_slice_items values.old) }
+    ensures behind { drop (index + 1) (cow_slice_items values.new)
+        ≡ drop (index + 1) (cow_slice_items values.old) }
+{
+    if let CowSlice::Owned(rows) = values {
+        rows[index] = None;
+    }
+}
+
 /// The rows cast from the source to the target type: `NotConvertible` with the index of the first
-/// that the target can't hold. None behind it is read.
+/// that the target can't hold. None behind it is read. Rows that are handed over are freed one by
+/// one as they are cast, so that the two lists are never both in memory in full.
 pub fn convert_rows(
     alloc: Global,
     source: &DType,
     target: &DType,
-    values: &[Option<ScalarValue>],
+    mut values: CowSlice<'_, Option<ScalarValue>>,
 ) -> Result<Vec<ScalarValue>, TableError>
     requires kept { type_fault_so_far (type_of target.now) ≡ None }
-    requires valid { first_invalid 0 (type_of source.now) (map raw_in values.now) ≡ None }
+    requires valid { first_invalid 0 (type_of source.now) (map raw_in (cow_slice_items values))
+        ≡ None }
     ensures converts { OnOk result (first_unconvertible 0 (type_of source.now) (type_of target.now)
-        (map content_of (map raw_in values.now)) ≡ None) }
+        (map content_of (map raw_in (cow_slice_items values.entry))) ≡ None) }
     ensures content { IfOk result (λ rows. map row_content rows.items
-        ≡ map content_of (map raw_in values.now)) }
+        ≡ map content_of (map raw_in (cow_slice_items values.entry))) }
     ensures valid { IfOk result
         (λ rows. IsTrue (list_all (λ row. valid (type_of target.now) (raw_of row)) rows.items)) }
     ensures refused { IfErr result
         (λ e. Explains ⊥ (first_unconvertible 0 (type_of source.now) (type_of target.now)
-        (map content_of (map raw_in values.now))) e) }
+        (map content_of (map raw_in (cow_slice_items values.entry)))) e) }
 {
-    let mut rows = Vec::with_capacity(alloc, values.len())?;
-    for value in values {
-        push_converted(alloc, source, target, value.as_ref(), &mut rows)?;
-    }
-    Ok(rows)
-}
-
-/// As `convert_rows`, of rows that are handed over. Each is freed once it is cast, so that the two
-/// lists are never both in memory in full.
-pub fn convert_owned_rows(
-    alloc: Global,
-    source: &DType,
-    target: &DType,
-    values: Vec<Option<ScalarValue>>,
-) -> Result<Vec<ScalarValue>, TableError>
-    requires kept { type_fault_so_far (type_of target.now) ≡ None }
-    requires valid { first_invalid 0 (type_of source.now) (map raw_in values.items) ≡ None }
-    ensures converts { OnOk result (first_unconvertible 0 (type_of source.now) (type_of target.now)
-        (map content_of (map raw_in values.items)) ≡ None) }
-    ensures content { IfOk result (λ rows. map row_content rows.items
-        ≡ map content_of (map raw_in values.items)) }
-    ensures valid { IfOk result
-        (λ rows. IsTrue (list_all (λ row. valid (type_of target.now) (raw_of row)) rows.items)) }
-    ensures refused { IfErr result
-        (λ e. Explains ⊥ (first_unconvertible 0 (type_of source.now) (type_of target.now)
-        (map content_of (map raw_in values.items))) e) }
-{
-    let mut rows = Vec::with_capacity(alloc, values.len())?;
-    for value in values {
-        push_converted(alloc, source, target, value.as_ref(), &mut rows)?;
+    let len = values.len();
+    let mut rows = Vec::with_capacity(alloc, len)?;
+    for index in 0..len {
+        push_converted(
+            alloc,
+            source,
+            target,
+            values.as_slice()[index].as_ref(),
+            &mut rows,
+        )?;
+        free_row(&mut values, index);
     }
     Ok(rows)
 }

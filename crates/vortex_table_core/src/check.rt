@@ -10,6 +10,7 @@ ghost use Rattle.vortex_table_core.specs.Error.{refusal_of, Explains};
 use crate::error::TableError;
 use std::alloc::Global;
 use vortex_dtype_core::dtype::DType;
+use vortex_dtype_fields::struct_fields_ext::StructFieldsExt;
 use vortex_dtype_path::field::Field;
 use vortex_dtype_path::path::FieldPath;
 use vortex_dtype_ptype::field_names::FieldName;
@@ -42,9 +43,7 @@ fn named_part<'a>(dtype: &'a DType, name: &FieldName) -> Option<&'a DType>
     ensures { option_map (λ part. type_of part.now) result
         ≡ part_named (type_of dtype.now) name.now }
 {
-    let fields = dtype.as_struct_fields_opt()?;
-    let position = fields.find(name)?;
-    fields.field_by_index(position)
+    dtype.as_struct_fields_opt()?.field(name)
 }
 
 // `index` is that of the path among those asked for.

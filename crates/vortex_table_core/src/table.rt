@@ -7,10 +7,11 @@ ghost use Rattle.vortex_table_chunk.specs.Chunk.{row_count};
 ghost use Rattle.vortex_table_schema.specs.Leaves.{leaf_positions};
 ghost use Rattle.vortex_table_core.specs.Table.{is_formed, eq_leaves};
 
-use crate::append::{check_batch, convert_owned_rows, convert_rows};
+use crate::append::{check_batch, convert_rows};
 use crate::check::check_type;
 use crate::error::TableError;
 use std::alloc::Global;
+use std::borrow::CowSlice;
 use std::rc::Rc;
 use vortex_dtype_core::dtype::DType;
 use vortex_scalar_value::scalar_value::ScalarValue;
@@ -34,13 +35,15 @@ pub struct Table {
 }
 
 impl Table {
-    ghost use Rattle.std.specs.Prelude.{◌≡◌, ◌+◌, ◌^◌, ◌≤◌, [], None, length, map, IfOk, OnOk, IfErr, OnErr, IsErrOf, IsTrue, ◌↔◌};
+    ghost use Rattle.std.specs.Prelude.{◌≡◌, ◌+◌, ◌^◌, ◌≤◌, [], None, length, map, IfOk, OnOk, IfErr, OnErr, IsTrue, ◌↔◌};
+    ghost use Rattle.std.specs.Cow.{cow_slice_items};
     ghost use Rattle.vortex_model.specs.Table.{rows_of};
     ghost use Rattle.vortex_model.specs.Valid.{valid};
-    ghost use Rattle.vortex_model.specs.Command.{create, append, appended, create_fault, created, refusal, after};
+    ghost use Rattle.vortex_model.specs.Command.{appended, create_fault, created};
     ghost use Rattle.vortex_dtype_core.specs.View.{type_of};
-    ghost use Rattle.vortex_scalar_value.specs.View.{raw_in, raw_of};
+    ghost use Rattle.vortex_scalar_value.specs.View.{raw_of};
     ghost use Rattle.vortex_table_chunk.specs.Bounds.{row_content};
+    ghost use Rattle.vortex_table_core.specs.Append.{Appends};
     ghost use Rattle.vortex_table_core.specs.Error.{Explains};
     ghost use Rattle.vortex_table_core.specs.TableView.{table_of};
 
@@ -76,57 +79,38 @@ impl Table {
         values: &[Option<ScalarValue>],
         layouts: &[Layout],
     ) -> Result<(), TableError>
-        ensures appended { OnOk result
-            (table_of self.new
-            ≡ after (table_of self.old)
-            (append (type_of batch_dtype.now) (map raw_in values.now))) }
-        ensures accepted { OnOk result
-            (refusal (table_of self.old) (append (type_of batch_dtype.now) (map raw_in values.now))
-            ≡ None) }
-        ensures refused { IfErr result (λ e. Explains
-            (2 ^ 64 ≤ length (rows_of (table_of self.old)) + length values.now)
-            (refusal (table_of self.old) (append (type_of batch_dtype.now) (map raw_in values.now)))
-            e) }
-        ensures total { IsErrOf result TableError.Total
-            → refusal (table_of self.old) (append (type_of batch_dtype.now) (map raw_in values.now))
-            ≡ None }
-        ensures unchanged { OnErr result (table_of self.new ≡ table_of self.old) }
+        ensures { Appends (table_of self.old) (type_of batch_dtype.now) values.now result
+            (table_of self.new) }
     {
         let _ = layouts;
-        let alloc = *self.chunks.allocator();
-        check_batch(alloc, batch_dtype, values)?;
-        let rows = convert_rows(alloc, batch_dtype, &self.dtype, values)?;
-        self.push_rows(alloc, rows)?;
-        Ok(())
+        self.append_rows(batch_dtype, CowSlice::Borrowed(values))
     }
 
-    /// As `append`, of rows that are handed over: each is let go once it is converted.
+    /// As `append`, of rows that are handed over: each is freed once it is converted.
     pub fn append_owned(
         &mut self,
         batch_dtype: &DType,
         values: Vec<Option<ScalarValue>>,
         layouts: &[Layout],
     ) -> Result<(), TableError>
-        ensures appended { OnOk result
-            (table_of self.new
-            ≡ after (table_of self.old)
-            (append (type_of batch_dtype.now) (map raw_in values.items))) }
-        ensures accepted { OnOk result
-            (refusal (table_of self.old)
-            (append (type_of batch_dtype.now) (map raw_in values.items)) ≡ None) }
-        ensures refused { IfErr result (λ e. Explains
-            (2 ^ 64 ≤ length (rows_of (table_of self.old)) + length values.items)
-            (refusal (table_of self.old)
-            (append (type_of batch_dtype.now) (map raw_in values.items))) e) }
-        ensures total { IsErrOf result TableError.Total
-            → refusal (table_of self.old)
-            (append (type_of batch_dtype.now) (map raw_in values.items)) ≡ None }
-        ensures unchanged { OnErr result (table_of self.new ≡ table_of self.old) }
+        ensures { Appends (table_of self.old) (type_of batch_dtype.now) values.items result
+            (table_of self.new) }
     {
         let _ = layouts;
+        self.append_rows(batch_dtype, CowSlice::Owned(values))
+    }
+
+    fn append_rows(
+        &mut self,
+        batch_dtype: &DType,
+        values: CowSlice<'_, Option<ScalarValue>>,
+    ) -> Result<(), TableError>
+        ensures { Appends (table_of self.old) (type_of batch_dtype.now)
+            (cow_slice_items values.entry) result (table_of self.new) }
+    {
         let alloc = *self.chunks.allocator();
-        check_batch(alloc, batch_dtype, &values)?;
-        let rows = convert_owned_rows(alloc, batch_dtype, &self.dtype, values)?;
+        check_batch(alloc, batch_dtype, values.as_slice())?;
+        let rows = convert_rows(alloc, batch_dtype, &self.dtype, values)?;
         self.push_rows(alloc, rows)?;
         Ok(())
     }

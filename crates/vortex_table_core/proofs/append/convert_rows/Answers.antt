@@ -1,107 +1,76 @@
-use Rattle.std.below.core.proofs.iter.Serving.{as_err}
-use Rattle.std.proofs.lemmas.Grind.{common_steps}
-use Rattle.std.proofs.Common.{◌≡◌, ◌∙◌, ap, sym, arith, rules, ◌<◌, ◌+◌, ◌∷◌, ◌++◌, length, drop, map}
+use Rattle.std.proofs.Common.{◌≡◌, ◌∙◌, ap, sym, rules, arith, ◌<◌, ◌+◌, ◌∷◌, drop, length}
+use Rattle.std.specs.Cow.{cow_slice_items}
 use Rattle.vortex_model.specs.Content.{content_of}
 use Rattle.vortex_model.specs.Valid.{valid}
 use Rattle.vortex_model.specs.Command.{first_unconvertible}
 use Rattle.vortex_dtype_core.specs.View.{type_of}
 use Rattle.vortex_scalar_value.specs.View.{raw_in, raw_at, content_in, content_at}
-use Rattle.vortex_table_chunk.specs.Bounds.{row_content}
 use Rattle.vortex_table_schema.proofs.Projections.{raw_copied}
 use Rattle.vortex_table_core.specs.Error.{Explains}
-use Rattle.vortex_table_core.proofs.Appends.{said, valid_at, next_is, refused_here, left_behind, row_moved}
+use Rattle.vortex_table_core.proofs.Appends.{said, next_of, first_valid, rest_valid, refused_here, left_behind, row_moved}
 use Rattle.vortex_table_core.proofs.append.convert_rows.Goals as goal
+
+pub bounds-as_slice-index : goal.bounds-as_slice-index
+bounds-as_slice-index c = omega (arith, c.as_slice.ensures.len, c.loop-index.invariant.size)
 
 pub push_converted-requires-clause-valid : goal.push_converted-requires-clause-valid
 push_converted-requires-clause-valid c =
-    let i = c.loop-value.value-index in
-    let vs = c.args.values.now in
-    let v = c.value-item.result in
+    let i = c.loop-index.index in
+    let ws = cow_slice_items c.loop-index.values in
+    let v = c.index-as_slice-index.result in
     let s = type_of c.args.source.now in
     let same : raw_at c.as_ref.result ≡ raw_in v = raw_copied c.as_ref.result ∙ ap raw_in c.as_ref.ensures.value in
-    let within : i < length vs = omega arith in
-    ap (valid s) same ∙ valid_at s vs i v within c.value-item.is c.requires.valid
+    let within : i < length ws = omega (arith, c.loop-index.invariant.size) in
+    let next = next_of ws c.as_slice.result.now i v c.as_slice.ensures.value within c.index-as_slice-index.is in
+    let sources = rw next at c.loop-index.invariant.sources in
+    ap (valid s) same ∙ first_valid s v (drop (i + 1) ws) sources
 
 pub returns-in_err-push_converted-clause-refused :
     goal.returns-in_err-push_converted-clause-refused
 returns-in_err-push_converted-clause-refused c =
-    let i = c.loop-value.value-index in
-    let vs = c.args.values.now in
-    let v = c.value-item.result in
-    let rows = c.loop-value.rows.items in
+    let vs = cow_slice_items c.args.values in
+    let i = c.loop-index.index in
+    let ws = cow_slice_items c.loop-index.values in
+    let v = c.index-as_slice-index.result in
     let s = type_of c.args.source.now in
     let t = type_of c.args.target.now in
     let e = c.in_err-push_converted.field-0.0 in
     let same : content_at c.as_ref.result ≡ content_in v = ap content_of (raw_copied c.as_ref.result ∙ ap raw_in c.as_ref.ensures.value) in
-    let within : i < length vs = omega arith in
-    let next = next_is vs i v within c.value-item.is in
-    let left : first_unconvertible (length rows) s t (said (v ∷ drop (i + 1) vs)) ≡ first_unconvertible 0 s t (said vs)
-    = ap (λ us. first_unconvertible (length rows) s t (said us)) (sym next) ∙ c.loop-value.invariant.left in
+    let within : i < length ws = omega (arith, c.loop-index.invariant.size) in
+    let next = next_of ws c.as_slice.result.now i v c.as_slice.ensures.value within c.index-as_slice-index.is in
+    let left = rw next at c.loop-index.invariant.left in
     let why : Explains ⊥ (first_unconvertible 0 s t (said vs)) e
-    = refused_here s t rows v (drop (i + 1) vs) (content_at c.as_ref.result) (first_unconvertible 0 s t (said vs)) e same left c.in_err-push_converted.ensures.refused in
+    = refused_here s t c.loop-index.rows.items v (drop (i + 1) ws) (content_at c.as_ref.result) (first_unconvertible 0 s t (said vs)) e same left c.in_err-push_converted.ensures.refused in
     let gives = c.from_residual-in_err-push_converted.ensures.1 in
     search (rules, why, gives)
 
-pub loop-value-preserved : goal.loop-value-preserved
-loop-value-preserved c =
-    let i = c.loop-value.value-index in
-    let vs = c.args.values.now in
-    let v = c.value-item.result in
-    let old = c.loop-value.invariant in
-    let rows = c.loop-value.rows.items in
+pub free_row-requires : goal.free_row-requires
+free_row-requires c = omega (arith, c.loop-index.invariant.size)
+
+pub loop-index-preserved : goal.loop-index-preserved
+loop-index-preserved c =
+    let vs = cow_slice_items c.args.values in
+    let at = c.loop-index in
+    let i = at.index in
+    let ws = cow_slice_items at.values in
+    let behind = drop (i + 1) ws in
+    let v = c.index-as_slice-index.result in
+    let rows = at.rows.items in
     let more = c.push_converted.new.rows.items in
     let made = c.in_ok-push_converted.ensures in
     let s = type_of c.args.source.now in
     let t = type_of c.args.target.now in
     let here = content_at c.as_ref.result in
     let same : here ≡ content_in v = ap content_of (raw_copied c.as_ref.result ∙ ap raw_in c.as_ref.ensures.value) in
-    let within : i < length vs = omega arith in
-    let next = next_is vs i v within c.value-item.is in
-    let behind = drop (i + 1) vs in
-    let content : map row_content rows ++ said (v ∷ behind) ≡ said vs = ap (λ us. map row_content rows ++ said us) (sym next) ∙ old.content in
-    let left : first_unconvertible (length rows) s t (said (v ∷ behind)) ≡ first_unconvertible 0 s t (said vs)
-    = ap (λ us. first_unconvertible (length rows) s t (said us)) (sym next) ∙ old.left in
-    record {
+    let within : i < length ws = omega (arith, at.invariant.size) in
+    let next = next_of ws c.as_slice.result.now i v c.as_slice.ensures.value within c.index-as_slice-index.is in
+    let content = rw next at at.invariant.content in
+    let left = rw next at at.invariant.left in
+    let sources = rw next at at.invariant.sources in
+    rw c.free_row.ensures.behind (record {
+      size = c.free_row.ensures.len ∙ at.invariant.size;
       content = row_moved s t rows v behind here same more made.content (said vs) content;
-      valid = made.valid old.valid;
+      sources = rest_valid s v behind sources;
+      valid = made.valid at.invariant.valid;
       left = left_behind s t rows v behind here same more made.content (first_unconvertible 0 s t (said vs)) made.converts left;
-    }
-
-pub returns-in_err-rows-clause-converts : goal.returns-in_err-rows-clause-converts
-returns-in_err-rows-clause-converts c = grind (arith, (as_err c.from_residual.ensures.0).1)
-
-pub returns-in_err-rows-clause-content : goal.returns-in_err-rows-clause-content
-returns-in_err-rows-clause-content c = grind (arith, (as_err c.from_residual.ensures.0).1)
-
-pub returns-in_err-rows-clause-valid : goal.returns-in_err-rows-clause-valid
-returns-in_err-rows-clause-valid c = grind (arith, (as_err c.from_residual.ensures.0).1)
-
-pub returns-in_err-rows-clause-refused : goal.returns-in_err-rows-clause-refused
-returns-in_err-rows-clause-refused c = grind (arith, (as_err c.from_residual.ensures.0).1)
-
-pub loop-value-init : goal.loop-value-init
-loop-value-init c = grind (arith, common_steps)
-
-pub offset_bounds-values-value-index : goal.offset_bounds-values-value-index
-offset_bounds-values-value-index c = grind (arith, common_steps)
-
-pub returns-in_err-push_converted-clause-converts : goal.returns-in_err-push_converted-clause-converts
-returns-in_err-push_converted-clause-converts c = grind (arith, (as_err c.from_residual-in_err-push_converted.ensures.0).1)
-
-pub returns-in_err-push_converted-clause-content : goal.returns-in_err-push_converted-clause-content
-returns-in_err-push_converted-clause-content c = grind (arith, (as_err c.from_residual-in_err-push_converted.ensures.0).1)
-
-pub returns-in_err-push_converted-clause-valid : goal.returns-in_err-push_converted-clause-valid
-returns-in_err-push_converted-clause-valid c = grind (arith, (as_err c.from_residual-in_err-push_converted.ensures.0).1)
-
-pub returns-clause-converts : goal.returns-clause-converts
-returns-clause-converts c = grind (arith, common_steps)
-
-pub returns-clause-content : goal.returns-clause-content
-returns-clause-content c = grind (arith, common_steps)
-
-pub returns-clause-valid : goal.returns-clause-valid
-returns-clause-valid c = grind (arith, common_steps)
-
-pub returns-clause-refused : goal.returns-clause-refused
-returns-clause-refused c = grind (arith, common_steps)
+    })

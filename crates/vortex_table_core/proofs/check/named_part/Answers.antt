@@ -3,11 +3,8 @@ use Rattle.vortex_table_core.proofs.NamedParts.{named}
 use borrow.Author.Rules.{get_or_read}
 use Rattle.vortex_table_core.proofs.check.named_part.Goals as goal
 
-pub returns-in_err-fields : goal.returns-in_err-fields
-returns-in_err-fields c = grind (arith, named, get_or_read)
-
-pub returns-in_err-position : goal.returns-in_err-position
-returns-in_err-position c = grind (arith, named, get_or_read)
+pub returns-in_err-as_struct_fields_opt : goal.returns-in_err-as_struct_fields_opt
+returns-in_err-as_struct_fields_opt c = grind (arith, named, get_or_read)
 
 pub returns : goal.returns
 returns c = grind (arith, named, get_or_read)
