@@ -1,14 +1,15 @@
 -- The truth values among operands.
-use Rattle.std.proofs.Common.{◌≡◌, refl, Bool, true, false, Option, Some, option_map}
+use Rattle.std.proofs.Common.{◌≡◌, refl, sym, ap, ◌∙◌, Bool, true, false, Option, Some, None}
 use Rattle.std.specs.Option.{unwrap_or}
-use Rattle.std.specs.Ordering.{bool_cmp}
 use Rattle.vortex_model.specs.Content.{Content, content_of, null, boolean, is_null, Raw, raw_boolean}
 use Rattle.vortex_model.specs.Order.{content_cmp}
 use Rattle.vortex_model.specs.Truth.{kleene_and, kleene_or, is_true}
 use Rattle.vortex_scalar_value.specs.Parts.{boolean_in as raw_truth_in}
 use Rattle.vortex_scalar_value.specs.View.{raw_of}
 use Rattle.vortex_scalar_value.specs.declared.scalar_value.ScalarValue.{ScalarValue}
+use Rattle.vortex_scalar_value.specs.declared.scalar_value.ScalarValue.TheVariants as value
 use Rattle.vortex_scalar_value.proofs.Nulls.{is_null-raw_of}
+use Rattle.vortex_scalar_value.proofs.Views.{raw_of-Bool}
 use Rattle.vortex_stats_expr.specs.OperandValue.{boolean_in, order_of}
 
 -- the truth value that a value is, is what it says
@@ -20,15 +21,9 @@ pub ruleset stored = (truth_said)
 
 -- ---- how operands stand
 
-pub truth_first : (b : Bool) (c : Content) → order_of (boolean b) c ≡ option_map (λ d. bool_cmp b d) (boolean_in c)
-truth_first b null = refl
-truth_first b (boolean d) = refl
-truth_first b c = refl
-
-pub truth_second : (b : Bool) (c : Content) → order_of c (boolean b) ≡ option_map (λ d. bool_cmp d b) (boolean_in c)
-truth_second b null = refl
-truth_second b (boolean d) = refl
-truth_second b c = refl
+pub none_right : (c : Content) → order_of c null ≡ None
+none_right null = refl
+none_right c = refl
 
 present : (c d : Content) → is_null c ≡ false → is_null d ≡ false → order_of c d ≡ content_cmp c d
 present null d g h = absurd (cc (g))
@@ -38,7 +33,17 @@ present c d g h = refl
 pub both_stored : (v w : ScalarValue) → order_of (content_of (raw_of v)) (content_of (raw_of w)) ≡ content_cmp (content_of (raw_of v)) (content_of (raw_of w))
 both_stored v w = present (content_of (raw_of v)) (content_of (raw_of w)) (is_null-raw_of v) (is_null-raw_of w)
 
-pub ruleset orders = (truth_said, truth_first, truth_second, both_stored)
+-- a truth value is what a value of it says
+truth_is : (b : Bool) → boolean b ≡ content_of (raw_of (value.Bool b))
+truth_is b = sym (ap content_of (raw_of-Bool b))
+
+pub truth_left : (b : Bool) (c : Content) → order_of (boolean b) c ≡ order_of (content_of (raw_of (value.Bool b))) c
+truth_left b c = ap (λ d. order_of d c) (truth_is b)
+
+pub truth_right : (v : ScalarValue) (b : Bool) → order_of (content_of (raw_of v)) (boolean b) ≡ content_cmp (content_of (raw_of v)) (content_of (raw_of (value.Bool b)))
+truth_right v b = ap (λ d. order_of (content_of (raw_of v)) d) (truth_is b) ∙ both_stored v (value.Bool b)
+
+pub ruleset orders = (none_right, truth_left, truth_right, both_stored)
 
 -- ---- Kleene's connectives
 

@@ -2,9 +2,9 @@
 //!
 //! What is no truth value counts as null under AND and OR, and null compares with nothing.
 ghost use Rattle.std.specs.Prelude.{◌≡◌};
-ghost use Rattle.vortex_model.specs.Order.{content_cmp};
+ghost use Rattle.vortex_model.specs.Content.{content_of};
 ghost use Rattle.vortex_model.specs.Truth.{compared, kleene_and, kleene_or};
-ghost use Rattle.vortex_scalar_value.specs.View.{content_at};
+ghost use Rattle.vortex_scalar_value.specs.View.{raw_of, content_at};
 ghost use Rattle.vortex_stats_expr.specs.OperandValue.{operand_value, truth_content, boolean_in, order_of};
 ghost use Rattle.vortex_stats_expr.specs.Tree.{comparison_of};
 
@@ -54,17 +54,26 @@ pub fn truth_of(value: Value) -> Option<bool>
     }
 }
 
-// `None` also where an operand is null.
+// How two operands stand, and `None` also where one is null.
 #[tactic(auto, using(crate::proofs::Truths::orders))]
 fn order(left: Value, right: Value) -> Option<Ordering>
     ensures { result ≡ order_of (operand_value left.entry) (operand_value right.entry) }
 {
-    match (left, right) {
-        (Value::Truth(x), Value::Truth(y)) => Some(x.cmp(&y)),
-        (Value::Truth(x), Value::Stored(y)) => Some(x.cmp(&y.as_bool()?)),
-        (Value::Stored(x), Value::Truth(y)) => Some(x.as_bool()?.cmp(&y)),
-        (Value::Stored(x), Value::Stored(y)) => order_values(Some(x), Some(y)),
-        (Value::Null, _) | (_, Value::Null) => None,
+    match left {
+        Value::Null => None,
+        Value::Truth(left) => order_stored(&ScalarValue::Bool(left), right),
+        Value::Stored(left) => order_stored(left, right),
+    }
+}
+
+#[tactic(auto, using(crate::proofs::Truths::orders))]
+fn order_stored(left: &ScalarValue, right: Value) -> Option<Ordering>
+    ensures { result ≡ order_of (content_of (raw_of left.now)) (operand_value right.entry) }
+{
+    match right {
+        Value::Null => None,
+        Value::Truth(right) => order_values(Some(left), Some(&ScalarValue::Bool(right))),
+        Value::Stored(right) => order_values(Some(left), Some(right)),
     }
 }
 
