@@ -1,7 +1,7 @@
 //! Arrays: columns of values of one type, in eight layouts, with the buffers, masks and views of
 //! sixteen bytes that they are made of.
 //!
-//! The layer stands in seven crates, and this one gathers their items. A caller of arrays alone
+//! The layer stands in eight crates, and this one gathers their items. A caller of arrays alone
 //! depends on it; nothing below does.
 #![tactic(auto)]
 
@@ -23,6 +23,7 @@ pub use vortex_arrays_nested::fixed_size_list::{
     FixedSizeListArray, FixedSizeListDataParts, FixedSizeListSlots,
 };
 pub use vortex_arrays_nested::list_view::{ListViewArray, ListViewDataParts, ListViewSlots};
+pub use vortex_arrays_rebuild::rebuild::{ListViewRebuild, ListViewRebuildMode};
 pub use vortex_arrays_struct::column::column_at;
 pub use vortex_arrays_struct::mask::mask;
 pub use vortex_arrays_struct::struct_array::StructArray;

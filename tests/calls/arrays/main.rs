@@ -1,10 +1,11 @@
 //! Calls views of sixteen bytes, buffers, numbers, masks, the makers of arrays, and what reads,
-//! slices, takes and filters their rows.
+//! slices, takes and filters their rows, and rebuilds list views.
 #![tactic(auto)]
 
 mod arrays;
 mod buffers;
 mod checks;
+mod rebuilt;
 mod rows;
 mod views;
 
@@ -22,6 +23,8 @@ fn run(alloc: Global, checks: &mut Checks<'_>) -> Result<(), DTypeError> {
     checks.end_part("arrays are made of their parts");
     rows::run(alloc, checks)?;
     checks.end_part("arrays have their rows");
+    rebuilt::run(alloc, checks)?;
+    checks.end_part("list views are rebuilt");
     Ok(())
 }
 

@@ -1,0 +1,7 @@
+pub mod CopyLemmas
+pub mod NameLemmas
+pub mod PlanLemmas
+pub mod ReadLemmas
+pub mod RebuildLemmas
+pub mod RunLemmas
+pub mod TrimLemmas

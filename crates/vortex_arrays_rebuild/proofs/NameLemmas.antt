@@ -1,0 +1,27 @@
+-- The rows of runs, named by their positions.
+use Rattle.std.proofs.Common.{◌≡◌, ℕ, pos, false, List, length, map, get_or, refl}
+use Rattle.std.specs.List.{All}
+use Rattle.vortex_model.specs.LogicalType.{u64}
+use Rattle.vortex_arrays_model.specs.Layout.{Layout, numbers, required, dictionary, len_of, IsSound}
+use Rattle.vortex_arrays_model.specs.Picks.{Picks}
+use Rattle.vortex_arrays_buffer.specs.declared.error.ArrayError.{ArrayError}
+use Rattle.vortex_arrays_buffer.specs.declared.error.ArrayError.TheVariants as error
+use Rattle.vortex_arrays_leaf.specs.Faults.{IsLeafFault}
+use Rattle.vortex_arrays_core.proofs.Gathered.{names_positions}
+use Rattle.vortex_arrays_rebuild.specs.declared.runs.Run.{Run}
+use Rattle.vortex_arrays_rebuild.specs.Runs.{positions_in, LiesWithin}
+use Rattle.vortex_arrays_rebuild.proofs.CopyLemmas.{positions_below}
+
+-- a dictionary of the positions
+pub named_rows : (a c : Layout) (runs : List Run) → c ≡ numbers u64 (map pos (positions_in runs)) required → IsSound c → IsSound a → All (LiesWithin (len_of a)) runs → Picks a (dictionary c a false) (length (positions_in runs)) (λ i. get_or (positions_in runs) i 0)
+named_rows a c runs e sc sa w = names_positions a c (positions_in runs) e sc sa (positions_below (len_of a) runs w)
+
+pub named_sound : (a c : Layout) (runs : List Run) → c ≡ numbers u64 (map pos (positions_in runs)) required → IsSound c → IsSound a → All (LiesWithin (len_of a)) runs → IsSound (dictionary c a false)
+named_sound a c runs e sc sa w = let p = named_rows a c runs e sc sa w in p.sound
+
+pub ruleset naming = (named_rows, named_sound)
+
+-- numbers without nulls are refused for want of memory alone
+pub only_memory : (e : ArrayError) (n : ℕ) → IsLeafFault e required n → e ≡ error.Memory
+only_memory error.Memory n h = refl
+only_memory e n h = absurd h

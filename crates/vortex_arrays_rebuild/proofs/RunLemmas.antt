@@ -1,0 +1,39 @@
+-- Runs of elements, one after the other.
+use Rattle.std.proofs.Common.{◌≡◌, ◌<◌, ◌≤◌, ◌+◌, ℕ, zero, suc, List, [], ◌∷◌, ◌++◌, length, get_or, refl, sym, ap, subst, ◌∙◌, append_assoc, arith, inl, inr}
+use Rattle.std.specs.List.{flat_map, range_with_len, All}
+use Rattle.std.proofs.lemmas.List.{append-nil, length-append}
+use Rattle.std.proofs.lemmas.List.Concat.{flat_map-append}
+use Rattle.std.proofs.lemmas.List.FromFn.{length-range_with_len}
+use Rattle.std.proofs.lemmas.List.Elements.{All-append}
+use Rattle.vortex_arrays_rebuild.specs.declared.runs.Run.{Run}
+use Rattle.vortex_arrays_rebuild.specs.Runs.{positions_of, positions_in, LiesWithin}
+
+-- a range in two parts
+pub range_split : (a n m k b : ℕ) → k ≡ n + m → b ≡ a + n → range_with_len a k ≡ range_with_len a n ++ range_with_len b m
+range_split a zero m k b e f =
+    let same : k ≡ m = omega arith in
+    let here : a ≡ b = omega arith in
+    λ i. range_with_len (here i) (same i)
+range_split a (suc n) m zero b e f = absurd (omega arith)
+range_split a (suc n) m (suc k) b e f = ap (λ l. a ∷ l) (range_split (a + 1) n m k b (omega arith) (omega arith))
+
+-- the last run made longer
+pub extended : (ps : List ℕ) (a n b m : ℕ) → b ≡ a + n → ps ++ range_with_len a (n + m) ≡ (ps ++ range_with_len a n) ++ range_with_len b m
+extended ps a n b m e = ap (λ l. ps ++ l) (range_split a n m (n + m) b refl e) ∙ sym (append_assoc ps (range_with_len a n) (range_with_len b m))
+
+-- one run more
+pub positions_push : (runs : List Run) (r : Run) → positions_in (runs ++ r ∷ []) ≡ positions_in runs ++ positions_of r
+positions_push runs r = flat_map-append positions_of runs (r ∷ []) ∙ ap (λ l. positions_in runs ++ l) (append-nil (positions_of r))
+
+-- a run without elements
+pub added_none : (ps : List ℕ) (a n : ℕ) → n ≡ 0 → ps ++ range_with_len a n ≡ ps
+added_none ps a n e = ap (λ k. ps ++ range_with_len a k) e ∙ append-nil ps
+
+pub length_added : (ps : List ℕ) (a n : ℕ) → length (ps ++ range_with_len a n) ≡ length ps + n
+length_added ps a n = length-append ps (range_with_len a n) ∙ ap (λ k. length ps + k) (length-range_with_len a n)
+
+-- each run lies within the elements, with one more run
+pub within_push : (n : ℕ) (runs : List Run) (r : Run) → All (LiesWithin n) runs → LiesWithin n r → All (LiesWithin n) (runs ++ r ∷ [])
+within_push n runs r h l = All-append (LiesWithin n) runs (r ∷ []) h (λ k d b. let here : k ≡ 0 = omega arith in subst (λ j. LiesWithin n (get_or (r ∷ []) j d)) (sym here) l)
+
+pub ruleset runs = (extended, positions_push, added_none, length_added, within_push)

@@ -1,0 +1,4 @@
+pub mod Indices
+pub mod Rebuilds
+pub mod Runs
+pub mod Trims

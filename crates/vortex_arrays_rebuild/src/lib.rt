@@ -1,0 +1,9 @@
+//! List views rebuilt and trimmed.
+#![tactic(auto)]
+
+mod copy;
+mod plan;
+mod read;
+pub mod rebuild;
+mod runs;
+mod trim;

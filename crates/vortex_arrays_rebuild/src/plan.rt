@@ -1,0 +1,61 @@
+//! The one layout of lists without gaps: where each list is to begin, how many elements it has,
+//! and which elements are copied.
+ghost use Rattle.std.specs.Prelude.{false, map, IfOk, IfErr, All};
+ghost use Rattle.vortex_arrays_model.specs.Layout.{content_at, len_of, list_views, rows_of, IsSound};
+ghost use Rattle.vortex_arrays_model.specs.Canonical.{IsCanonical};
+ghost use Rattle.vortex_arrays_core.specs.LayoutOf.{valid_of};
+ghost use Rattle.vortex_arrays_rebuild.specs.Rebuilds.{IsSumFault};
+ghost use Rattle.vortex_arrays_rebuild.specs.Runs.{positions_in, LiesWithin};
+
+use crate::read::row_view;
+use crate::runs::{Runs, RunsBuilder};
+use std::alloc::Global;
+use vortex_arrays_buffer::error::ArrayError;
+use vortex_arrays_core::array::{ArrayRef, Validity};
+
+/// The offsets and the sizes of lists that stand end to end, and the runs of their elements.
+#[derive(Drop)]
+pub(crate) struct Plan {
+    pub(crate) offsets: Vec<u64>,
+    pub(crate) sizes: Vec<u64>,
+    pub(crate) runs: Runs,
+}
+
+/// The plan for the lists of a view. `Total` where they have together more elements than can be
+/// counted.
+#[tactic(auto, using(crate::proofs::PlanLemmas::planned))]
+pub(crate) fn plan_layout(
+    alloc: Global,
+    elements: &ArrayRef,
+    offsets: &ArrayRef,
+    sizes: &ArrayRef,
+    validity: &Validity,
+) -> Result<Plan, ArrayError>
+    requires { IsSound (list_views elements.now offsets.now sizes.now false
+        (valid_of validity.now)) }
+    ensures canonical { IfOk result
+        (λ p. IsCanonical (rows_of (list_views elements.now offsets.now sizes.now false
+        (valid_of validity.now))) p.offsets.items p.sizes.items
+        (map (content_at elements.now) (positions_in p.runs.list.items))) }
+    ensures within { IfOk result
+        (λ p. All (LiesWithin (len_of elements.now)) p.runs.list.items) }
+    ensures refused { IfErr result (λ e. IsSumFault e
+        (rows_of (list_views elements.now offsets.now sizes.now false (valid_of validity.now)))) }
+{
+    let len = offsets.len();
+    let mut starts = Vec::with_capacity(alloc, len)?;
+    let mut counts = Vec::with_capacity(alloc, len)?;
+    let mut runs = RunsBuilder::new(alloc, elements.len());
+    for i in 0..len {
+        let (start, count) = row_view(elements, offsets, sizes, validity, i);
+        starts.push(runs.len as u64)?;
+        counts.push(count as u64)?;
+        runs.add(start, count)?;
+    }
+    let runs = runs.finish()?;
+    Ok(Plan {
+        offsets: starts,
+        sizes: counts,
+        runs,
+    })
+}

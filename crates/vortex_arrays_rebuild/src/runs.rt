@@ -1,0 +1,127 @@
+//! Runs of neighbouring elements, which are copied as one range each.
+ghost use Rattle.std.specs.Prelude.{◌≡◌, ◌≤◌, ◌+◌, ◌++◌, ◌^◌, [], length, IfOk, IfErr, OnOk, All};
+ghost use Rattle.std.specs.List.{range_with_len};
+ghost use Rattle.vortex_arrays_rebuild.specs.Runs.{positions_of, positions_in, LiesWithin, IsLengthFault};
+
+use std::alloc::{AllocError, Global};
+use vortex_arrays_buffer::error::ArrayError;
+
+/// Neighbouring elements: the first, and how many they are.
+#[derive(Clone, Copy, Drop)]
+pub(crate) struct Run {
+    pub(crate) start: usize,
+    pub(crate) len: usize,
+}
+
+/// Runs in the order of their copies, and how many elements they have together.
+#[derive(Drop)]
+pub(crate) struct Runs {
+    pub(crate) list: Vec<Run>,
+    pub(crate) len: usize,
+    ghost counted: { len ≡ length (positions_in list.items) },
+}
+
+/// The runs of lists that are added one by one. The last run stays open: a list that begins where
+/// it ends makes it longer, and one without elements changes nothing.
+#[derive(Drop)]
+pub(crate) struct RunsBuilder {
+    pub(crate) limit: usize,
+    pub(crate) done: Vec<Run>,
+    pub(crate) last: Run,
+    pub(crate) len: usize,
+    ghost done_within: { All (LiesWithin limit) done.items },
+    ghost last_within: { LiesWithin limit last },
+    ghost counted: { len ≡ length (positions_in done.items ++ positions_of last) },
+}
+
+impl RunsBuilder {
+    /// No runs yet, of so many elements.
+    pub(crate) fn new(alloc: Global, limit: usize) -> RunsBuilder
+        ensures limit { result.limit ≡ limit }
+        ensures none { positions_in result.done.items ++ positions_of result.last ≡ [] }
+    {
+        RunsBuilder {
+            limit,
+            done: Vec::new(alloc),
+            last: Run { start: 0, len: 0 },
+            len: 0,
+        }
+    }
+
+    /// Adds the elements of a list. `Total` where there are more than can be counted.
+    #[tactic(auto, using(crate::proofs::RunLemmas::runs))]
+    pub(crate) fn add(&mut self, start: usize, len: usize) -> Result<(), ArrayError>
+        requires { start + len ≤ self.old.limit }
+        ensures limit { self.new.limit ≡ self.old.limit }
+        ensures positions { OnOk result (positions_in self.new.done.items
+            ++ positions_of self.new.last
+            ≡ (positions_in self.old.done.items ++ positions_of self.old.last)
+            ++ range_with_len start len) }
+        ensures refused { IfErr result (λ e. IsLengthFault e (self.old.len + len)) }
+    {
+        let total = match self.len.checked_add(len) {
+            Some(total) => total,
+            None => return Err(ArrayError::Total),
+        };
+        if len == 0 {
+            return Ok(());
+        }
+        if start == self.last.start + self.last.len {
+            self.last.len += len;
+        } else {
+            if self.last.len > 0 {
+                let run = self.last;
+                self.done.push(run)?;
+            }
+            self.last = Run { start, len };
+        }
+        self.len = total;
+        Ok(())
+    }
+
+    /// All runs, in the order of their lists.
+    #[tactic(auto, using(crate::proofs::RunLemmas::runs))]
+    pub(crate) fn finish(self) -> Result<Runs, AllocError>
+        ensures positions { IfOk result (λ runs. positions_in runs.list.items
+            ≡ positions_in self.done.items ++ positions_of self.last) }
+        ensures within { IfOk result (λ runs. All (LiesWithin self.limit) runs.list.items) }
+    {
+        let last = self.last;
+        let len = self.len;
+        let mut list = self.done;
+        if last.len > 0 {
+            list.push(last)?;
+        }
+        Ok(Runs { list, len })
+    }
+}
+
+/// The positions of the runs' elements, all of them below a length.
+#[tactic(auto, using(crate::proofs::CopyLemmas::placed))]
+pub(crate) fn positions_of_runs(
+    alloc: Global,
+    runs: &Runs,
+    len: usize,
+) -> Result<Vec<u64>, AllocError>
+    requires { All (LiesWithin len) runs.now.list.items }
+    ensures { IfOk result (λ places. places.items ≡ positions_in runs.now.list.items) }
+{
+    let mut places: Vec<u64> = Vec::with_capacity(alloc, runs.len)?;
+    for i in 0..runs.list.len() {
+        push_positions(&mut places, runs.list[i], len)?;
+    }
+    Ok(places)
+}
+
+// Adds the positions of a run's elements, all of them below a length.
+#[tactic(auto, using(crate::proofs::CopyLemmas::added))]
+fn push_positions(places: &mut Vec<u64>, run: Run, len: usize) -> Result<(), AllocError>
+    requires { LiesWithin len run }
+    ensures { OnOk result (places.new.items ≡ places.old.items ++ positions_of run) }
+{
+    let _len = len;
+    for j in 0..run.len {
+        places.push((run.start + j) as u64)?;
+    }
+    Ok(())
+}

@@ -1,0 +1,157 @@
+//! List views without the elements that lie before or behind all lists.
+ghost use Rattle.std.specs.Prelude.{◌≡◌, pos, IfOk, IfErr, IsTrue, All};
+ghost use Rattle.vortex_dtype_ptype.specs.Numbers.{integral, is_integral};
+ghost use Rattle.vortex_dtype_ptype.specs.View.{number_kind_of};
+ghost use Rattle.vortex_arrays_buffer.specs.declared.error.ArrayError.TheVariants.{Memory};
+ghost use Rattle.vortex_arrays_model.specs.Layout.{array_type_of, list_views, IsOffsets, IsSound};
+ghost use Rattle.vortex_arrays_core.specs.LayoutOf.{valid_of};
+ghost use Rattle.vortex_arrays_rebuild.specs.Indices.{AreAtMost};
+ghost use Rattle.vortex_arrays_rebuild.specs.Trims.{
+  HasElementsBetween,
+  HasLowered,
+  HasNatural,
+  IsLowered,
+  IsTrimmedView,
+  LieBetween,
+};
+
+use crate::read::read_indices;
+use std::alloc::Global;
+use vortex_arrays_buffer::buffer::Buffer;
+use vortex_arrays_buffer::element::Element;
+use vortex_arrays_buffer::error::ArrayError;
+use vortex_arrays_buffer::primitive_buffer::PrimitiveBuffer;
+use vortex_arrays_core::array::{ArrayRef, Validity};
+use vortex_arrays_leaf::primitive_array::PrimitiveArray;
+use vortex_arrays_nested::list_view::{ListViewArray, ListViewSlots};
+use vortex_dtype_native::match_each_integer_ptype;
+use vortex_dtype_ptype::ptype::PType;
+
+/// The view with the elements from the least offset to the greatest end alone, none without rows.
+#[tactic(auto, using(crate::proofs::TrimLemmas::trimmed))]
+pub(crate) fn trim_to_bounds(
+    alloc: Global,
+    lists: &ListViewArray,
+) -> Result<ListViewArray, ArrayError>
+    ensures made { IfOk result (λ r. IsTrimmedView lists.now r) }
+    ensures refused { IfErr result (λ e. e ≡ Memory) }
+{
+    match lists.referenced_element_bounds() {
+        Some(bounds) => trim_between(alloc, lists, bounds.0, bounds.1),
+        None => trim_between(alloc, lists, 0, 0),
+    }
+}
+
+/// The view with the elements of a range alone, in which each list lies.
+pub(crate) fn trim_between(
+    alloc: Global,
+    lists: &ListViewArray,
+    start: usize,
+    end: usize,
+) -> Result<ListViewArray, ArrayError>
+    requires { LieBetween lists.now start end }
+    ensures made { IfOk result (λ r. HasElementsBetween lists.now start end r) }
+    ensures refused { IfErr result (λ e. e ≡ Memory) }
+{
+    let slots = lists.slots();
+    let array = trim_slots(alloc, &slots, start, end)?;
+    match ListViewArray::of_array(array) {
+        Ok(lists) => Ok(lists),
+        Err(_other) => unreachable!(),
+    }
+}
+
+// The same of a view's parts.
+#[tactic(auto, using(crate::proofs::TrimLemmas::between))]
+fn trim_slots(
+    alloc: Global,
+    slots: &ListViewSlots<'_>,
+    start: usize,
+    end: usize,
+) -> Result<ArrayRef, ArrayError>
+    requires sound { IsSound (list_views slots.now.elements.now slots.now.offsets.now
+        slots.now.sizes.now slots.now.is_zero_copy_to_list (valid_of slots.now.validity.now)) }
+    requires between { LieBetween (list_views slots.now.elements.now slots.now.offsets.now
+        slots.now.sizes.now slots.now.is_zero_copy_to_list (valid_of slots.now.validity.now))
+        start end }
+    ensures made { IfOk result (λ r. HasElementsBetween (list_views slots.now.elements.now
+        slots.now.offsets.now slots.now.sizes.now slots.now.is_zero_copy_to_list
+        (valid_of slots.now.validity.now)) start end r) }
+    ensures refused { IfErr result (λ e. e ≡ Memory) }
+{
+    let elements = slots.elements.slice(alloc, start..end)?;
+    let count = slots.elements.len();
+    let offsets = lower_offsets(alloc, slots.offsets, start, count)?;
+    let sizes = slots.sizes.clone()?;
+    let flag = slots.is_zero_copy_to_list;
+    let validity = slots.validity.clone()?;
+    let array = ArrayRef::of_list_views(alloc, elements, offsets, sizes, flag, validity)?;
+    Ok(array)
+}
+
+// The offsets lowered by a number, of the same kind. None of them is below it, nor above the bound.
+#[tactic(auto, using(crate::proofs::TrimLemmas::lowered))]
+fn lower_offsets(
+    alloc: Global,
+    offsets: &ArrayRef,
+    by: usize,
+    bound: usize,
+) -> Result<ArrayRef, ArrayError>
+    requires kind { IsOffsets (array_type_of offsets.now) }
+    requires within { AreAtMost bound offsets.now }
+    requires sound { IsSound offsets.now }
+    ensures made { IfOk result (λ r. IsLowered offsets.now by r) }
+    ensures refused { IfErr result (λ e. e ≡ Memory) }
+{
+    if by == 0 {
+        return Ok(offsets.clone()?);
+    }
+    let starts = read_indices(alloc, offsets, bound)?;
+    match offsets.dtype().as_ptype_opt() {
+        Some(ptype) => lower_to_kind(alloc, ptype, &starts, by),
+        None => unreachable!(),
+    }
+}
+
+// Numbers of a kind, lowered.
+fn lower_to_kind(
+    alloc: Global,
+    ptype: PType,
+    starts: &[usize],
+    by: usize,
+) -> Result<ArrayRef, ArrayError>
+    requires whole { IsTrue (is_integral (number_kind_of ptype)) }
+    requires held { All (HasNatural (number_kind_of ptype)) starts.now }
+    ensures made { IfOk result (λ r. HasLowered (number_kind_of ptype) starts.now by r) }
+    ensures refused { IfErr result (λ e. e ≡ Memory) }
+{
+    match_each_integer_ptype!(ptype, lower(alloc, starts, by))
+}
+
+// Numbers of a native type, lowered.
+#[tactic(auto, using(crate::proofs::TrimLemmas::lowering))]
+fn lower<T: Element>(alloc: Global, starts: &[usize], by: usize) -> Result<ArrayRef, ArrayError>
+    requires { All (HasNatural (integral T.kind)) starts.now }
+    ensures made { IfOk result (λ r. HasLowered (integral T.kind) starts.now by r) }
+    ensures refused { IfErr result (λ e. e ≡ Memory) }
+{
+    let mut lowered: Vec<T> = Vec::with_capacity(alloc, starts.len())?;
+    for i in 0..starts.len() {
+        lowered.push(number_of(starts[i].saturating_sub(by)))?;
+    }
+    let items = PrimitiveBuffer::from_buffer(Buffer::from_vec(lowered)?);
+    let array = PrimitiveArray::try_new(alloc, items, Validity::NonNullable)?;
+    Ok(array.into_array())
+}
+
+// A number that the kind has.
+#[tactic(auto, using(crate::proofs::TrimLemmas::tested))]
+fn number_of<T: Element>(number: usize) -> T
+    requires { HasNatural (integral T.kind) number }
+    ensures { T.integer result ≡ pos number }
+{
+    match T::of(number as i128) {
+        Some(number) => number,
+        None => unreachable!(),
+    }
+}

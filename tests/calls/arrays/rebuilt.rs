@@ -1,0 +1,124 @@
+//! List views rebuilt and trimmed.
+
+use crate::arrays::{bools, numbers};
+use crate::checks::Checks;
+use std::alloc::Global;
+use vortex_arrays::{
+    ArrayError, ArrayRef, ListViewArray, ListViewRebuild, ListViewRebuildMode, Validity,
+};
+use vortex_dtype::DTypeError;
+
+pub fn run(alloc: Global, checks: &mut Checks<'_>) -> Result<(), DTypeError> {
+    null_rows(alloc, checks)?;
+    runs(alloc, checks)?;
+    trimmed(alloc, checks)?;
+    modes(alloc, checks)?;
+    Ok(())
+}
+
+/// Lists of 32-bit elements by 64-bit offsets and 8-bit sizes.
+fn lists(
+    alloc: Global,
+    elements: &[i32],
+    offsets: &[i64],
+    sizes: &[u8],
+    validity: Validity,
+) -> Result<ListViewArray, DTypeError> {
+    let elements = numbers(alloc, elements, Validity::NonNullable)?;
+    let offsets = numbers(alloc, offsets, Validity::NonNullable)?;
+    let sizes = numbers(alloc, sizes, Validity::NonNullable)?;
+    match ListViewArray::try_new(alloc, elements, offsets, sizes, validity) {
+        Ok(lists) => Ok(lists),
+        Err(_error) => Err(DTypeError::Memory),
+    }
+}
+
+/// Whether these are the array's integers, none of them null.
+fn holds(array: &ArrayRef, expected: &[i128]) -> bool {
+    if array.len() != expected.len() {
+        return false;
+    }
+    for i in 0..expected.len() {
+        if array.integer(i) != Some(expected[i]) {
+            return false;
+        }
+    }
+    true
+}
+
+/// Checks the elements, the offsets and the sizes of what a mode made.
+fn made(
+    checks: &mut Checks<'_>,
+    name: &str,
+    result: &Result<ListViewArray, ArrayError>,
+    elements: &[i128],
+    offsets: &[i128],
+    sizes: &[i128],
+) {
+    match result {
+        Ok(lists) => checks.holds(
+            name,
+            holds(lists.elements(), elements)
+                && holds(lists.offsets(), offsets)
+                && holds(lists.sizes(), sizes),
+        ),
+        Err(error) => checks.holds(name, *error == ArrayError::Memory),
+    }
+}
+
+fn null_rows(alloc: Global, checks: &mut Checks<'_>) -> Result<(), DTypeError> {
+    let valid = Validity::Array(bools(alloc, &[true, false, true])?);
+    let view = lists(alloc, &[1, 2, 3, 4], &[0, 1, 2], &[1, 2, 2], valid)?;
+    let rebuilt = view.rebuild(alloc, ListViewRebuildMode::MakeZeroCopyToList);
+    made(checks, "rebuild with a null", &rebuilt, &[1, 3, 4], &[0, 1, 1], &[1, 0, 2]);
+    if let Ok(lists) = rebuilt {
+        checks.holds("rebuilt flag", lists.is_zero_copy_to_list());
+        let again = lists.rebuild(alloc, ListViewRebuildMode::MakeZeroCopyToList);
+        made(checks, "rebuild again", &again, &[1, 3, 4], &[0, 1, 1], &[1, 0, 2]);
+    }
+    Ok(())
+}
+
+fn runs(alloc: Global, checks: &mut Checks<'_>) -> Result<(), DTypeError> {
+    let elements = [1, 2, 3, 4, 5, 6];
+    let view = lists(alloc, &elements, &[0, 2, 4, 1], &[2, 2, 2, 2], Validity::AllValid)?;
+    let rebuilt = view.rebuild(alloc, ListViewRebuildMode::MakeExact);
+    let all = [1, 2, 3, 4, 5, 6, 2, 3];
+    made(checks, "rebuild in two runs", &rebuilt, &all, &[0, 2, 4, 6], &[2, 2, 2, 2]);
+    let valid = Validity::Array(bools(alloc, &[true, false, true, true])?);
+    let view = lists(alloc, &elements, &[0, 2, 4, 1], &[2, 2, 2, 2], valid)?;
+    let rebuilt = view.rebuild(alloc, ListViewRebuildMode::MakeZeroCopyToList);
+    let all = [1, 2, 5, 6, 2, 3];
+    made(checks, "rebuild around a null", &rebuilt, &all, &[0, 2, 2, 4], &[2, 0, 2, 2]);
+    Ok(())
+}
+
+fn trimmed(alloc: Global, checks: &mut Checks<'_>) -> Result<(), DTypeError> {
+    let view = lists(alloc, &[9, 1, 2, 3, 9], &[1, 2], &[2, 2], Validity::NonNullable)?;
+    let least = view.rebuild(alloc, ListViewRebuildMode::TrimElements);
+    made(checks, "trim to the lists", &least, &[1, 2, 3], &[0, 1], &[2, 2]);
+    let wider = view.trim_elements(alloc, 1, 5);
+    made(checks, "trim_elements", &wider, &[1, 2, 3, 9], &[0, 1], &[2, 2]);
+    let none = lists(alloc, &[7, 8], &[], &[], Validity::NonNullable)?;
+    let least = none.rebuild(alloc, ListViewRebuildMode::TrimElements);
+    made(checks, "trim without rows", &least, &[], &[], &[]);
+    Ok(())
+}
+
+fn modes(alloc: Global, checks: &mut Checks<'_>) -> Result<(), DTypeError> {
+    let view = lists(alloc, &[5, 6, 7], &[1], &[1], Validity::NonNullable)?;
+    let refused = view.rebuild(alloc, ListViewRebuildMode::OverlapCompression);
+    match refused {
+        Ok(_lists) => checks.holds("OverlapCompression", false),
+        Err(error) => checks.holds("OverlapCompression", error == ArrayError::NotImplemented),
+    }
+    let flagged = view.with_zero_copy_to_list(alloc, true)?;
+    let exact = flagged.rebuild(alloc, ListViewRebuildMode::MakeExact);
+    made(checks, "MakeExact of a flagged view", &exact, &[6], &[0], &[1]);
+    let kept = flagged.rebuild(alloc, ListViewRebuildMode::MakeZeroCopyToList);
+    made(checks, "a flagged view stays", &kept, &[5, 6, 7], &[1], &[1]);
+    let none = lists(alloc, &[7, 8], &[], &[], Validity::NonNullable)?;
+    let kept = none.rebuild(alloc, ListViewRebuildMode::OverlapCompression);
+    made(checks, "OverlapCompression without rows", &kept, &[7, 8], &[], &[]);
+    Ok(())
+}
