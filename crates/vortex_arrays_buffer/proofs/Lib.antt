@@ -2,4 +2,5 @@ pub mod BitLemmas
 pub mod Built
 pub mod NumberLemmas
 pub mod Positions
+pub mod SignedItems
 pub mod Windows

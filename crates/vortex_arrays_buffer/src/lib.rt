@@ -6,5 +6,6 @@ pub mod bit_buffer;
 pub mod buffer;
 pub mod element;
 pub mod error;
+mod in_range;
 pub mod mask;
 pub mod primitive_buffer;

@@ -8,9 +8,9 @@ ghost use Rattle.vortex_arrays_buffer.specs.PrimitiveBuffers.{kind_of_numbers, i
 
 use crate::buffer::Buffer;
 use crate::element::Element;
+use crate::in_range::{all_i8, all_i16, all_i32, all_i64, all_u8, all_u16, all_u32, all_u64};
 use std::alloc::{AllocError, Global};
 use std::ops::Range;
-use vortex_dtype_native::native::NativePType;
 use vortex_dtype_ptype::ptype::PType;
 use vortex_scalar_value::pvalue::PValue;
 
@@ -38,16 +38,6 @@ impl Drop for PrimitiveBuffer {
             PrimitiveBuffer::I32(_items) => {}
             PrimitiveBuffer::I64(_items) => {}
         }
-    }
-}
-
-/// The kind of `T` holds each of the numbers. It changes nothing: what calls it is told so.
-#[tactic(auto, using(crate::proofs::NumberLemmas::held))]
-fn are_in_range<T: NativePType>(items: &[T])
-    ensures { All (InRange T.kind) (map T.integer items.now) }
-{
-    for i in 0..items.len() {
-        let _ = items[i].get();
     }
 }
 
@@ -144,19 +134,19 @@ impl PrimitiveBuffer {
         T::items_of(self)
     }
 
-    /// The kind holds each of the numbers. It changes nothing: what calls it is told so.
+    /// The kind holds each of the numbers. It reads none: what calls it is told so.
     pub fn is_in_range(&self)
         ensures { All (InRange (kind_of_numbers self.now)) (integers_of self.now) }
     {
         match self {
-            PrimitiveBuffer::U8(items) => are_in_range(items.as_slice()),
-            PrimitiveBuffer::U16(items) => are_in_range(items.as_slice()),
-            PrimitiveBuffer::U32(items) => are_in_range(items.as_slice()),
-            PrimitiveBuffer::U64(items) => are_in_range(items.as_slice()),
-            PrimitiveBuffer::I8(items) => are_in_range(items.as_slice()),
-            PrimitiveBuffer::I16(items) => are_in_range(items.as_slice()),
-            PrimitiveBuffer::I32(items) => are_in_range(items.as_slice()),
-            PrimitiveBuffer::I64(items) => are_in_range(items.as_slice()),
+            PrimitiveBuffer::U8(items) => all_u8(items.as_slice()),
+            PrimitiveBuffer::U16(items) => all_u16(items.as_slice()),
+            PrimitiveBuffer::U32(items) => all_u32(items.as_slice()),
+            PrimitiveBuffer::U64(items) => all_u64(items.as_slice()),
+            PrimitiveBuffer::I8(items) => all_i8(items.as_slice()),
+            PrimitiveBuffer::I16(items) => all_i16(items.as_slice()),
+            PrimitiveBuffer::I32(items) => all_i32(items.as_slice()),
+            PrimitiveBuffer::I64(items) => all_i64(items.as_slice()),
         }
     }
 
