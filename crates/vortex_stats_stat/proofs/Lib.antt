@@ -1,0 +1,3 @@
+pub mod BitLemmas
+mod Examples
+pub mod Written

@@ -1,0 +1,3 @@
+pub mod Bitsets
+pub mod Refusals
+pub mod Stats

@@ -1,0 +1,16 @@
+-- The numbers and names of refusals.
+use Rattle.std.specs.Prelude.{ℕ, List, codes}
+use Rattle.vortex_stats_stat.specs.declared.error.StatsError.{StatsError}
+use Rattle.vortex_stats_stat.specs.declared.error.StatsError.TheVariants as error
+
+abbrev pub number_of_error : StatsError → ℕ
+number_of_error error.Memory = 1
+number_of_error error.NoOverlap = 2
+number_of_error error.NoSuchStat = 9
+number_of_error error.InvalidStat = 10
+
+abbrev pub name_of_error : StatsError → List ℕ
+name_of_error error.Memory = codes "Memory"
+name_of_error error.NoOverlap = codes "NoOverlap"
+name_of_error error.NoSuchStat = codes "NoSuchStat"
+name_of_error error.InvalidStat = codes "InvalidStat"

@@ -1,0 +1,7 @@
+//! Statistics of columns: which there are, and how a set of them is written in bits.
+#![tactic(auto)]
+
+pub mod bitset;
+pub mod error;
+pub mod stat;
+pub mod stat_iter;
