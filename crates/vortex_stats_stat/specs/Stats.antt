@@ -2,6 +2,8 @@
 use Rattle.std.specs.Prelude.{ℕ, List, [], ◌∷◌, Bool, true, false, Option, Some, None, codes, if◌then◌else◌}
 use Rattle.vortex_model.specs.LogicalType.{LogicalType, null_only, boolean_type, integer_type, non_nullable, u64}
 use Rattle.vortex_model.specs.Typing.{type_of_sum, is_float}
+use Rattle.vortex_stats_expr.specs.declared.aggregate.AggregateFn.{AggregateFn}
+use Rattle.vortex_stats_expr.specs.declared.aggregate.AggregateFn.TheVariants as aggregate
 use Rattle.vortex_stats_stat.specs.declared.stat.Stat.{Stat}
 use Rattle.vortex_stats_stat.specs.declared.stat.Stat.TheVariants as stat
 
@@ -69,3 +71,13 @@ stat_type stat.Sum k = type_of_sum k
 stat_type stat.NullCount k = Some number_type
 stat_type stat.UncompressedSizeInBytes k = Some number_type
 stat_type stat.NaNCount k = if is_float k then Some number_type else None
+
+-- the aggregate function that computes the statistic
+abbrev pub aggregate_fn_of : Stat → Option AggregateFn
+aggregate_fn_of stat.Max = Some aggregate.Max
+aggregate_fn_of stat.Min = Some aggregate.Min
+aggregate_fn_of stat.Sum = Some aggregate.Sum
+aggregate_fn_of stat.NullCount = Some aggregate.NullCount
+aggregate_fn_of stat.UncompressedSizeInBytes = Some aggregate.UncompressedSizeInBytes
+aggregate_fn_of stat.NaNCount = Some aggregate.NanCount
+aggregate_fn_of s = None

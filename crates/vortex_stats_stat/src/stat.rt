@@ -1,5 +1,5 @@
 //! The statistics that may be known of a column.
-ghost use Rattle.std.specs.Prelude.{◌≡◌, ◌<◌, IfOk, IfErr, Some, option_map};
+ghost use Rattle.std.specs.Prelude.{◌≡◌, ◌≢◌, ◌<◌, IfOk, IfErr, IfSome, IfNone, Some, option_map};
 ghost use Rattle.std.specs.Ordering.{nat_cmp, on, as_partial_cmp};
 ghost use Rattle.vortex_model.specs.LogicalType.{integer_type, u64, nullable, non_nullable};
 ghost use Rattle.vortex_model.specs.Typing.{type_of_sum};
@@ -7,7 +7,7 @@ ghost use Rattle.vortex_dtype_ptype.specs.Numbers.{type_of_numbers};
 ghost use Rattle.vortex_dtype_ptype.specs.View.{number_kind_of};
 ghost use Rattle.vortex_dtype_core.specs.View.{type_of};
 ghost use Rattle.vortex_stats_stat.specs.declared.error.StatsError.TheVariants.{Memory, NoSuchStat};
-ghost use Rattle.vortex_stats_stat.specs.Stats.{number_of_stat, name_of_stat, all_stats, bound_type, stat_type, is_commutative, is_of_array_type};
+ghost use Rattle.vortex_stats_stat.specs.Stats.{number_of_stat, name_of_stat, all_stats, aggregate_fn_of, bound_type, stat_type, is_commutative, is_of_array_type};
 
 use crate::error::StatsError;
 use crate::stat_iter::StatIter;
@@ -16,6 +16,7 @@ use std::fmt;
 use vortex_dtype_core::dtype::DType;
 use vortex_dtype_ptype::nullability::Nullability;
 use vortex_dtype_ptype::ptype::PType;
+use vortex_stats_expr::aggregate::AggregateFn;
 
 /// A statistic of the rows of a column, as Vortex's `Stat`. Nulls are passed over but where they
 /// are counted. Statistics are ordered by their numbers.
@@ -120,6 +121,43 @@ impl Stat {
                     Ok(None)
                 }
             }
+        }
+    }
+}
+
+impl Stat {
+    ghost use Rattle.vortex_stats_stat.specs.declared.stat.Stat.{Stat};
+
+    /// The aggregate function that computes the statistic. None gives a truth about all rows.
+    pub fn aggregate_fn(&self) -> Option<AggregateFn>
+        ensures { result ≡ aggregate_fn_of self.now }
+    {
+        match self {
+            Stat::IsConstant | Stat::IsSorted | Stat::IsStrictSorted => None,
+            Stat::Max => Some(AggregateFn::Max),
+            Stat::Min => Some(AggregateFn::Min),
+            Stat::Sum => Some(AggregateFn::Sum),
+            Stat::NullCount => Some(AggregateFn::NullCount),
+            Stat::UncompressedSizeInBytes => Some(AggregateFn::UncompressedSizeInBytes),
+            Stat::NaNCount => Some(AggregateFn::NanCount),
+        }
+    }
+
+    /// The statistic that the aggregate function computes, if there is one.
+    pub fn from_aggregate_fn(aggregate: &AggregateFn) -> Option<Stat>
+        ensures found { IfSome result (λ stat. aggregate_fn_of stat ≡ Some aggregate.now) }
+        ensures none { IfNone result ((stat : Stat) → aggregate_fn_of stat ≢ Some aggregate.now) }
+    {
+        match aggregate {
+            AggregateFn::Max => Some(Stat::Max),
+            AggregateFn::Min => Some(Stat::Min),
+            AggregateFn::Sum => Some(Stat::Sum),
+            AggregateFn::NullCount => Some(Stat::NullCount),
+            AggregateFn::NanCount => Some(Stat::NaNCount),
+            AggregateFn::UncompressedSizeInBytes => Some(Stat::UncompressedSizeInBytes),
+            AggregateFn::MinMax => None,
+            AggregateFn::AllNull | AggregateFn::AllNonNull => None,
+            AggregateFn::AllNan | AggregateFn::AllNonNan => None,
         }
     }
 }
