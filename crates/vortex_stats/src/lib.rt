@@ -1,8 +1,16 @@
-//! Predicates over rows, and the proofs over statistics that are made of them.
+//! What is known of statistics, predicates over rows, and the proofs over statistics that are made
+//! of them.
 //!
 //! A reader of predicates alone depends on this crate; nothing below it does.
 #![tactic(auto)]
 
+pub mod laws;
+
+pub use vortex_stats_bound::bound::{LowerBound, UpperBound};
+pub use vortex_stats_bound::bound_ord::BoundOrd;
+pub use vortex_stats_bound::intersection::IntersectionResult;
+pub use vortex_stats_bound::precision::Precision;
+pub use vortex_stats_bound::stat_bound::{BoundOf, StatBound};
 pub use vortex_stats_expr::aggregate::AggregateFn;
 pub use vortex_stats_expr::bind::{PredicateError, bind};
 pub use vortex_stats_expr::bound::BoundExpression;
