@@ -1,5 +1,4 @@
 pub mod AtKinds
-mod Literals
 pub mod Meanings
 pub mod Readings
 pub mod RowLemmas

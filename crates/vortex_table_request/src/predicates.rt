@@ -2,7 +2,6 @@
 ghost use Rattle.std.specs.Prelude.{◌≡◌, option_map, option_and_then};
 ghost use Rattle.serde_json.specs.Find.{at};
 ghost use Rattle.serde_json.specs.View.{view, items_view};
-ghost use Rattle.vortex_model.specs.Kept.{is_leaf};
 ghost use Rattle.vortex_dtype_core.specs.View.{type_of};
 ghost use Rattle.vortex_stats_expr.specs.Tree.{comparison_of};
 ghost use Rattle.vortex_table_request.specs.Parsed.{Gives};
@@ -17,20 +16,12 @@ use vortex_scalar_core::scalar::Scalar;
 use vortex_stats_expr::expression::{Expression, col, compare, lit};
 use vortex_stats_expr::operator::Comparison;
 
-/// Whether a type is a leaf of tables: of truth values, integers, texts or bytes.
-#[tactic(auto, using(crate::proofs::Literals::leaf_kinds))]
-fn is_leaf(dtype: &DType) -> bool
-    ensures { result ≡ is_leaf (type_of dtype.now) }
-{
-    dtype.is_boolean() || dtype.is_int() || dtype.is_utf8() || dtype.is_binary()
-}
-
 /// A literal of a leaf type, whose reading is valid.
 fn read_literal_at(alloc: Global, dtype: DType, value: &Value) -> Result<Expression, ParseError>
     ensures { Gives (λ e. e) result (literal_at (type_of dtype) (view value.now)) }
 {
     let content = read_value(value, alloc, &dtype)?;
-    if !is_leaf(&dtype) {
+    if !dtype.is_leaf() {
         return Err(ParseError::Malformed);
     }
     match Scalar::try_new(dtype, content) {

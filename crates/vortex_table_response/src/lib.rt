@@ -7,7 +7,7 @@ mod scans;
 pub mod type_texts;
 mod values;
 
-pub use refusals::refusal;
+pub use refusals::{bad_line, refusal, without_table};
 pub use scans::push_scan;
 pub use type_texts::{push_dtype, push_flag, push_number};
 pub use values::{push_cell, push_numbers, push_value};

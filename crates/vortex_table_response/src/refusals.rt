@@ -1,6 +1,7 @@
 //! Refusals as short texts, which take no memory.
 ghost use Rattle.std.specs.Prelude.{◌≡◌, ◌≤◌, ◌+◌, ◌++◌, length, decimal};
-ghost use Rattle.vortex_table_response.specs.Text.{place_text, refusal_parts};
+ghost use Rattle.vortex_model.specs.Refusal.{no_table};
+ghost use Rattle.vortex_table_response.specs.Text.{place_text, refusal_parts, refusal_text, bad_line_text};
 
 use itoa::Buffer;
 use vortex_table_io::ShortText;
@@ -42,4 +43,18 @@ pub fn refusal(place: Option<usize>, number: u8, name: &str) -> ShortText
     text.push_bytes(name.as_bytes());
     text.push_bytes(b"\"}");
     text
+}
+
+/// The answer to a line that is no command.
+pub fn bad_line() -> ShortText
+    ensures { result ≡ bad_line_text }
+{
+    refusal(None, 18, "BadLine")
+}
+
+/// The answer to a command that wants a table, where there is none.
+pub fn without_table() -> ShortText
+    ensures { result ≡ refusal_text no_table }
+{
+    refusal(None, 19, "NoTable")
 }

@@ -1,27 +1,10 @@
 //! Refusals as texts that take no memory.
 ghost use Rattle.std.specs.Prelude.{◌≡◌, ◌≤◌, ℕ, List, length};
-ghost use Rattle.vortex_model.specs.Reply.{refused};
-ghost use Rattle.vortex_model.specs.Refusal.{no_table};
-ghost use Rattle.vortex_table_response.specs.Text.{bad_line_text};
 ghost use Rattle.vortex_table_run.specs.Said.{IsSaid, error_answer, error_name};
 
 use vortex_table_core::error::TableError;
-use vortex_table_io::{Response, ShortText};
+use vortex_table_io::Response;
 use vortex_table_response::refusal;
-
-/// The text for a line that is no command.
-pub(crate) fn bad_line() -> ShortText
-    ensures { result ≡ bad_line_text }
-{
-    refusal(None, 18, "BadLine")
-}
-
-/// What is said to a command that wants a table, where there is none.
-pub(crate) fn without_table() -> Response
-    ensures { (out : List ℕ) → IsSaid (refused no_table) result out }
-{
-    Response::Short(refusal(None, 19, "NoTable"))
-}
 
 /// The name of an error.
 fn name(error: TableError) -> &'static str

@@ -11,7 +11,7 @@ ghost use Rattle.vortex_table_io.specs.Lines.{with_lf};
 ghost use Rattle.vortex_table_request.specs.View.{shown};
 ghost use Rattle.vortex_table_run.specs.Said.{Responds};
 
-use crate::refused::{bad_line, fault, without_table};
+use crate::refused::fault;
 use std::alloc::{AllocError, Global};
 use vortex_dtype_core::dtype::DType;
 use vortex_dtype_path::path::FieldPath;
@@ -20,7 +20,7 @@ use vortex_stats_expr::expression::Expression;
 use vortex_table_core::table::Table;
 use vortex_table_io::{LineHandler, Response};
 use vortex_table_request::{Command, ParseError, read_command};
-use vortex_table_response::push_scan;
+use vortex_table_response::{bad_line, push_scan, without_table};
 use vortex_table_schema::answer::ScanAnswer;
 use vortex_table_schema::layout::Layout;
 
@@ -77,7 +77,7 @@ impl Session {
             result out (table_in self.new) }
     {
         let Some(table) = &mut self.table else {
-            return without_table();
+            return Response::Short(without_table());
         };
         match table.append_owned(dtype, values, layouts) {
             Ok(()) => Response::Done,
@@ -97,7 +97,7 @@ impl Session {
             result out.new.items (table_in self.now) }
     {
         let Some(table) = &self.table else {
-            return without_table();
+            return Response::Short(without_table());
         };
         match table.scan(alloc, paths, predicate) {
             Ok(answer) => match write_found(alloc, &answer, out) {

@@ -15,7 +15,7 @@ pub returns-in_default : goal.returns-in_default
 returns-in_default c = λ out.
     let none = ap (option_map table_of) c.in_default.is in
     let command = append (type_of c.args.dtype.now) (map raw_in c.args.values.items) in
-    (refused no_table, without_table (table_in c.args.self.now) command none refl, c.without_table.ensures out)
+    (refused no_table, without_table (table_in c.args.self.now) command none refl, c.without_table.ensures)
 
 pub returns-in-Err : goal.returns-in-Err
 returns-in-Err c = λ out.

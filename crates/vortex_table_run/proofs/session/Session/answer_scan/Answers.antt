@@ -15,7 +15,7 @@ pub returns-in_default : goal.returns-in_default
 returns-in_default c =
     let none = ap (option_map table_of) c.in_default.is in
     let command = scan (map steps_of c.args.paths.now) c.args.predicate.now in
-    (refused no_table, without_table (table_in c.args.self.now) command none refl, c.without_table.ensures _)
+    (refused no_table, without_table (table_in c.args.self.now) command none refl, c.without_table.ensures)
 
 pub returns-in-Ok-write_found : goal.returns-in-Ok-write_found
 returns-in-Ok-write_found c =
