@@ -1,7 +1,14 @@
 mod Coverage
 mod Examples
+mod Grown
+mod Hung
+mod Inside
+mod Kept
 mod Masks
+mod Nodes
+mod Outermost
 mod Resolved
 mod Sets
 mod Steps
+mod Walked
 mod Walks

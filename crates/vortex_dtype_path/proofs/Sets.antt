@@ -1,42 +1,17 @@
 -- Lists of paths as sets.
 use Rattle.std.proofs.Math.Bool.{or-true}
 use Rattle.std.proofs.lemmas.Bool.{ltb-true, ltb-false, eqb-true}
-use Rattle.std.proofs.Common.{◌==◌, if◌then◌else◌, IsTrue, subst, append-nil, ◌↔◌, ◌≡◌, refl, sym, ap, ◌∙◌, Bool, true, false, not, ◌&&◌, ◌||◌, cond, ◌+◌, arith, List, [], ◌∷◌, ◌++◌, length, length-append, nat_lt}
-use Rattle.std.specs.List.{list_any, starts_with, IsDistinct, AllByRecursion, filter}
+use Rattle.std.proofs.Common.{◌==◌, IsTrue, subst, append-nil, ◌↔◌, ◌≡◌, refl, sym, ap, ◌∙◌, Bool, true, false, not, ◌&&◌, ◌||◌, cond, ◌+◌, arith, List, [], ◌∷◌, ◌++◌, length, length-append, nat_lt}
+use Rattle.std.specs.List.{starts_with, IsDistinct, AllByRecursion, filter}
 use Rattle.std.specs.Cmp.{first_so, second_so}
 use Rattle.std.proofs.lemmas.Map.Views.{any-filter_same}
 use Rattle.std.proofs.lemmas.Map.Steps.{list_any_congr}
-use Rattle.std.proofs.lemmas.Map.Keys.{IsDistinct-push}
-use Rattle.std.proofs.lemmas.List.Folds.{list_any-append}
 use Rattle.vortex_model.specs.Path.{Step}
 use Rattle.vortex_dtype_path.specs.Steps.{eq_step, eq_steps, eq_steps_equiv, Begins, is_among, AreDistinct, begins_properly, lies_inside, outermost_among}
 use Rattle.vortex_dtype_path.specs.Coverage.{IsOutermost}
-use Rattle.vortex_dtype_path.specs.View.{steps_of, paths_of, eq_path}
+use Rattle.vortex_dtype_path.specs.View.{steps_of, paths_of}
 use Rattle.vortex_dtype_path.specs.declared.path.FieldPath.{FieldPath}
 use Rattle.vortex_dtype_path.proofs.Steps.{eq_steps-decides, starts}
-
-pub found : (ps : List FieldPath) (p : FieldPath) → list_any (λ y. eq_path y p) ps ≡ is_among (paths_of ps) (steps_of p)
-found [] p = refl
-found (x ∷ ps) p = λ i. eq_steps_equiv.symm (steps_of x) (steps_of p) i || found ps p i
-
-either_way : (a b : Bool) → (a || (b || false)) ≡ (b || a)
-either_way true true = refl
-either_way true false = refl
-either_way false true = refl
-either_way false false = refl
-
-paths_of-pushed : (ps : List FieldPath) (p : FieldPath) → paths_of (ps ++ p ∷ []) ≡ paths_of ps ++ steps_of p ∷ []
-paths_of-pushed [] p = refl
-paths_of-pushed (x ∷ ps) p = ap (λ l. steps_of x ∷ l) (paths_of-pushed ps p)
-
-pub inserted : (ps : List FieldPath) (p : FieldPath) (q : List Step) → is_among (paths_of (ps ++ p ∷ [])) q ≡ (eq_steps q (steps_of p) || is_among (paths_of ps) q)
-inserted ps p q =
-    ap (λ l. is_among l q) (paths_of-pushed ps p)
-    ∙ list_any-append (eq_steps q) (paths_of ps) (steps_of p ∷ [])
-    ∙ either_way (is_among (paths_of ps) q) (eq_steps q (steps_of p))
-
-pub distinct_still : (ps : List FieldPath) (p : FieldPath) → AreDistinct (paths_of ps) → is_among (paths_of ps) (steps_of p) ≡ false → AreDistinct (paths_of (ps ++ p ∷ []))
-distinct_still ps p d e = rw (paths_of-pushed ps p) (IsDistinct-push eq_steps_equiv (paths_of ps) (steps_of p) d e)
 
 -- a member is there again where it is inserted again
 again : (ps : List (List Step)) (p q : List Step) (b : Bool) → eq_steps q p ≡ b → is_among ps p ≡ true → is_among ps q ≡ (b || is_among ps q)
@@ -45,6 +20,23 @@ again ps p q false e h = refl
 
 pub inserted_again : (ps : List (List Step)) (p q : List Step) → is_among ps p ≡ true → is_among ps q ≡ (eq_steps q p || is_among ps q)
 inserted_again ps p q h = again ps p q (eq_steps q p) refl h
+
+-- the last path of a list may come first
+last_first : (e d m n c : Bool) → (e || (m || c)) ≡ (n || c) → (e || ((d || m) || c)) ≡ ((d || n) || c)
+last_first true true m n c h = refl
+last_first false true m n c h = refl
+last_first e false m n c h = h
+
+alone : (e c : Bool) → (e || c) ≡ ((e || false) || c)
+alone true c = refl
+alone false c = refl
+
+turned : (xs : List FieldPath) (p : FieldPath) (q : List Step) (c : Bool) → (eq_steps q (steps_of p) || (is_among (paths_of xs) q || c)) ≡ (is_among (paths_of (xs ++ p ∷ [])) q || c)
+turned [] p q c = alone (eq_steps q (steps_of p)) c
+turned (x ∷ xs) p q c = last_first (eq_steps q (steps_of p)) (eq_steps q (steps_of x)) (is_among (paths_of xs) q) (is_among (paths_of (xs ++ p ∷ [])) q) c (turned xs p q c)
+
+pub one_inserted : (xs : List FieldPath) (p : FieldPath) (q : List Step) (a b c : Bool) → a ≡ (eq_steps q (steps_of p) || b) → b ≡ (is_among (paths_of xs) q || c) → a ≡ (is_among (paths_of (xs ++ p ∷ [])) q || c)
+one_inserted xs p q a b c e f = e ∙ ap (λ t. eq_steps q (steps_of p) || t) f ∙ turned xs p q c
 
 -- no longer than what it begins, and so equal
 as_long : (p q rest : List Step) → p ++ rest ≡ q → nat_lt (length p) (length q) ≡ false → p ≡ q
@@ -79,7 +71,7 @@ outside [] q p h m b = absurd (cc (m))
 outside (x ∷ ps) q p h m b = outside_here x ps q p (eq_steps p x) refl h m b (λ h' m'. outside ps q p h' m' b)
 
 -- some member begins this one properly
-abbrev HasOuter : List (List Step) → List Step → Type 0
+abbrev pub HasOuter : List (List Step) → List Step → Type 0
 HasOuter ps q = (p : List Step) × (is_among ps p ≡ true) × Begins p q × (nat_lt (length p) (length q) ≡ true)
 
 inside_here : (x : List Step) (ps : List (List Step)) (q : List Step) (t : Bool) → begins_properly x q ≡ t → (t || lies_inside ps q) ≡ true → (lies_inside ps q ≡ true → HasOuter ps q) → HasOuter (x ∷ ps) q
@@ -93,7 +85,7 @@ inside_here x ps q false e h rest =
     let outer = rest h in
     (outer.0, ap (λ t. eq_steps outer.0 x || t) outer.1 ∙ or-true (eq_steps outer.0 x), outer.2, outer.3)
 
-inside : (ps : List (List Step)) (q : List Step) → lies_inside ps q ≡ true → HasOuter ps q
+pub inside : (ps : List (List Step)) (q : List Step) → lies_inside ps q ≡ true → HasOuter ps q
 inside [] q h = absurd (cc (h))
 inside (x ∷ ps) q h = inside_here x ps q (begins_properly x q) refl h (inside ps q)
 
@@ -128,18 +120,9 @@ distinct_kept t (x ∷ ps) h = elim (t x) as (λ b. AreDistinct (cond b (x ∷ f
 pub outermost_distinct : (ps : List (List Step)) → AreDistinct ps → AreDistinct (outermost_among ps)
 outermost_distinct ps d = distinct_kept (λ p. not (lies_inside ps p)) ps d
 
-pub none : AreDistinct []
-unfolding IsDistinct
-none = tt
-
 -- the first path is a member
-pub empty_or_not : (ps : List FieldPath) (r : Bool) → r ≡ (length ps == 0) → IsTrue r ↔ ((q : List Step) → is_among (paths_of ps) q ≡ false)
+pub empty_or_not : (ps : List (List Step)) (r : Bool) → r ≡ (length ps == 0) → IsTrue r ↔ ((q : List Step) → is_among ps q ≡ false)
 empty_or_not [] r e = (λ h q. refl, λ h. e)
 empty_or_not (x ∷ ps) r e =
-    let first : is_among (paths_of (x ∷ ps)) (steps_of x) ≡ true = ap (λ t. t || is_among (paths_of ps) (steps_of x)) (eq_steps_equiv.refl (steps_of x)) in
-    (λ h. absurd (omega (arith, eqb-true (length (x ∷ ps)) 0 (sym e ∙ h))), λ h. absurd (cc (first, h (steps_of x))))
-
--- what is pushed only where it isn't there leaves distinct paths
-pub distinct_after : (ps new : List FieldPath) (p : FieldPath) (b : Bool) → new ≡ (if b then ps ++ p ∷ [] else ps) → AreDistinct (paths_of ps) → is_among (paths_of ps) (steps_of p) ≡ false → AreDistinct (paths_of new)
-distinct_after ps new p true e d n = rw e (distinct_still ps p d n)
-distinct_after ps new p false e d n = rw e d
+    let first : is_among (x ∷ ps) x ≡ true = ap (λ t. t || is_among ps x) (eq_steps_equiv.refl x) in
+    (λ h. absurd (omega (arith, eqb-true (length (x ∷ ps)) 0 (sym e ∙ h))), λ h. absurd (cc (first, h x)))

@@ -4,4 +4,5 @@ pub mod Masks
 pub mod Resolve
 pub mod Sets
 pub mod Steps
+pub mod Tree
 pub mod View

@@ -6,4 +6,5 @@ pub mod laws;
 pub mod mask;
 pub mod path;
 pub mod path_set;
+mod path_tree;
 pub mod resolve;

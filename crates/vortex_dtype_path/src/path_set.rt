@@ -1,23 +1,28 @@
 //! Sets of paths.
-ghost use Rattle.std.specs.Prelude.{◌≡◌, ◌↔◌, ◌||◌, ◌++◌, List, map, not, false, length, IsTrue, IfOk, OnOk, OnErr};
-ghost use Rattle.std.specs.Iterator.{IsFinite, Drains, Yields, YieldsFirstRef, item_count};
+ghost use Rattle.std.specs.Prelude.{◌≡◌, ◌↔◌, ◌||◌, ◌++◌, ◌∷◌, [], List, map, not, false, length, None, IsTrue, IfOk, OnOk, OnErr};
+ghost use Rattle.std.specs.Iterator.{IsFinite, Drains, Yields, YieldsThen, YieldsFirstRef, item_count};
 ghost use Rattle.std.specs.Vec.Iter.{into_iter_items};
 ghost use Rattle.std.proofs.Props.{props};
 ghost use Rattle.vortex_model.specs.Path.{Step};
-ghost use Rattle.vortex_dtype_path.specs.Steps.{eq_steps, is_among, AreDistinct, begins_properly, lies_inside, outermost_among};
+ghost use Rattle.vortex_dtype_path.specs.Steps.{eq_steps, is_among, AreDistinct};
 ghost use Rattle.vortex_dtype_path.specs.Coverage.{IsOutermost};
 ghost use Rattle.vortex_dtype_path.specs.View.{steps_of, paths_of};
+ghost use Rattle.vortex_dtype_path.specs.Tree.{IsTree, nodes_of, kept_paths};
 ghost use Rattle.vortex_dtype_path.specs.declared.path.FieldPath.{FieldPath};
 
 use crate::path::FieldPath;
+use crate::path_tree::{PathNode, insert_in, is_kept, outermost_of};
 use std::alloc::{AllocError, Global};
 use std::vec::IntoIter;
 
-/// A set of paths, as Vortex's `FieldPathSet`.
+/// A set of paths, as Vortex's `FieldPathSet`: a tree of steps, in which a path is kept by the node
+/// that its steps lead to.
 #[derive(Drop)]
 pub struct FieldPathSet {
-    paths: Vec<FieldPath>,
-    pub ghost distinct: { AreDistinct (paths_of paths.items) } by { Prim.hlevel props },
+    nodes: Vec<PathNode>,
+    count: usize,
+    pub ghost tree: { IsTree (nodes_of nodes.items) } by { Prim.hlevel props },
+    pub ghost counted: { count ≡ length (kept_paths (nodes_of nodes.items)) },
 }
 
 impl FieldPathSet {
@@ -28,7 +33,8 @@ impl FieldPathSet {
         ensures { (q : List Step) → is_inserted result q ≡ false }
     {
         FieldPathSet {
-            paths: Vec::new(alloc),
+            nodes: Vec::new(alloc),
+            count: 0,
         }
     }
 
@@ -36,25 +42,24 @@ impl FieldPathSet {
     pub fn len(&self) -> usize
         ensures { Counts self.now result }
     {
-        self.paths.len()
+        self.count
     }
 
     /// Whether no path was inserted.
     pub fn is_empty(&self) -> bool
         ensures { IsTrue result ↔ ((q : List Step) → is_inserted self.now q ≡ false) }
     {
-        self.paths.as_slice().is_empty()
+        self.count == 0
     }
 
     /// Whether the path was inserted. It takes no memory.
     pub fn contains(&self, path: &FieldPath) -> bool
         ensures { result ≡ is_inserted self.now (steps_of path.now) }
     {
-        self.paths.contains(path)
+        is_kept(self.nodes.as_slice(), path.parts())
     }
 
     /// Inserts the path, and tells whether it is new. Without memory the set stays.
-    #[tactic(auto, using(crate::proofs::Sets::inserted))]
     pub fn insert(&mut self, path: FieldPath) -> Result<bool, AllocError>
         ensures fresh { IfOk result (λ fresh. fresh ≡ not (is_inserted self.old (steps_of path))) }
         ensures ok { OnOk result ((q : List Step) → is_inserted self.new q
@@ -62,14 +67,11 @@ impl FieldPathSet {
         ensures err { OnErr result ((q : List Step) → is_inserted self.new q
             ≡ is_inserted self.old q) }
     {
-        if self.contains(&path) {
-            return Ok(false);
-        }
-        self.paths.push(path)?;
-        Ok(true)
+        self.insert_path(path)
     }
 
-    /// Inserts the paths in turn. Without memory those stay inserted that came before.
+    /// Inserts the paths in turn. Without memory those stay inserted that came before the refused
+    /// one, and no path is asked for after it.
     pub fn extend<I: Iterator<Item = FieldPath> + Drop>(
         &mut self,
         paths: I,
@@ -79,14 +81,55 @@ impl FieldPathSet {
         ensures ok { OnOk result ((xs : List FieldPath) × Drains I.next_gives paths xs
             × ((q : List Step) → is_inserted self.new q
             ≡ (is_among (paths_of xs) q || is_inserted self.old q))) }
-        ensures err { OnErr result ((xs : List FieldPath) × (t : I) × Yields I.next_gives paths xs t
+        ensures err { OnErr result ((xs : List FieldPath) × (refused : FieldPath) × (t : I)
+            × Yields I.next_gives paths (xs ++ refused ∷ []) t
+            × ((q : List Step) → is_inserted self.new q
+            ≡ (is_among (paths_of xs) q || is_inserted self.old q))
+            × (is_inserted self.new (steps_of refused) ≡ false)) }
+    {
+        let mut paths = paths;
+        self.insert_each(&mut paths)?;
+        Ok(())
+    }
+
+    // Inserts the paths in turn, up to one that memory is refused for, which is then the last one
+    // that was asked for.
+    fn insert_each<I: Iterator<Item = FieldPath> + Drop>(
+        &mut self,
+        paths: &mut I,
+    ) -> Result<(), AllocError>
+        requires can { I.can_next paths.old }
+        requires ends { IsFinite (I.remaining paths.old) }
+        ensures ok { OnOk result ((xs : List FieldPath)
+            × YieldsThen I.next_gives paths.old xs None paths.new
             × ((q : List Step) → is_inserted self.new q
             ≡ (is_among (paths_of xs) q || is_inserted self.old q))) }
+        ensures err { OnErr result ((xs : List FieldPath) × (refused : FieldPath)
+            × Yields I.next_gives paths.old (xs ++ refused ∷ []) paths.new
+            × ((q : List Step) → is_inserted self.new q
+            ≡ (is_among (paths_of xs) q || is_inserted self.old q))
+            × (is_inserted self.new (steps_of refused) ≡ false)) }
     {
-        for path in paths {
-            self.insert(path)?;
+        while let Some(path) = paths.next() {
+            self.insert_path(path)?;
         }
         Ok(())
+    }
+
+    // Inserts the path, and tells whether it is new. Memory is refused for a new path alone.
+    fn insert_path(&mut self, path: FieldPath) -> Result<bool, AllocError>
+        ensures fresh { IfOk result (λ fresh. fresh ≡ not (is_inserted self.old (steps_of path))) }
+        ensures ok { OnOk result ((q : List Step) → is_inserted self.new q
+            ≡ (eq_steps q (steps_of path) || is_inserted self.old q)) }
+        ensures err { OnErr result ((q : List Step) → is_inserted self.new q
+            ≡ is_inserted self.old q) }
+        ensures refused { OnErr result (is_inserted self.old (steps_of path) ≡ false) }
+    {
+        let is_new = insert_in(&mut self.nodes, path)?;
+        if is_new {
+            self.count += 1;
+        }
+        Ok(is_new)
     }
 
     /// The inserted paths, each once, in no promised order.
@@ -96,7 +139,7 @@ impl FieldPathSet {
         ensures once { AreDistinct (paths_of (paths_left result)) }
     {
         FieldPathSetIter {
-            rest: self.paths.as_slice(),
+            rest: self.nodes.as_slice(),
         }
     }
 
@@ -107,51 +150,15 @@ impl FieldPathSet {
             ↔ IsOutermost (is_inserted self) q) }
         ensures once { IfOk result (λ it. AreDistinct (paths_of (into_iter_items it))) }
     {
-        let outermost = outermost_of(&self.paths)?;
+        let outermost = outermost_of(*self.nodes.allocator(), self.nodes.as_slice())?;
         Ok(outermost.into_iter())
     }
-}
-
-// The paths that no other path of the list begins, in order.
-fn outermost_of(paths: &Vec<FieldPath>) -> Result<Vec<FieldPath>, AllocError>
-    ensures { IfOk result (λ kept. paths_of kept.items
-        ≡ outermost_among (paths_of paths.now.items)) }
-{
-    let mut outermost = Vec::new(*paths.allocator());
-    for path in paths {
-        if !is_inside(path, paths.as_slice()) {
-            outermost.push(path.clone()?)?;
-        }
-    }
-    Ok(outermost)
-}
-
-// Whether a path of the list begins this one and isn't equal.
-fn is_inside(path: &FieldPath, paths: &[FieldPath]) -> bool
-    ensures { result ≡ lies_inside (paths_of paths.now) (steps_of path.now) }
-{
-    for other in paths {
-        if begins_properly(other, path) {
-            return true;
-        }
-    }
-    false
-}
-
-// Whether the second path is longer than the first and goes on from it.
-fn begins_properly(front: &FieldPath, path: &FieldPath) -> bool
-    ensures { result ≡ begins_properly (steps_of front.now) (steps_of path.now) }
-{
-    if front.parts().len() < path.parts().len() {
-        return front.begins(path);
-    }
-    false
 }
 
 /// The paths of a set.
 #[derive(Drop)]
 pub struct FieldPathSetIter<'a> {
-    rest: &'a [FieldPath],
+    rest: &'a [PathNode],
 }
 
 impl<'a> Iterator for FieldPathSetIter<'a> {
@@ -164,8 +171,14 @@ impl<'a> Iterator for FieldPathSetIter<'a> {
     ghost remaining = { item_count paths_left };
 
     fn next(&mut self) -> Option<&'a FieldPath> {
-        let (first, others) = self.rest.split_first()?;
-        self.rest = others;
-        Some(first)
+        let nodes = self.rest;
+        for i in 0..nodes.len() {
+            if let Some(path) = &nodes[i].path {
+                self.rest = &nodes[i + 1..];
+                return Some(path);
+            }
+        }
+        self.rest = &nodes[nodes.len()..];
+        None
     }
 }

@@ -13,6 +13,7 @@ pub fn run(alloc: Global, checks: &mut Checks<'_>) -> Result<(), DTypeError> {
     extended(alloc, checks)?;
     gone_over(alloc, checks)?;
     outermost(alloc, checks)?;
+    branching(alloc, checks)?;
     Ok(())
 }
 
@@ -183,5 +184,46 @@ fn outermost(alloc: Global, checks: &mut Checks<'_>) -> Result<(), DTypeError> {
     checks.holds("into_iter: a name's front is no step", is_so);
     let is_so = are_outermost(alloc, &[&["*", "a"], &["a"], &["*"]], &[&["*"], &["a"]])?;
     checks.holds("into_iter: steps to elements", is_so);
+    Ok(())
+}
+
+// Paths that share their first step, and one apart.
+fn branching(alloc: Global, checks: &mut Checks<'_>) -> Result<(), DTypeError> {
+    let mut set = FieldPathSet::new(alloc);
+    let given = vec![in alloc;
+        path(alloc, &["a", "b"])?,
+        path(alloc, &["x"])?,
+        path(alloc, &["a"])?,
+    ]?;
+    set.extend(given.into_iter())?;
+    checks.holds(
+        "insert a new branch",
+        set.insert(path(alloc, &["a", "c"])?)?,
+    );
+    checks.holds("four paths of two branches", set.len() == 4);
+    checks.holds(
+        "contains what was inserted below another",
+        set.contains(&path(alloc, &["a", "b"])?),
+    );
+    checks.holds(
+        "contains nothing else below it",
+        !set.contains(&path(alloc, &["a", "d"])?),
+    );
+    let mut list = Vec::new(alloc);
+    for path in set.iter() {
+        list.push(path.clone()?)?;
+    }
+    let is_so = has_each_once(alloc, &list, &[&["a"], &["a", "b"], &["a", "c"], &["x"]])?;
+    checks.holds("iter gives the paths of each branch", is_so);
+    let mut first = Vec::new(alloc);
+    for path in set.into_iter()? {
+        first.push(path)?;
+    }
+    let is_so = has_each_once(alloc, &first, &[&["a"], &["x"]])?;
+    checks.holds("into_iter gives the first of each branch", is_so);
+    let is_so = are_outermost(alloc, &[&[], &["a"]], &[&[]])?;
+    checks.holds("into_iter: the root alone", is_so);
+    let is_so = are_outermost(alloc, &[&["a", "*"], &["a"]], &[&["a"]])?;
+    checks.holds("into_iter: an element step after a kept path", is_so);
     Ok(())
 }
