@@ -1,0 +1,40 @@
+//! Calls what is known of statistics: which there are, their types, and sets of them.
+#![tactic(auto)]
+
+mod bitsets;
+mod checks;
+mod stats;
+mod types;
+
+use crate::checks::Checks;
+use std::alloc::Global;
+use std::process::ExitCode;
+use vortex_dtype::DTypeError;
+use vortex_stats::StatsError;
+
+/// The end of calls, of which none was refused memory.
+pub type Done = Result<(), StatsError>;
+
+fn run(alloc: Global, checks: &mut Checks<'_>) -> Done {
+    stats::run(alloc, checks)?;
+    checks.end_part("statistics");
+    types::run(checks)?;
+    checks.end_part("types of statistics");
+    bitsets::run(alloc, checks)?;
+    checks.end_part("statistics as bits");
+    Ok(())
+}
+
+fn main(rt: HostRuntime) -> ExitCode {
+    let mut checks = Checks::new(&rt);
+    let outcome = match run(rt.alloc(), &mut checks) {
+        Ok(()) => Ok(()),
+        Err(StatsError::Memory) => Err(DTypeError::Memory),
+        Err(error) => {
+            let _ = println!(rt; "refused, since {error}");
+            checks.holds("a call that is to succeed", false);
+            Ok(())
+        }
+    };
+    checks.end(outcome)
+}
