@@ -3,6 +3,7 @@
 
 mod bitsets;
 mod checks;
+mod sets;
 mod stats;
 mod types;
 
@@ -22,6 +23,8 @@ fn run(alloc: Global, checks: &mut Checks<'_>) -> Done {
     checks.end_part("types of statistics");
     bitsets::run(alloc, checks)?;
     checks.end_part("statistics as bits");
+    sets::run(alloc, checks)?;
+    checks.end_part("sets of statistics");
     Ok(())
 }
 

@@ -1,0 +1,23 @@
+-- What a set of statistics knows of each, as raw values.
+use Rattle.std.specs.Prelude.{List, Option, Some, None}
+use Rattle.vortex_model.specs.Content.{Raw}
+use Rattle.vortex_model.specs.Statistics.{Precision, absent}
+use Rattle.vortex_scalar_value.specs.View.{raw_of}
+use Rattle.vortex_scalar_value.specs.declared.scalar_value.ScalarValue.{ScalarValue}
+use Rattle.vortex_stats_bound.specs.Precision.{precision_of, precision_map}
+use Rattle.vortex_stats_bound.specs.declared.precision.Precision as known
+use Rattle.vortex_stats_stat.specs.declared.stat.Stat.{Stat}
+use Rattle.vortex_stats_set.specs.Sets.{value_in}
+
+-- the raw value, as precise
+abbrev pub raw_precision : known.Precision ScalarValue → Precision Raw
+raw_precision p = precision_map raw_of (precision_of p)
+
+-- what a missing statistic says: nothing
+abbrev pub or_absent : Option (known.Precision ScalarValue) → Precision Raw
+or_absent None = absent
+or_absent (Some p) = raw_precision p
+
+-- what is known of the statistic
+abbrev pub known_in : List (Stat × known.Precision ScalarValue) → Stat → Precision Raw
+known_in xs s = or_absent (value_in xs s)

@@ -1,0 +1,262 @@
+//! What is known of a column: statistics, each with its value.
+ghost use Rattle.std.specs.Prelude.{◌≡◌, ◌++◌, [], ◌∷◌, List, IsTrue, IfOk, IfErr, OnOk, OnErr, IsOk, length, position, true, ◌↔◌};
+ghost use Rattle.vortex_stats_stat.specs.declared.error.StatsError.TheVariants.{Memory};
+ghost use Rattle.vortex_stats_stat.specs.Stats.{number_of_stat};
+ghost use Rattle.vortex_stats_stat.specs.Bitsets.{has_number};
+ghost use Rattle.vortex_stats_set.specs.Sets.{is_of, has_stat, is_set, set_in, set_in_turn, without, only};
+ghost use Rattle.std.specs.Iterator.{YieldsFirst, item_count};
+ghost use Rattle.std.specs.Slice.Iter.{iter_rest};
+ghost use Rattle.vortex_stats_set.specs.Known.{raw_precision, known_in};
+
+use std::alloc::Global;
+use std::marker::Model;
+use std::slice::Iter;
+use std::vec;
+use vortex_scalar_value::scalar_value::ScalarValue;
+use vortex_stats_bound::precision::Precision;
+use vortex_stats_stat::error::StatsError;
+use vortex_stats_stat::stat::Stat;
+
+/// What a `StatsSet` keeps its pairs in. Vortex's keeps four of them inline.
+pub type StatsArray = Vec<(Stat, Precision<ScalarValue>)>;
+
+/// Statistics of a column, each with its value, as Vortex's `StatsSet`. No statistic stands twice;
+/// one that is `Absent` is kept and counted.
+#[derive(Drop)]
+pub struct StatsSet {
+    values: StatsArray,
+}
+
+impl Model for StatsSet {
+    ghost use Rattle.std.specs.Coded.{codes};
+    ghost use Rattle.vortex_scalar_value.specs.contracts.scalar_value.ScalarValue as value;
+    ghost use Rattle.std.specs.Prelude.{List, IsTrue};
+    ghost use Rattle.vortex_stats_set.specs.Sets.{is_set};
+    ghost use Rattle.vortex_scalar_value.specs.declared.scalar_value.ScalarValue.{ScalarValue};
+    ghost use Rattle.vortex_stats_bound.specs.declared.precision.Precision.{Precision};
+    ghost use Rattle.vortex_stats_stat.specs.declared.stat.Stat.{Stat};
+
+    ghost Value = { List (Stat × Precision ScalarValue) };
+
+    ghost coded = { Prim.hlevel (codes, value.the_row.coded) };
+
+    ghost view = { λ set. set.values.items };
+
+    ghost invariant = { λ set. IsTrue (is_set set.values.items) };
+}
+
+impl StatsSet {
+    /// No statistic.
+    pub fn empty(alloc: Global) -> StatsSet
+        ensures { result ≡ [] }
+    {
+        StatsSet {
+            values: Vec::new(alloc),
+        }
+    }
+
+    /// The set of these pairs. That no statistic stands twice is not tested.
+    pub fn new_unchecked(values: StatsArray) -> StatsSet
+        requires { IsTrue (is_set values.items) }
+        ensures { result ≡ values.items }
+    {
+        StatsSet { values }
+    }
+
+    /// How many statistics there are, `Absent` ones too.
+    pub fn len(&self) -> usize
+        ensures { result ≡ length self.now }
+    {
+        self.values.len()
+    }
+
+    /// Whether there is no statistic.
+    pub fn is_empty(&self) -> bool
+        ensures { IsTrue result ↔ (self.now ≡ []) }
+    {
+        self.values.is_empty()
+    }
+
+    fn position(&self, stat: Stat) -> Option<usize>
+        ensures { result ≡ position (is_of stat) self.now }
+    {
+        self.values.iter().position(|pair| pair.0 == stat)
+    }
+
+    /// Gives the statistic this value, in its place if it is there and else behind the others.
+    #[tactic(auto, using(crate::proofs::Lists::sets))]
+    pub fn set(&mut self, stat: Stat, value: Precision<ScalarValue>) -> Result<(), StatsError>
+        ensures ok { OnOk result (self.new ≡ set_in self.old stat value) }
+        ensures err { OnErr result (self.new ≡ self.old) }
+        ensures in_place { has_stat self.old stat ≡ true → IsOk result }
+        ensures refused { IfErr result (λ e. e ≡ Memory) }
+    {
+        match self.position(stat) {
+            Some(i) => self.values[i].1 = value,
+            None => self.values.push((stat, value))?,
+        }
+        Ok(())
+    }
+
+    /// Takes the statistic out.
+    pub fn clear(&mut self, stat: Stat)
+        ensures { self.new ≡ without self.old stat }
+    {
+        self.values.retain(|pair| pair.0 != stat);
+    }
+
+    /// Keeps these statistics alone.
+    pub fn retain_only(&mut self, stats: &[Stat])
+        ensures { self.new ≡ only self.old stats.now }
+    {
+        self.values.retain(|pair| is_among(stats, pair.0));
+    }
+
+    /// What is known of the statistic, which is `Absent` where it isn't there.
+    #[tactic(auto, using(crate::proofs::Lists::sets))]
+    pub fn get(&self, stat: Stat) -> Result<Precision<ScalarValue>, StatsError>
+        ensures value { IfOk result (λ known. raw_precision known ≡ known_in self.now stat) }
+        ensures refused { IfErr result (λ e. e ≡ Memory) }
+    {
+        match self.position(stat) {
+            Some(i) => clone_precision(&self.values[i].1),
+            None => Ok(Precision::Absent),
+        }
+    }
+
+    /// The pairs in their order.
+    pub fn iter(&self) -> Iter<'_, (Stat, Precision<ScalarValue>)>
+        ensures pairs { iter_rest result ≡ self.now }
+        ensures distinct { IsTrue (is_set self.now) }
+    {
+        self.values.iter()
+    }
+}
+
+fn is_among(stats: &[Stat], stat: Stat) -> bool
+    ensures { result ≡ has_number stats.now (number_of_stat stat) }
+{
+    stats.iter().any(|one| *one == stat)
+}
+
+fn clone_precision(known: &Precision<ScalarValue>) -> Result<Precision<ScalarValue>, StatsError>
+    ensures value { IfOk result (λ copy. raw_precision copy ≡ raw_precision known.now) }
+    ensures refused { IfErr result (λ e. e ≡ Memory) }
+{
+    match known {
+        Precision::Exact(value) => Ok(Precision::Exact(value.clone()?)),
+        Precision::Inexact(value) => Ok(Precision::Inexact(value.clone()?)),
+        Precision::Absent => Ok(Precision::Absent),
+    }
+}
+
+impl StatsSet {
+    ghost use Rattle.std.specs.Iterator.{IsFinite, Drains, Yields};
+    ghost use Rattle.vortex_scalar_value.specs.declared.scalar_value.ScalarValue.{ScalarValue};
+    ghost use Rattle.vortex_stats_bound.specs.declared.precision.Precision as known;
+    ghost use Rattle.vortex_stats_stat.specs.declared.stat.Stat.{Stat};
+
+    /// Sets these in turn. Without memory those stay that were set before.
+    #[tactic(auto, using(crate::proofs::Lists::in_turn))]
+    pub fn extend<I: Iterator<Item = (Stat, Precision<ScalarValue>)> + Drop>(
+        &mut self,
+        pairs: I,
+    ) -> Result<(), StatsError>
+        requires can { I.can_next pairs }
+        requires ends { IsFinite (I.remaining pairs) }
+        ensures ok { OnOk result ((xs : List (Stat × known.Precision ScalarValue))
+            × Drains I.next_gives pairs xs × (self.new ≡ set_in_turn self.old xs)) }
+        ensures err { OnErr result ((xs : List (Stat × known.Precision ScalarValue)) × (t : I)
+            × Yields I.next_gives pairs xs t × (self.new ≡ set_in_turn self.old xs)) }
+        ensures refused { IfErr result (λ e. e ≡ Memory) }
+    {
+        for pair in pairs {
+            let (stat, value) = pair;
+            self.set(stat, value)?;
+        }
+        Ok(())
+    }
+
+    /// The set after these are set in turn.
+    pub fn try_from_iter<I: Iterator<Item = (Stat, Precision<ScalarValue>)> + Drop>(
+        alloc: Global,
+        pairs: I,
+    ) -> Result<StatsSet, StatsError>
+        requires can { I.can_next pairs }
+        requires ends { IsFinite (I.remaining pairs) }
+        ensures ok { IfOk result (λ set. (xs : List (Stat × known.Precision ScalarValue))
+            × Drains I.next_gives pairs xs × (set ≡ set_in_turn [] xs)) }
+        ensures refused { IfErr result (λ e. e ≡ Memory) }
+    {
+        let mut set = StatsSet::empty(alloc);
+        set.extend(pairs)?;
+        Ok(set)
+    }
+
+    /// The set of this statistic alone.
+    pub fn of(
+        alloc: Global,
+        stat: Stat,
+        value: Precision<ScalarValue>,
+    ) -> Result<StatsSet, StatsError>
+        ensures value { IfOk result (λ set. set ≡ (stat, value) ∷ []) }
+        ensures refused { IfErr result (λ e. e ≡ Memory) }
+    {
+        let mut set = StatsSet::empty(alloc);
+        set.set(stat, value)?;
+        Ok(set)
+    }
+}
+
+/// The pairs one after the other, by value, as Vortex's `StatsSetIntoIter`.
+#[derive(Drop)]
+pub struct StatsSetIntoIter {
+    values: vec::IntoIter<(Stat, Precision<ScalarValue>)>,
+}
+
+impl Model for StatsSetIntoIter {
+    ghost use Rattle.std.specs.Coded.{codes};
+    ghost use Rattle.vortex_scalar_value.specs.contracts.scalar_value.ScalarValue as value;
+    ghost use Rattle.std.specs.Prelude.{List};
+    ghost use Rattle.std.specs.Vec.Iter.{into_iter_items};
+    ghost use Rattle.vortex_scalar_value.specs.declared.scalar_value.ScalarValue.{ScalarValue};
+    ghost use Rattle.vortex_stats_bound.specs.declared.precision.Precision.{Precision};
+    ghost use Rattle.vortex_stats_stat.specs.declared.stat.Stat.{Stat};
+
+    ghost Value = { List (Stat × Precision ScalarValue) };
+
+    ghost coded = { Prim.hlevel (codes, value.the_row.coded) };
+
+    ghost view = { λ rest. into_iter_items rest.values };
+}
+
+impl Iterator for StatsSetIntoIter {
+    type Item = (Stat, Precision<ScalarValue>);
+
+    ghost next_gives = { YieldsFirst (λ rest. rest) };
+
+    ghost remaining = { item_count (λ rest. rest) };
+
+    fn next(&mut self) -> Option<(Stat, Precision<ScalarValue>)> {
+        self.values.next()
+    }
+
+    fn size_hint(&self) -> (usize, Option<usize>) {
+        let len = self.values.len();
+        (len, Some(len))
+    }
+}
+
+impl IntoIterator for StatsSet {
+    type Item = (Stat, Precision<ScalarValue>);
+
+    type IntoIter = StatsSetIntoIter;
+
+    ghost into_iter_gives = { λ set rest. rest ≡ set };
+
+    fn into_iter(self) -> StatsSetIntoIter {
+        StatsSetIntoIter {
+            values: self.values.into_iter(),
+        }
+    }
+}
