@@ -46,35 +46,46 @@ fn holds(array: &ArrayRef, expected: &[i128]) -> bool {
     true
 }
 
-/// Checks the elements, the offsets and the sizes of what a mode made.
+/// What a mode made. Want of memory ends the program.
 fn made(
+    rebuilt: Result<ListViewArray, ArrayError>,
+) -> Result<Option<ListViewArray>, DTypeError> {
+    match rebuilt {
+        Ok(lists) => Ok(Some(lists)),
+        Err(ArrayError::Memory) => Err(DTypeError::Memory),
+        Err(_error) => Ok(None),
+    }
+}
+
+/// Checks the elements, the offsets and the sizes of what a mode made.
+fn check(
     checks: &mut Checks<'_>,
     name: &str,
-    result: &Result<ListViewArray, ArrayError>,
+    made: &Option<ListViewArray>,
     elements: &[i128],
     offsets: &[i128],
     sizes: &[i128],
 ) {
-    match result {
-        Ok(lists) => checks.holds(
+    match made {
+        Some(lists) => checks.holds(
             name,
             holds(lists.elements(), elements)
                 && holds(lists.offsets(), offsets)
                 && holds(lists.sizes(), sizes),
         ),
-        Err(error) => checks.holds(name, *error == ArrayError::Memory),
+        None => checks.holds(name, false),
     }
 }
 
 fn null_rows(alloc: Global, checks: &mut Checks<'_>) -> Result<(), DTypeError> {
     let valid = Validity::Array(bools(alloc, &[true, false, true])?);
     let view = lists(alloc, &[1, 2, 3, 4], &[0, 1, 2], &[1, 2, 2], valid)?;
-    let rebuilt = view.rebuild(alloc, ListViewRebuildMode::MakeZeroCopyToList);
-    made(checks, "rebuild with a null", &rebuilt, &[1, 3, 4], &[0, 1, 1], &[1, 0, 2]);
-    if let Ok(lists) = rebuilt {
+    let rebuilt = made(view.rebuild(alloc, ListViewRebuildMode::MakeZeroCopyToList))?;
+    check(checks, "rebuild with a null", &rebuilt, &[1, 3, 4], &[0, 1, 1], &[1, 0, 2]);
+    if let Some(lists) = rebuilt {
         checks.holds("rebuilt flag", lists.is_zero_copy_to_list());
-        let again = lists.rebuild(alloc, ListViewRebuildMode::MakeZeroCopyToList);
-        made(checks, "rebuild again", &again, &[1, 3, 4], &[0, 1, 1], &[1, 0, 2]);
+        let again = made(lists.rebuild(alloc, ListViewRebuildMode::MakeZeroCopyToList))?;
+        check(checks, "rebuild again", &again, &[1, 3, 4], &[0, 1, 1], &[1, 0, 2]);
     }
     Ok(())
 }
@@ -82,43 +93,43 @@ fn null_rows(alloc: Global, checks: &mut Checks<'_>) -> Result<(), DTypeError> {
 fn runs(alloc: Global, checks: &mut Checks<'_>) -> Result<(), DTypeError> {
     let elements = [1, 2, 3, 4, 5, 6];
     let view = lists(alloc, &elements, &[0, 2, 4, 1], &[2, 2, 2, 2], Validity::AllValid)?;
-    let rebuilt = view.rebuild(alloc, ListViewRebuildMode::MakeExact);
+    let rebuilt = made(view.rebuild(alloc, ListViewRebuildMode::MakeExact))?;
     let all = [1, 2, 3, 4, 5, 6, 2, 3];
-    made(checks, "rebuild in two runs", &rebuilt, &all, &[0, 2, 4, 6], &[2, 2, 2, 2]);
+    check(checks, "rebuild in two runs", &rebuilt, &all, &[0, 2, 4, 6], &[2, 2, 2, 2]);
     let valid = Validity::Array(bools(alloc, &[true, false, true, true])?);
     let view = lists(alloc, &elements, &[0, 2, 4, 1], &[2, 2, 2, 2], valid)?;
-    let rebuilt = view.rebuild(alloc, ListViewRebuildMode::MakeZeroCopyToList);
+    let rebuilt = made(view.rebuild(alloc, ListViewRebuildMode::MakeZeroCopyToList))?;
     let all = [1, 2, 5, 6, 2, 3];
-    made(checks, "rebuild around a null", &rebuilt, &all, &[0, 2, 2, 4], &[2, 0, 2, 2]);
+    check(checks, "rebuild around a null", &rebuilt, &all, &[0, 2, 2, 4], &[2, 0, 2, 2]);
     Ok(())
 }
 
 fn trimmed(alloc: Global, checks: &mut Checks<'_>) -> Result<(), DTypeError> {
     let view = lists(alloc, &[9, 1, 2, 3, 9], &[1, 2], &[2, 2], Validity::NonNullable)?;
-    let least = view.rebuild(alloc, ListViewRebuildMode::TrimElements);
-    made(checks, "trim to the lists", &least, &[1, 2, 3], &[0, 1], &[2, 2]);
-    let wider = view.trim_elements(alloc, 1, 5);
-    made(checks, "trim_elements", &wider, &[1, 2, 3, 9], &[0, 1], &[2, 2]);
+    let least = made(view.rebuild(alloc, ListViewRebuildMode::TrimElements))?;
+    check(checks, "trim to the lists", &least, &[1, 2, 3], &[0, 1], &[2, 2]);
+    let wider = made(view.trim_elements(alloc, 1, 5))?;
+    check(checks, "trim_elements", &wider, &[1, 2, 3, 9], &[0, 1], &[2, 2]);
     let none = lists(alloc, &[7, 8], &[], &[], Validity::NonNullable)?;
-    let least = none.rebuild(alloc, ListViewRebuildMode::TrimElements);
-    made(checks, "trim without rows", &least, &[], &[], &[]);
+    let least = made(none.rebuild(alloc, ListViewRebuildMode::TrimElements))?;
+    check(checks, "trim without rows", &least, &[], &[], &[]);
     Ok(())
 }
 
 fn modes(alloc: Global, checks: &mut Checks<'_>) -> Result<(), DTypeError> {
     let view = lists(alloc, &[5, 6, 7], &[1], &[1], Validity::NonNullable)?;
-    let refused = view.rebuild(alloc, ListViewRebuildMode::OverlapCompression);
-    match refused {
+    match view.rebuild(alloc, ListViewRebuildMode::OverlapCompression) {
         Ok(_lists) => checks.holds("OverlapCompression", false),
+        Err(ArrayError::Memory) => return Err(DTypeError::Memory),
         Err(error) => checks.holds("OverlapCompression", error == ArrayError::NotImplemented),
     }
     let flagged = view.with_zero_copy_to_list(alloc, true)?;
-    let exact = flagged.rebuild(alloc, ListViewRebuildMode::MakeExact);
-    made(checks, "MakeExact of a flagged view", &exact, &[6], &[0], &[1]);
-    let kept = flagged.rebuild(alloc, ListViewRebuildMode::MakeZeroCopyToList);
-    made(checks, "a flagged view stays", &kept, &[5, 6, 7], &[1], &[1]);
+    let exact = made(flagged.rebuild(alloc, ListViewRebuildMode::MakeExact))?;
+    check(checks, "MakeExact of a flagged view", &exact, &[6], &[0], &[1]);
+    let kept = made(flagged.rebuild(alloc, ListViewRebuildMode::MakeZeroCopyToList))?;
+    check(checks, "a flagged view stays", &kept, &[5, 6, 7], &[1], &[1]);
     let none = lists(alloc, &[7, 8], &[], &[], Validity::NonNullable)?;
-    let kept = none.rebuild(alloc, ListViewRebuildMode::OverlapCompression);
-    made(checks, "OverlapCompression without rows", &kept, &[7, 8], &[], &[]);
+    let kept = made(none.rebuild(alloc, ListViewRebuildMode::OverlapCompression))?;
+    check(checks, "OverlapCompression without rows", &kept, &[7, 8], &[], &[]);
     Ok(())
 }
