@@ -14,8 +14,8 @@ use vortex_arrays_buffer::primitive_buffer::PrimitiveBuffer;
 use vortex_arrays_core::array::{ArrayRef, Validity};
 use vortex_arrays_leaf::primitive_array::PrimitiveArray;
 
-/// The rows of the runs. Those of one run are a slice, which shares the array's buffers. `Memory` is
-/// the only refusal.
+/// The rows of the runs. Those of one run are a slice, which shares the array's buffers. `Memory`
+/// is the only refusal.
 #[tactic(auto, using(crate::proofs::CopyLemmas::sliced))]
 pub(crate) fn rows_in(alloc: Global, array: &ArrayRef, runs: &Runs) -> Result<ArrayRef, ArrayError>
     requires sound { IsSound array.now }

@@ -61,7 +61,7 @@ pub(crate) fn trim_between(
     }
 }
 
-// The same of a view's parts.
+// The view of these parts with the elements from `start` on and before `end` alone.
 #[tactic(auto, using(crate::proofs::TrimLemmas::between))]
 fn trim_slots(
     alloc: Global,
