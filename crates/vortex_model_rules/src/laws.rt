@@ -1,0 +1,1 @@
+//! Laws of callers' rules. Each function's clause is a law.
