@@ -1,1 +1,4 @@
+mod Believed
 mod Examples
+mod NoRules
+mod WithRules

@@ -1,0 +1,28 @@
+-- Laws of the proofs that are made with callers' rules.
+use Rattle.std.specs.Prelude.{◌≡◌, List, []}
+use Rattle.std.specs.List.{AllByRecursion}
+use Rattle.vortex_model.specs.LogicalType.{LogicalType}
+use Rattle.vortex_model.specs.Expression.{Expression, HasFormedLiterals}
+use Rattle.vortex_model.specs.Truth.{HasTruth}
+use Rattle.vortex_model.specs.Rewrite.{falsifier, satisfier}
+use Rattle.vortex_model.specs.Sound.{IsSoundFalsifier, IsSoundSatisfier}
+use Rattle.vortex_model_rules.specs.Rules.{proof, answer_of, Rule, asked, fals, sat}
+
+-- without rules the proofs are the built-in ones
+abbrev pub NoRulesAddNothing : Type 0
+NoRulesAddNothing = (k : LogicalType) (e : Expression) → (fals k [] e ≡ answer_of (falsifier k e)) × (sat k [] e ≡ answer_of (satisfier k e))
+
+-- The law of a rule: each proof that it answers at a node that is handed to it may be believed. The node has a truth, and its literals are of their types.
+pub record KeepsItsLaw (k : LogicalType) (rule : Rule) : Type 0 where
+  pub falsifies : (e p : Expression) → HasTruth k e → HasFormedLiterals e → asked rule.root rule.falsify k e ≡ proof p → IsSoundFalsifier k e p
+  pub satisfies : (e p : Expression) → HasTruth k e → HasFormedLiterals e → asked rule.root rule.satisfy k e ≡ proof p → IsSoundSatisfier k e p
+
+-- With rules that keep it, a proof that no row satisfies a predicate may be believed.
+abbrev pub FalsifiersWithRulesAreSound : Type 0
+FalsifiersWithRulesAreSound = (k : LogicalType) (rules : List Rule) (e p : Expression) → AllByRecursion (KeepsItsLaw k) rules → HasTruth k e → HasFormedLiterals e →
+    fals k rules e ≡ proof p → IsSoundFalsifier k e p
+
+-- and so may one that every row does
+abbrev pub SatisfiersWithRulesAreSound : Type 0
+SatisfiersWithRulesAreSound = (k : LogicalType) (rules : List Rule) (e p : Expression) → AllByRecursion (KeepsItsLaw k) rules → HasTruth k e → HasFormedLiterals e →
+    sat k rules e ≡ proof p → IsSoundSatisfier k e p
