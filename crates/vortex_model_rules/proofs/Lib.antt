@@ -1,4 +1,6 @@
 mod Believed
 mod Examples
 mod NoRules
+mod ReadsNone
+mod Scans
 mod WithRules

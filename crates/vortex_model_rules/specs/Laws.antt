@@ -1,11 +1,16 @@
 -- Laws of the proofs that are made with callers' rules.
-use Rattle.std.specs.Prelude.{◌≡◌, List, []}
+use Rattle.std.specs.Prelude.{◌≡◌, List, [], Some}
 use Rattle.std.specs.List.{AllByRecursion}
 use Rattle.vortex_model.specs.LogicalType.{LogicalType}
 use Rattle.vortex_model.specs.Expression.{Expression, HasFormedLiterals}
 use Rattle.vortex_model.specs.Truth.{HasTruth}
 use Rattle.vortex_model.specs.Rewrite.{falsifier, satisfier}
 use Rattle.vortex_model.specs.Sound.{IsSoundFalsifier, IsSoundSatisfier}
+use Rattle.vortex_model.specs.Path.{Names}
+use Rattle.vortex_model.specs.Table.{Table, IsTable}
+use Rattle.vortex_model.specs.Scan.{ScanAnswer, scanned}
+use Rattle.vortex_model.specs.Pruning.{IsAsked}
+use Rattle.vortex_model_rules.specs.Scanned.{scanned_with}
 use Rattle.vortex_model_rules.specs.Rules.{proof, answer_of, Rule, asked, fals, sat}
 
 -- without rules the proofs are the built-in ones
@@ -26,3 +31,12 @@ FalsifiersWithRulesAreSound = (k : LogicalType) (rules : List Rule) (e p : Expre
 abbrev pub SatisfiersWithRulesAreSound : Type 0
 SatisfiersWithRulesAreSound = (k : LogicalType) (rules : List Rule) (e p : Expression) → AllByRecursion (KeepsItsLaw k) rules → HasTruth k e → HasFormedLiterals e →
     sat k rules e ≡ proof p → IsSoundSatisfier k e p
+
+-- A scan with rules that keep their law answers the rows that one without rules does.
+abbrev pub ScansWithRulesLoseNone : Type 0
+ScansWithRulesLoseNone = (t : Table) (rules : List Rule) (paths : List Names) (e : Expression) (a : ScanAnswer) → AllByRecursion (KeepsItsLaw t.kind) rules → IsAsked t e → IsTable t →
+    scanned_with t rules paths e ≡ Some a → a.rows ≡ (scanned t paths e).rows
+
+-- and one with no rules is one without
+abbrev pub ScansWithNoRulesAreScans : Type 0
+ScansWithNoRulesAreScans = (t : Table) (paths : List Names) (e : Expression) → IsAsked t e → IsTable t → scanned_with t [] paths e ≡ Some (scanned t paths e)

@@ -3,7 +3,11 @@ ghost use Rattle.vortex_model_rules.specs.Laws.{
   NoRulesAddNothing,
   FalsifiersWithRulesAreSound,
   SatisfiersWithRulesAreSound,
+  ScansWithRulesLoseNone,
+  ScansWithNoRulesAreScans,
 };
+
+use vortex_model::laws::built_in_proofs_read_no_columns;
 
 /// Without rules the two proofs are the built-in ones.
 pub fn no_rules_add_nothing()
@@ -21,3 +25,18 @@ pub fn falsifiers_with_rules_are_sound()
 pub fn satisfiers_with_rules_are_sound()
     ensures { SatisfiersWithRulesAreSound }
 {}
+
+/// Where each rule keeps its law, a scan with rules answers the rows that one without rules does.
+pub fn scans_with_rules_lose_none()
+    ensures { ScansWithRulesLoseNone }
+{
+    built_in_proofs_read_no_columns();
+}
+
+/// A scan with no rules has the answer of one without: rows, chunks skipped and taken whole, and
+/// counts.
+pub fn scans_with_no_rules_are_scans()
+    ensures { ScansWithNoRulesAreScans }
+{
+    built_in_proofs_read_no_columns();
+}
