@@ -183,7 +183,7 @@ two_and_one = refl
 
 -- ---- two rules for NOT, in their order
 
-abbrev never : Rule
+abbrev pub never : Rule
 never = record { root = of_not; falsify = λ k e. proof (boolean_literal false); satisfy = λ k e. proof (boolean_literal false) }
 
 abbrev falsify_literal : Meaning
@@ -194,7 +194,7 @@ abbrev satisfy_literal : Meaning
 satisfy_literal k (negation (literal l (boolean c))) = proof (boolean_literal (not c))
 satisfy_literal k e = no_proof
 
-abbrev not_literal : Rule
+abbrev pub not_literal : Rule
 not_literal = record { root = of_not; falsify = falsify_literal; satisfy = satisfy_literal }
 
 not_true : fals K (never ∷ not_literal ∷ []) (negation (boolean_literal true)) ≡ proof (either (boolean_literal false) (boolean_literal true))
