@@ -1,5 +1,6 @@
 mod Believed
 mod Examples
+mod FaultsOfAnswers
 mod NoRules
 mod ReadsNone
 mod ScanExamples

@@ -1,14 +1,14 @@
 -- Worked scans with callers' rules. The rules keep their law, so its premise can be met.
 use Rattle.std.proofs.Common.{◌≡◌, refl, ℕ, pos, List, [], ◌∷◌, Some, None, Bool, true, false, if◌then◌else◌, subst}
 use Rattle.std.specs.Prelude.{codes}
-use Rattle.vortex_model.specs.LogicalType.{LogicalType, boolean_type, integer_type, struct, field, no_fields, non_nullable, nullable, i32}
-use Rattle.vortex_model.specs.Content.{Content, null, boolean, integer, tuple, nothing, first}
-use Rattle.vortex_model.specs.Expression.{Expression, literal, column, compare, negation, is_null, greater}
+use Rattle.vortex_model.specs.LogicalType.{LogicalType, integer_type, struct, field, no_fields, non_nullable, i32}
+use Rattle.vortex_model.specs.Content.{Content, integer, tuple, nothing, first}
+use Rattle.vortex_model.specs.Expression.{Expression, negation}
 use Rattle.vortex_model.specs.Rewrite.{boolean_literal}
 use Rattle.vortex_model.specs.Sound.{IsSoundFalsifier, IsSoundSatisfier}
 use Rattle.vortex_model.specs.Table.{Table}
 use Rattle.vortex_model.specs.Scan.{ScanAnswer, scanned}
-use Rattle.vortex_model_rules.specs.Rules.{Answer, no_proof, proof, fault, Root, eq_root, root_of, of_not, of_binary, of_is_null, Meaning, Rule}
+use Rattle.vortex_model_rules.specs.Rules.{no_proof, proof, fault, eq_root, root_of, of_not, Rule}
 use Rattle.vortex_model_rules.specs.Laws.{KeepsItsLaw}
 use Rattle.vortex_model_rules.specs.Scanned.{scanned_with}
 use Rattle.vortex_model_rules.proofs.Examples.{never, not_literal}

@@ -1,6 +1,6 @@
 -- Laws of the proofs that are made with callers' rules.
 use Rattle.std.specs.Prelude.{◌≡◌, List, [], Some}
-use Rattle.std.specs.List.{AllByRecursion}
+use Rattle.std.specs.List.{AllByRecursion, list_any}
 use Rattle.vortex_model.specs.LogicalType.{LogicalType}
 use Rattle.vortex_model.specs.Expression.{Expression, HasFormedLiterals}
 use Rattle.vortex_model.specs.Truth.{HasTruth}
@@ -11,7 +11,7 @@ use Rattle.vortex_model.specs.Table.{Table, IsTable}
 use Rattle.vortex_model.specs.Scan.{ScanAnswer, scanned}
 use Rattle.vortex_model.specs.Pruning.{IsAsked}
 use Rattle.vortex_model_rules.specs.Scanned.{scanned_with}
-use Rattle.vortex_model_rules.specs.Rules.{proof, answer_of, Rule, asked, fals, sat}
+use Rattle.vortex_model_rules.specs.Rules.{proof, is_fault, answer_of, Rule, asked, falsify_answers, satisfy_answers, fals, sat, handed_over}
 
 -- without rules the proofs are the built-in ones
 abbrev pub NoRulesAddNothing : Type 0
@@ -40,3 +40,9 @@ ScansWithRulesLoseNone = (t : Table) (rules : List Rule) (paths : List Names) (e
 -- and one with no rules is one without
 abbrev pub ScansWithNoRulesAreScans : Type 0
 ScansWithNoRulesAreScans = (t : Table) (paths : List Names) (e : Expression) → IsAsked t e → IsTable t → scanned_with t [] paths e ≡ Some (scanned t paths e)
+
+-- The proof that no row satisfies a predicate is a fault exactly where a rule's answer at a node that is handed over is one; the other exactly where one at the root is.
+abbrev pub FaultsAreThoseOfAnswers : Type 0
+FaultsAreThoseOfAnswers = (k : LogicalType) (rules : List Rule) (e : Expression) →
+    (is_fault (fals k rules e) ≡ list_any (λ node. list_any is_fault (falsify_answers k rules node)) (handed_over e))
+    × (is_fault (sat k rules e) ≡ list_any is_fault (satisfy_answers k rules e))

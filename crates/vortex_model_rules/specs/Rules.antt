@@ -134,3 +134,12 @@ fals k rules e = falsifier_alone k rules e
 -- a proof that every row does, for which the root alone is handed to the rules
 abbrev pub sat : LogicalType → List Rule → Expression → Answer
 sat k rules e = joined_answers (map proof (satisfiers k e) ++ satisfy_answers k rules e)
+
+-- The nodes that are handed to the rules for `fals`: the root, both sides of each AND and OR among them, and of each BETWEEN its AND with both comparisons.
+abbrev pub handed_over : Expression → List Expression
+handed_over (both x y) = both x y ∷ handed_over x ++ handed_over y
+handed_over (either x y) = either x y ∷ handed_over x ++ handed_over y
+handed_over (between x lo hi lower_strict upper_strict) =
+    between x lo hi lower_strict upper_strict
+    ∷ both (compare (end_of lower_strict) lo x) (compare (end_of upper_strict) x hi) ∷ compare (end_of lower_strict) lo x ∷ compare (end_of upper_strict) x hi ∷ []
+handed_over e = e ∷ []

@@ -1,6 +1,7 @@
 //! Laws of callers' rules. Each function's clause is a law.
 ghost use Rattle.vortex_model_rules.specs.Laws.{
   NoRulesAddNothing,
+  FaultsAreThoseOfAnswers,
   FalsifiersWithRulesAreSound,
   SatisfiersWithRulesAreSound,
   ScansWithRulesLoseNone,
@@ -12,6 +13,12 @@ use vortex_model::laws::built_in_proofs_read_no_columns;
 /// Without rules the two proofs are the built-in ones.
 pub fn no_rules_add_nothing()
     ensures { NoRulesAddNothing }
+{}
+
+/// A proof made with rules is a fault exactly where a rule's answer at a node that is handed over is
+/// one.
+pub fn faults_are_those_of_answers()
+    ensures { FaultsAreThoseOfAnswers }
 {}
 
 /// Where each rule keeps its law, a falsifier that is true of honest statistics of rows means that
