@@ -15,7 +15,8 @@ pub data Answer : Type 0 where
 
 -- The function at the root of an expression. One function is for comparisons, AND and OR.
 pub data Root : Type 0 where
-  of_literal of_column of_binary of_between of_not of_is_null of_is_not_null of_is_nan of_like of_row_count of_statistic : Root
+  of_literal of_column of_binary of_between of_not of_is_null of_is_not_null of_is_nan : Root
+  of_like of_row_count of_statistic : Root
 
 abbrev pub root_of : Expression → Root
 root_of (literal l c) = of_literal
@@ -50,7 +51,8 @@ eq_root r s = false
 abbrev pub Meaning : Type 0
 Meaning = LogicalType → Expression → Answer
 
--- A caller's rule: the root of the nodes that are handed to it, and what it answers at a node, where no row is to satisfy it or every row.
+-- A caller's rule: the root of the nodes that are handed to it, and what it answers at a node,
+-- where no row is to satisfy it or every row.
 pub record Rule : Type 0 where
   pub root : Root
   pub falsify : Meaning
@@ -91,7 +93,8 @@ answer_of (Some p) = proof p
 
 -- The proofs joined by OR, neighbours first. One fault makes the whole a fault.
 abbrev pub joined_answers : List Answer → Answer
-joined_answers answers = if list_any is_fault answers then fault else answer_of (joined_proofs (proofs_in answers))
+joined_answers answers = if list_any is_fault answers then fault
+    else answer_of (joined_proofs (proofs_in answers))
 
 -- of AND: one of the two is true, as far as they are there
 abbrev pub either_answer : Answer → Answer → Answer
@@ -119,27 +122,36 @@ abbrev pub falsifier_alone : LogicalType → List Rule → Expression → Answer
 falsifier_alone k rules e = falsifier_at k rules e (map proof (falsifiers k e))
 
 -- at an AND whose sides have these answers
-abbrev pub falsifier_of_and : LogicalType → List Rule → Expression → Expression → Answer → Answer → Answer
+abbrev pub falsifier_of_and : LogicalType → List Rule → Expression → Expression → Answer → Answer →
+    Answer
 falsifier_of_and k rules x y a b = falsifier_at k rules (both x y) (either_answer a b ∷ [])
 
--- A proof that no row satisfies the predicate. The sides of AND and OR are rewritten with the same rules. The built-in proof of BETWEEN is that of its AND, which is handed to the rules, as are its two comparisons.
+-- A proof that no row satisfies the predicate. The sides of AND and OR are rewritten with the same
+-- rules. The built-in proof of BETWEEN is that of its AND, which is handed to the rules, as are its
+-- two comparisons.
 abbrev pub fals : LogicalType → List Rule → Expression → Answer
 fals k rules (both x y) = falsifier_of_and k rules x y (fals k rules x) (fals k rules y)
-fals k rules (either x y) = falsifier_at k rules (either x y) (both_answers (fals k rules x) (fals k rules y) ∷ [])
-fals k rules (between x lo hi lower_strict upper_strict) = falsifier_at k rules (between x lo hi lower_strict upper_strict)
-    (falsifier_of_and k rules (compare (end_of lower_strict) lo x) (compare (end_of upper_strict) x hi)
-    (falsifier_alone k rules (compare (end_of lower_strict) lo x)) (falsifier_alone k rules (compare (end_of upper_strict) x hi)) ∷ [])
+fals k rules (either x y) =
+    falsifier_at k rules (either x y) (both_answers (fals k rules x) (fals k rules y) ∷ [])
+fals k rules (between x lo hi lower_strict upper_strict) =
+    falsifier_at k rules (between x lo hi lower_strict upper_strict)
+    (falsifier_of_and k rules
+    (compare (end_of lower_strict) lo x) (compare (end_of upper_strict) x hi)
+    (falsifier_alone k rules (compare (end_of lower_strict) lo x))
+    (falsifier_alone k rules (compare (end_of upper_strict) x hi)) ∷ [])
 fals k rules e = falsifier_alone k rules e
 
 -- a proof that every row does, for which the root alone is handed to the rules
 abbrev pub sat : LogicalType → List Rule → Expression → Answer
 sat k rules e = joined_answers (map proof (satisfiers k e) ++ satisfy_answers k rules e)
 
--- The nodes that are handed to the rules for `fals`: the root, both sides of each AND and OR among them, and of each BETWEEN its AND with both comparisons.
+-- The nodes that are handed to the rules for `fals`: the root, both sides of each AND and OR among
+-- them, and of each BETWEEN its AND with both comparisons.
 abbrev pub handed_over : Expression → List Expression
 handed_over (both x y) = both x y ∷ handed_over x ++ handed_over y
 handed_over (either x y) = either x y ∷ handed_over x ++ handed_over y
 handed_over (between x lo hi lower_strict upper_strict) =
     between x lo hi lower_strict upper_strict
-    ∷ both (compare (end_of lower_strict) lo x) (compare (end_of upper_strict) x hi) ∷ compare (end_of lower_strict) lo x ∷ compare (end_of upper_strict) x hi ∷ []
+    ∷ both (compare (end_of lower_strict) lo x) (compare (end_of upper_strict) x hi)
+    ∷ compare (end_of lower_strict) lo x ∷ compare (end_of upper_strict) x hi ∷ []
 handed_over e = e ∷ []

@@ -15,8 +15,8 @@ pub fn no_rules_add_nothing()
     ensures { NoRulesAddNothing }
 {}
 
-/// A proof made with rules is a fault exactly where a rule's answer at a node that is handed over is
-/// one.
+/// A proof made with rules is a fault exactly where a rule's answer at a node that is handed over
+/// is one.
 pub fn faults_are_those_of_answers()
     ensures { FaultsAreThoseOfAnswers }
 {}
