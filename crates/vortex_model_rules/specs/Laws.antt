@@ -1,0 +1,58 @@
+-- Laws of the proofs that are made with callers' rules.
+use Rattle.std.specs.Prelude.{◌≡◌, List, [], Some}
+use Rattle.std.specs.List.{AllByRecursion, list_any}
+use Rattle.vortex_model.specs.LogicalType.{LogicalType}
+use Rattle.vortex_model.specs.Expression.{Expression, HasFormedLiterals}
+use Rattle.vortex_model.specs.Truth.{HasTruth}
+use Rattle.vortex_model.specs.Rewrite.{falsifier, satisfier}
+use Rattle.vortex_model.specs.Sound.{IsSoundFalsifier, IsSoundSatisfier}
+use Rattle.vortex_model.specs.Path.{Names}
+use Rattle.vortex_model.specs.Table.{Table, IsTable}
+use Rattle.vortex_model.specs.Scan.{ScanAnswer, scanned}
+use Rattle.vortex_model.specs.Pruning.{IsAsked}
+use Rattle.vortex_model_rules.specs.Scanned.{scanned_with}
+use Rattle.vortex_model_rules.specs.Rules.{proof, is_fault, answer_of, Rule, asked, falsify_answers, satisfy_answers, fals, sat, handed_over}
+
+-- without rules the proofs are the built-in ones
+abbrev pub NoRulesAddNothing : Type 0
+NoRulesAddNothing = (k : LogicalType) (e : Expression) →
+    (fals k [] e ≡ answer_of (falsifier k e)) × (sat k [] e ≡ answer_of (satisfier k e))
+
+-- The law of a rule: each proof that it answers at a node that is handed to it may be believed. The
+-- node has a truth, and its literals are of their types.
+pub record KeepsItsLaw (k : LogicalType) (rule : Rule) : Type 0 where
+  pub falsifies : (e p : Expression) → HasTruth k e → HasFormedLiterals e →
+      asked rule.root rule.falsify k e ≡ proof p → IsSoundFalsifier k e p
+  pub satisfies : (e p : Expression) → HasTruth k e → HasFormedLiterals e →
+      asked rule.root rule.satisfy k e ≡ proof p → IsSoundSatisfier k e p
+
+-- With rules that keep it, a proof that no row satisfies a predicate may be believed.
+abbrev pub FalsifiersWithRulesAreSound : Type 0
+FalsifiersWithRulesAreSound = (k : LogicalType) (rules : List Rule) (e p : Expression) →
+    AllByRecursion (KeepsItsLaw k) rules → HasTruth k e → HasFormedLiterals e →
+    fals k rules e ≡ proof p → IsSoundFalsifier k e p
+
+-- and so may one that every row does
+abbrev pub SatisfiersWithRulesAreSound : Type 0
+SatisfiersWithRulesAreSound = (k : LogicalType) (rules : List Rule) (e p : Expression) →
+    AllByRecursion (KeepsItsLaw k) rules → HasTruth k e → HasFormedLiterals e →
+    sat k rules e ≡ proof p → IsSoundSatisfier k e p
+
+-- A scan with rules that keep their law answers the rows that one without rules does.
+abbrev pub ScansWithRulesLoseNone : Type 0
+ScansWithRulesLoseNone = (t : Table) (rules : List Rule) (paths : List Names) (e : Expression)
+    (a : ScanAnswer) → AllByRecursion (KeepsItsLaw t.kind) rules → IsAsked t e → IsTable t →
+    scanned_with t rules paths e ≡ Some a → a.rows ≡ (scanned t paths e).rows
+
+-- and one with no rules is one without
+abbrev pub ScansWithNoRulesAreScans : Type 0
+ScansWithNoRulesAreScans = (t : Table) (paths : List Names) (e : Expression) → IsAsked t e →
+    IsTable t → scanned_with t [] paths e ≡ Some (scanned t paths e)
+
+-- The proof that no row satisfies a predicate is a fault exactly where a rule's answer at a node
+-- that is handed over is one; the other exactly where one at the root is.
+abbrev pub FaultsAreThoseOfAnswers : Type 0
+FaultsAreThoseOfAnswers = (k : LogicalType) (rules : List Rule) (e : Expression) →
+    (is_fault (fals k rules e) ≡
+    list_any (λ node. list_any is_fault (falsify_answers k rules node)) (handed_over e))
+    × (is_fault (sat k rules e) ≡ list_any is_fault (satisfy_answers k rules e))
