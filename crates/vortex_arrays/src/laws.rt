@@ -1,9 +1,9 @@
 //! Laws of arrays. Those over definitions are functions without arguments, whose clauses are the
 //! laws. The two of slices make the calls that the law speaks of, and answer what they gave.
 pub use vortex_arrays_model::laws::{
-    columns_step_down, dictionaries_take, equal_rows_rebuild_equally, named_values_are_the_rows,
-    rebuilding_keeps_rows, rebuilding_twice_is_once, rebuilt_lists_follow, rows_are_contents,
-    slices_have_their_rows, slices_of_slices_are_slices, trimming_keeps_rows,
+    columns_step_down, dictionaries_take, equal_rows_rebuild_equally, rebuilding_keeps_rows,
+    rebuilding_twice_is_once, rebuilt_lists_follow, referenced_values_are_the_rows,
+    rows_are_contents, slices_have_their_rows, slices_of_slices_are_slices, trimming_keeps_rows,
 };
 pub use vortex_arrays_struct::slices::{slice_of_all, slice_of_slice};
 pub use vortex_arrays_view::laws::{

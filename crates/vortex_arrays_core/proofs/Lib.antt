@@ -1,5 +1,5 @@
 pub mod Gathered
-pub mod Makers
+pub mod Constructors
 pub mod Picked
 pub mod RawRowsLemmas
 pub mod Reading

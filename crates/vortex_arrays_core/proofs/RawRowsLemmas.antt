@@ -7,7 +7,7 @@ use Rattle.vortex_model.specs.Content.{Content, null, integer, tuple, first, con
 use Rattle.vortex_model.specs.Valid.{IsValid, IsContent, AllHave, FieldsHave}
 use Rattle.vortex_arrays_view.specs.Views.{value_of}
 use Rattle.vortex_scalar_value.specs.View.{raws_from}
-use Rattle.vortex_arrays_model.specs.Layout.{Strings, texts, blobs, Layout, bools, numbers, strings, constant, dictionary, fixed_lists, list_views, records, Columns, no_columns, column, size_of, columns_size, len_of, array_type_of, kind_of_strings, fields_of, nullability_by, content_at, is_valid, row_at, pick, span, string_content, number_in, IsCode, IsString, IsSound, HaveLength}
+use Rattle.vortex_arrays_model.specs.Layout.{Strings, texts, byte_strings, Layout, bools, numbers, strings, constant, dictionary, fixed_lists, list_views, records, Columns, no_columns, column, size_of, columns_size, len_of, array_type_of, type_of_strings, fields_of, nullability_by, content_at, is_valid, row_at, pick, span, string_content, number_in, IsCode, IsString, IsSound, HaveLength}
 use Rattle.vortex_arrays_model.specs.Parts.{columns_of}
 use Rattle.vortex_arrays_model.proofs.PicksLemmas.{each_length, field_size}
 use Rattle.vortex_arrays_model.proofs.ValidRows.{rows_valid, view_within}
@@ -21,7 +21,7 @@ says_if false r = refl
 
 says_string : (s : Strings) (bs : List ℕ) → content_of (raw_string s bs) ≡ string_content s bs
 says_string texts bs = refl
-says_string blobs bs = refl
+says_string byte_strings bs = refl
 
 says_pick : (c : Content) (f : ℕ → Raw) (g : ℕ → Content) → ((j : ℕ) → content_of (f j) ≡ g j) → content_of (raw_pick c f) ≡ pick c g
 says_pick null f g h = refl
@@ -54,9 +54,9 @@ valid_if : (k : LogicalType) (b : Bool) (r : Raw) → IsContent k (content_of (c
 valid_if k true r c h = h refl
 valid_if k false r c h = c
 
-string_valid : (s : Strings) (n : Nullability) (bs : List ℕ) → IsString s bs → IsValid (kind_of_strings s n) (raw_string s bs)
+string_valid : (s : Strings) (n : Nullability) (bs : List ℕ) → IsString s bs → IsValid (type_of_strings s n) (raw_string s bs)
 string_valid texts n bs h = h
-string_valid blobs n bs h = h
+string_valid byte_strings n bs h = h
 
 -- a value of a type is one of the type that is nullable as well
 widen : (n : Nullability) (k : LogicalType) (r : Raw) → IsValid k r → IsContent (with_nullability n k) (content_of r) → IsValid (with_nullability n k) r
@@ -94,7 +94,7 @@ mutual
   pub raw_valid : (a : Layout) → IsSound a → (i : ℕ) → i < len_of a → IsValid (array_type_of a) (raw_row a i)
   raw_valid (bools bs v) s i l = valid_if (boolean_type (nullability_by v)) (is_valid v i) (raw_boolean (get_or bs i false)) (held (bools bs v) s i l) (λ t. tt)
   raw_valid (numbers k zs v) s i l = valid_if (integer_type k (nullability_by v)) (is_valid v i) (raw_number k (get_or zs i (pos 0))) (held (numbers k zs v) s i l) (λ t. (refl, s.0 i (pos 0) l))
-  raw_valid (strings k vs bs v) s i l = valid_if (kind_of_strings k (nullability_by v)) (is_valid v i) (raw_string k (value_of (get_or vs i []) bs)) (held (strings k vs bs v) s i l) (λ t. let h = s.0 i l t in string_valid k (nullability_by v) (value_of (get_or vs i []) bs) h.1)
+  raw_valid (strings k vs bs v) s i l = valid_if (type_of_strings k (nullability_by v)) (is_valid v i) (raw_string k (value_of (get_or vs i []) bs)) (held (strings k vs bs v) s i l) (λ t. let h = s.0 i l t in string_valid k (nullability_by v) (value_of (get_or vs i []) bs) h.1)
   raw_valid (constant k r n) s i l = s
   raw_valid (dictionary d v f) s i l = by_code (either_nullable (nullability_of (array_type_of d)) (nullability_of (array_type_of v))) (array_type_of v) (len_of v) (λ j. raw_row v j) (content_at d i) (s.3 i l) (λ j b. raw_valid v s.1 j b) (held (dictionary d v f) s i l)
   raw_valid (fixed_lists e m n v) s i l = valid_if (fixed_list (array_type_of e) m (nullability_by v)) (is_valid v i) (raw_tuple (raw_span (λ j. raw_row e j) (i * m) m)) (held (fixed_lists e m n v) s i l)

@@ -6,7 +6,7 @@ use Rattle.vortex_model.specs.Valid.{IsValid}
 use Rattle.vortex_dtype_core.specs.Parts.{is_integer_type, is_boolean_type}
 use Rattle.vortex_scalar_value.specs.Parts.{boolean_in, as_number, whole_number_in}
 use Rattle.vortex_scalar_value.proofs.Views.{whole_number_in-number}
-use Rattle.vortex_arrays_model.specs.Layout.{Strings, texts, blobs, kind_of_strings, IsInteger, IsOffsets, string_content, is_truth}
+use Rattle.vortex_arrays_model.specs.Layout.{Strings, texts, byte_strings, type_of_strings, IsInteger, IsOffsets, string_content, is_truth}
 use Rattle.vortex_arrays_core.specs.LayoutOf.{integer_content}
 
 pub integer_kind : (k : LogicalType) → IsTrue (is_integer_type k) ↔ IsInteger k
@@ -17,9 +17,9 @@ pub values_are_integers : (n : Nullability) (k : LogicalType) → IsInteger (wit
 values_are_integers n (integer_type i m) h = tt
 values_are_integers n k h = absurd h
 
-pub strings_are_no_integers : (s : Strings) (n : Nullability) → IsInteger (kind_of_strings s n) → ⊥
+pub strings_are_no_integers : (s : Strings) (n : Nullability) → IsInteger (type_of_strings s n) → ⊥
 strings_are_no_integers texts n h = h
-strings_are_no_integers blobs n h = h
+strings_are_no_integers byte_strings n h = h
 
 pub constant_integer : (k : LogicalType) (r : Raw) → IsInteger k → IsValid k r → content_of r ≡ integer_content (whole_number_in r)
 constant_integer (integer_type i n) raw_null h v = refl
@@ -46,12 +46,12 @@ pub ruleset integers = (integer_kind, values_are_integers, strings_are_no_intege
 
 pub no_truth : (b : Bool) (s : Strings) (bs : List ℕ) → is_truth (cond b (string_content s bs) null) ≡ false
 no_truth true texts bs = refl
-no_truth true blobs bs = refl
+no_truth true byte_strings bs = refl
 no_truth false s bs = refl
 
 pub string_there : (b : Bool) (s : Strings) (bs : List ℕ) → is_null (cond b (string_content s bs) null) ≡ not b
 string_there true texts bs = refl
-string_there true blobs bs = refl
+string_there true byte_strings bs = refl
 string_there false s bs = refl
 
 pub offsets_are_integers : (k : LogicalType) → IsOffsets k → IsInteger k

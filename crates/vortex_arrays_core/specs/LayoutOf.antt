@@ -1,7 +1,7 @@
 -- The layout of an array, whose children are seen as theirs.
 use Rattle.std.specs.Prelude.{◌≡◌, ℤ, length, Option, Some, None}
 use Rattle.vortex_model.specs.Content.{Content, null, integer}
-use Rattle.vortex_arrays_model.specs.Layout.{Layout, Strings, texts, blobs, bools, numbers, strings, constant, dictionary, fixed_lists, list_views, records, Valid, required, all_valid, all_null, by_array}
+use Rattle.vortex_arrays_model.specs.Layout.{Layout, Strings, texts, byte_strings, bools, numbers, strings, constant, dictionary, fixed_lists, list_views, records, Valid, required, all_valid, all_null, by_array}
 use Rattle.vortex_arrays_model.specs.Parts.{columns_of}
 use Rattle.vortex_arrays_buffer.specs.PrimitiveBuffers.{kind_of_numbers, integers_of}
 use Rattle.vortex_scalar_core.specs.Scalar.{scalar_type, scalar_raw}
@@ -20,7 +20,7 @@ valid_of (Array a) = by_array a
 
 abbrev pub strings_of : StringKind → Strings
 strings_of Utf8 = texts
-strings_of Binary = blobs
+strings_of Binary = byte_strings
 
 abbrev pub layout_of : ArrayLayout → Layout
 layout_of (Bool bits v) = bools bits (valid_of v)

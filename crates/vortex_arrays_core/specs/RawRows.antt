@@ -2,7 +2,7 @@
 use Rattle.std.specs.Prelude.{◌≤◌, ◌+◌, ◌*◌, ℕ, zero, suc, pos, false, List, [], cond, slice_index_or}
 use Rattle.vortex_model.specs.Content.{Content, null, Raw, raw_null, raw_boolean, raw_number, raw_text, raw_byte_string, raw_tuple, Raws, no_raws, raw_first}
 use Rattle.vortex_arrays_view.specs.Views.{value_of}
-use Rattle.vortex_arrays_model.specs.Layout.{Strings, texts, blobs, Layout, bools, numbers, strings, constant, dictionary, fixed_lists, list_views, records, Columns, no_columns, column, len_of, content_at, is_valid, number_in}
+use Rattle.vortex_arrays_model.specs.Layout.{Strings, texts, byte_strings, Layout, bools, numbers, strings, constant, dictionary, fixed_lists, list_views, records, Columns, no_columns, column, len_of, content_at, is_valid, number_in}
 use Rattle.vortex_arrays_buffer.specs.declared.error.ArrayError.{ArrayError}
 use Rattle.vortex_arrays_buffer.specs.declared.error.ArrayError.TheVariants as error
 
@@ -18,7 +18,7 @@ raw_span f i (suc n) = raw_first (f i) (raw_span f (i + 1) n)
 
 abbrev pub raw_string : Strings → List ℕ → Raw
 raw_string texts bs = raw_text bs
-raw_string blobs bs = raw_byte_string bs
+raw_string byte_strings bs = raw_byte_string bs
 
 abbrev mutual
   pub raw_row : Layout → ℕ → Raw

@@ -88,13 +88,13 @@ impl Validity {
             Validity::NonNullable => Ok(Validity::NonNullable),
             Validity::AllValid => Ok(Validity::AllValid),
             Validity::AllInvalid => Ok(Validity::AllInvalid),
-            Validity::Array(bits) => Ok(Validity::Array(gather_truths(alloc, bits, positions)?)),
+            Validity::Array(bits) => Ok(Validity::Array(gather_booleans(alloc, bits, positions)?)),
         }
     }
 }
 
 /// Whether true stands at each of the positions.
-fn gather_truths(
+fn gather_booleans(
     alloc: Global,
     array: &ArrayRef,
     positions: &[usize],

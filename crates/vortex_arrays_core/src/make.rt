@@ -3,7 +3,7 @@ ghost use Rattle.std.specs.Prelude.{◌≡◌, IfOk, length, map};
 ghost use Rattle.vortex_model.specs.LogicalType.{struct, with_nullability, either_nullable, nullability_of};
 ghost use Rattle.vortex_dtype_ptype.specs.View.{nullability_of_flag};
 ghost use Rattle.vortex_dtype_core.specs.View.{type_of};
-ghost use Rattle.vortex_arrays_model.specs.Layout.{IsSound, array_type_of, kind_of_strings, fields_of};
+ghost use Rattle.vortex_arrays_model.specs.Layout.{IsSound, array_type_of, type_of_strings, fields_of};
 ghost use Rattle.vortex_arrays_model.specs.Layout.{bools, numbers, strings, constant, dictionary, fixed_lists, list_views, records};
 ghost use Rattle.vortex_arrays_model.specs.Parts.{columns_of};
 ghost use Rattle.vortex_arrays_buffer.specs.PrimitiveBuffers.{kind_of_numbers, integers_of};
@@ -73,7 +73,7 @@ impl ArrayRef {
     }
 
     /// One value, so many times, as Vortex's `ConstantArray::new`.
-    #[tactic(auto, using(crate::proofs::Makers::valid_so))]
+    #[tactic(auto, using(crate::proofs::Constructors::valid_so))]
     pub fn of_constant(alloc: Global, scalar: Scalar, len: usize) -> Result<ArrayRef, AllocError>
         ensures { IfOk result
             (λ array. array ≡ constant (scalar_type scalar) (scalar_raw scalar) len) }
@@ -161,7 +161,7 @@ impl ArrayRef {
 
 /// The type of texts or of bytes.
 fn string_dtype(kind: StringKind, nullability: Nullability) -> DType
-    ensures { type_of result ≡ kind_of_strings (strings_of kind) (nullability_of_flag nullability) }
+    ensures { type_of result ≡ type_of_strings (strings_of kind) (nullability_of_flag nullability) }
 {
     match kind {
         StringKind::Utf8 => DType::Utf8(nullability),
@@ -170,7 +170,7 @@ fn string_dtype(kind: StringKind, nullability: Nullability) -> DType
 }
 
 /// The type of the values that codes name, null where a code or a value can be.
-#[tactic(auto, using(crate::proofs::Makers::second_can_be))]
+#[tactic(auto, using(crate::proofs::Constructors::second_can_be))]
 fn dictionary_dtype(codes: &DType, values: &DType) -> Result<DType, AllocError>
     ensures { IfOk result (λ dtype. type_of dtype ≡ with_nullability
         (either_nullable (nullability_of (type_of codes.now)) (nullability_of (type_of values.now)))
@@ -182,7 +182,7 @@ fn dictionary_dtype(codes: &DType, values: &DType) -> Result<DType, AllocError>
 }
 
 /// The type of records of these fields.
-#[tactic(auto, using(crate::proofs::Makers::of_records))]
+#[tactic(auto, using(crate::proofs::Constructors::of_records))]
 fn struct_dtype(
     alloc: Global,
     names: &FieldNames,

@@ -7,7 +7,7 @@ use Rattle.vortex_dtype_ptype.specs.declared.nullability.Nullability.{Nullabilit
 use Rattle.vortex_dtype_ptype.specs.declared.nullability.Nullability.TheVariants as flag
 use Rattle.vortex_arrays_buffer.specs.declared.error.ArrayError.{ArrayError}
 use Rattle.vortex_arrays_buffer.specs.declared.error.ArrayError.TheVariants as error
-use Rattle.vortex_arrays_model.specs.Layout.{Strings, texts, blobs, strings, kind_of_strings, Valid, nullability_by, IsSound, HasLength}
+use Rattle.vortex_arrays_model.specs.Layout.{Strings, texts, byte_strings, strings, type_of_strings, Valid, nullability_by, IsSound, HasLength}
 use Rattle.vortex_arrays_core.specs.Faults.{IsValidityFault}
 use Rattle.vortex_arrays_leaf.specs.Strings.{IsStringType, strings_in, HaveValues, HoldStrings}
 use Rattle.vortex_arrays_leaf.specs.ViewFaults.{IsViewsFault, IsTextsFault, IsStringsFault}
@@ -16,12 +16,12 @@ pub texts_in : (k : LogicalType) → is_utf8_type k ≡ true → strings_in k �
 texts_in (utf8 n) e = refl
 texts_in k e = absurd (cc (e))
 
-pub blobs_in : (k : LogicalType) → is_utf8_type k ≡ false → strings_in k ≡ blobs
-blobs_in (utf8 n) e = absurd (cc (e))
-blobs_in k e = refl
+pub byte_strings_in : (k : LogicalType) → is_utf8_type k ≡ false → strings_in k ≡ byte_strings
+byte_strings_in (utf8 n) e = absurd (cc (e))
+byte_strings_in k e = refl
 
 -- the type that the values and the validity give
-pub type_given : (k : LogicalType) (v : Valid) → IsStringType k v → kind_of_strings (strings_in k) (nullability_by v) ≡ k
+pub type_given : (k : LogicalType) (v : Valid) → IsStringType k v → type_of_strings (strings_in k) (nullability_by v) ≡ k
 type_given (utf8 n) v e = ap utf8 (sym e)
 type_given (binary n) v e = ap binary (sym e)
 type_given k v e = absurd e
@@ -47,7 +47,7 @@ string_kinds (utf8 x) v h = refl
 string_kinds (binary x) v h = refl
 string_kinds k v h = absurd h
 
-pub ruleset types = (texts_in, blobs_in, type_given)
+pub ruleset types = (texts_in, byte_strings_in, type_given)
 
 -- what is refused, one test after another
 pub validity_fault : (e : ArrayError) (k : LogicalType) (views buffers : List (List ℕ)) (v : Valid) → IsStringType k v → IsValidityFault e v (length views) → IsStringsFault e k views buffers v

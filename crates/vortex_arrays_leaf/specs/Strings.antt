@@ -2,7 +2,7 @@
 use Rattle.std.specs.Prelude.{◌≡◌, ◌<◌, ℕ, List, [], length, slice_index_or, IsTrue}
 use Rattle.vortex_model.specs.LogicalType.{LogicalType, utf8, binary}
 use Rattle.vortex_arrays_view.specs.Views.{value_of, HasValue}
-use Rattle.vortex_arrays_model.specs.Layout.{Layout, strings, Strings, texts, blobs, Valid, nullability_by, is_valid, IsString}
+use Rattle.vortex_arrays_model.specs.Layout.{Layout, strings, Strings, texts, byte_strings, Valid, nullability_by, is_valid, IsString}
 
 abbrev pub IsStrings : Layout → Type 0
 IsStrings (strings s views buffers v) = Unit {0}
@@ -17,7 +17,7 @@ IsStringType k v = ⊥
 -- which of them the values of the type are
 abbrev pub strings_in : LogicalType → Strings
 strings_in (utf8 n) = texts
-strings_in k = blobs
+strings_in k = byte_strings
 
 -- the parts of an array
 abbrev pub views_in : Layout → List (List ℕ)

@@ -5,7 +5,7 @@ use Rattle.std.proofs.lemmas.Int.{ints}
 use Rattle.vortex_model.specs.LogicalType.{integer_type, utf8, list, non_nullable, nullable, u8, u64, i32, i64}
 use Rattle.vortex_model.specs.Content.{Content, null, integer, text, byte_string, tuple, nothing, first, contents_from, raw_null}
 use Rattle.vortex_model.specs.Valid.{InRange}
-use Rattle.vortex_arrays_model.specs.Layout.{texts, blobs, Layout, bools, numbers, strings, constant, dictionary, fixed_lists, list_views, records, Valid, required, all_null, by_array, no_columns, column, array_type_of, content_at, rows_of, IsView, AreEndToEnd, IsSound}
+use Rattle.vortex_arrays_model.specs.Layout.{texts, byte_strings, Layout, bools, numbers, strings, constant, dictionary, fixed_lists, list_views, records, Valid, required, all_null, by_array, no_columns, column, array_type_of, content_at, rows_of, IsView, AreEndToEnd, IsSound}
 use Rattle.vortex_arrays_model.specs.Canonical.{items_of, start_of, IsCanonical, counts}
 use Rattle.vortex_arrays_model.proofs.PicksLemmas.{no_flag}
 use Rattle.vortex_arrays_model.specs.Column.{IsColumn}
@@ -154,7 +154,7 @@ letters = 97 ∷ 98 ∷ 99 ∷ 100 ∷ 101 ∷ 102 ∷ 103 ∷ 104 ∷ 105 ∷ 1
 viewed_rows : rows_of (strings texts (short_view ∷ long_view ∷ short_view ∷ []) ((1 ∷ 2 ∷ 3 ∷ 4 ∷ 5 ∷ 97 ∷ 98 ∷ 99 ∷ 100 ∷ 101 ∷ 102 ∷ 103 ∷ 104 ∷ 105 ∷ 106 ∷ 107 ∷ 108 ∷ 109 ∷ []) ∷ []) (where_true (true ∷ true ∷ false ∷ []))) ≡ text (97 ∷ 98 ∷ []) ∷ text letters ∷ null ∷ []
 viewed_rows = refl
 
-viewed_bytes : rows_of (strings blobs (short_view ∷ []) [] required) ≡ byte_string (97 ∷ 98 ∷ []) ∷ []
+viewed_bytes : rows_of (strings byte_strings (short_view ∷ []) [] required) ≡ byte_string (97 ∷ 98 ∷ []) ∷ []
 viewed_bytes = refl
 
 -- Fixed lists: of no element, and of two.

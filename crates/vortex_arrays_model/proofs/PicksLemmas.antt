@@ -7,7 +7,7 @@ use Rattle.vortex_model.specs.LogicalType.{LogicalType, boolean_type, integer_ty
 use Rattle.vortex_model.specs.Content.{Content, null, boolean, integer, tuple, first, Raw}
 use Rattle.vortex_model.specs.Valid.{InRange, IsValid}
 use Rattle.vortex_arrays_view.specs.Views.{value_of, HasValue}
-use Rattle.vortex_arrays_model.specs.Layout.{Strings, Layout, bools, numbers, strings, constant, dictionary, fixed_lists, list_views, records, Valid, required, all_valid, all_null, by_array, Columns, column, size_of, columns_size, len_of, array_type_of, kind_of_strings, number_in, is_truth, pick, span, string_content, content_at, is_valid, row_at, IsInteger, IsOffsets, IsCode, IsView, IsString, AllNamed, AreEndToEnd, IsSound, HasLength, HaveLength}
+use Rattle.vortex_arrays_model.specs.Layout.{Strings, Layout, bools, numbers, strings, constant, dictionary, fixed_lists, list_views, records, Valid, required, all_valid, all_null, by_array, Columns, column, size_of, columns_size, len_of, array_type_of, type_of_strings, number_in, is_truth, pick, span, string_content, content_at, is_valid, row_at, IsInteger, IsOffsets, IsCode, IsView, IsString, AllReferenced, AreEndToEnd, IsSound, HasLength, HaveLength}
 use Rattle.vortex_arrays_model.specs.Picks.{Picks, PicksValid, PicksColumns}
 use Rattle.vortex_arrays_model.specs.Parts.{columns_of}
 
@@ -40,7 +40,7 @@ picks_strings s xs ys bs v w n f h len within same p = record {
     subst (HasLength w) (sym len) p.fits,
   );
   len = len;
-  kind = ap (kind_of_strings s) p.nullability;
+  kind = ap (type_of_strings s) p.nullability;
   content = λ i l. ap (λ b. cond b (string_content s (value_of (get_or ys i []) bs)) null) (p.bits i l) ∙ ap (λ x. cond (is_valid v (f i)) (string_content s (value_of x bs)) null) (same i l);
 }
 
@@ -48,9 +48,9 @@ pub picks_constant : (k : LogicalType) (r : Raw) (m n : ℕ) (f : ℕ → ℕ) �
 picks_constant k r m n f h = record { sound = h; len = refl; kind = refl; content = λ i l. refl }
 
 -- a flag stays where it is true of what was picked
-pub picks_dictionary_flagged : (c r v : Layout) (g k : Bool) (n : ℕ) (f : ℕ → ℕ) → IsSound (dictionary c v g) → ((i : ℕ) → i < n → f i < len_of c) → Picks c r n f → (IsTrue k → AllNamed r v) → Picks (dictionary c v g) (dictionary r v k) n f
-picks_dictionary_flagged c r v g k n f s within p named = record {
-  sound = (p.sound, s.1, subst IsInteger (sym p.kind) s.2, (λ i h. let l : i < n = subst (λ m. i < m) p.len h in subst (IsCode (len_of v)) (sym (p.content i l)) (s.3 (f i) (within i l))), named);
+pub picks_dictionary_flagged : (c r v : Layout) (g k : Bool) (n : ℕ) (f : ℕ → ℕ) → IsSound (dictionary c v g) → ((i : ℕ) → i < n → f i < len_of c) → Picks c r n f → (IsTrue k → AllReferenced r v) → Picks (dictionary c v g) (dictionary r v k) n f
+picks_dictionary_flagged c r v g k n f s within p referenced = record {
+  sound = (p.sound, s.1, subst IsInteger (sym p.kind) s.2, (λ i h. let l : i < n = subst (λ m. i < m) p.len h in subst (IsCode (len_of v)) (sym (p.content i l)) (s.3 (f i) (within i l))), referenced);
   len = p.len;
   kind = ap (λ t. with_nullability (either_nullable (nullability_of t) (nullability_of (array_type_of v))) (array_type_of v)) p.kind;
   content = λ i h. ap (λ x. pick x (λ j. content_at v j)) (p.content i h);

@@ -7,7 +7,7 @@ use Rattle.vortex_model.specs.LogicalType.{Nullability, non_nullable, nullable, 
 use Rattle.vortex_model.specs.Content.{Content, null, boolean, integer, tuple}
 use Rattle.vortex_model.specs.Valid.{InRange}
 use Rattle.vortex_arrays_view.specs.Views.{value_of}
-use Rattle.vortex_arrays_model.specs.Layout.{Strings, texts, blobs, Layout, bools, numbers, strings, dictionary, fixed_lists, list_views, records, Valid, required, all_valid, all_null, by_array, Columns, len_of, array_type_of, kind_of_strings, fields_of, nullability_by, content_at, is_valid, row_at, pick, span, string_content, number_in, is_truth, IsInteger, IsCode, IsSound, HasLength}
+use Rattle.vortex_arrays_model.specs.Layout.{Strings, texts, byte_strings, Layout, bools, numbers, strings, dictionary, fixed_lists, list_views, records, Valid, required, all_valid, all_null, by_array, Columns, len_of, array_type_of, type_of_strings, fields_of, nullability_by, content_at, is_valid, row_at, pick, span, string_content, number_in, is_truth, IsInteger, IsCode, IsSound, HasLength}
 use Rattle.vortex_arrays_model.specs.Column.{IsMasked, IsValidInBoth}
 use Rattle.vortex_arrays_model.proofs.PicksLemmas.{no_flag}
 use Rattle.vortex_arrays_model.proofs.SomeLemmas.{type_within, last_nullability}
@@ -35,10 +35,10 @@ integer_within : (k : IntKind) (n m : Nullability) → integer_type k (either_nu
 integer_within k non_nullable m = refl
 integer_within k nullable m = refl
 
-strings_within : (s : Strings) (n m : Nullability) → kind_of_strings s (either_nullable n m) ≡ nullable_inside n (kind_of_strings s m)
+strings_within : (s : Strings) (n m : Nullability) → type_of_strings s (either_nullable n m) ≡ nullable_inside n (type_of_strings s m)
 strings_within s non_nullable m = refl
 strings_within texts nullable m = refl
-strings_within blobs nullable m = refl
+strings_within byte_strings nullable m = refl
 
 fixed_list_within : (k : LogicalType) (s : ℕ) (n m : Nullability) → fixed_list k s (either_nullable n m) ≡ nullable_inside n (fixed_list k s m)
 fixed_list_within k s non_nullable m = refl
@@ -75,7 +75,7 @@ pub pushes_strings : (s : Strings) (xs bs : List (List ℕ)) (v w u : Valid) →
 pushes_strings s xs bs v w u h m = record {
   sound = ((λ i l t. h.0 i l (and_right (is_valid v i) (is_valid w i) (sym (m.bits i l) ∙ t))), m.fits);
   len = refl;
-  kind = ap (kind_of_strings s) m.nullability ∙ strings_within s (nullability_by v) (nullability_by w);
+  kind = ap (type_of_strings s) m.nullability ∙ strings_within s (nullability_by v) (nullability_by w);
   content = λ i l. met v w u (length xs) i (string_content s (value_of (get_or xs i []) bs)) m l;
 }
 

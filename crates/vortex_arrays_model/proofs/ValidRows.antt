@@ -7,7 +7,7 @@ use Rattle.vortex_model.specs.Content.{Content, null, boolean, integer, text, by
 use Rattle.vortex_model.specs.Valid.{IsContent, AllHold, FieldsHold}
 use Rattle.vortex_model.proofs.Contents.{said}
 use Rattle.vortex_arrays_view.specs.Views.{value_of}
-use Rattle.vortex_arrays_model.specs.Layout.{Strings, texts, blobs, Layout, bools, numbers, strings, constant, dictionary, fixed_lists, list_views, records, Valid, required, all_valid, all_null, by_array, Columns, no_columns, column, len_of, array_type_of, kind_of_strings, fields_of, nullability_by, content_at, is_valid, row_at, rows_of, pick, span, string_content, number_in, IsCode, IsView, IsInteger, IsString, IsSound, HaveLength}
+use Rattle.vortex_arrays_model.specs.Layout.{Strings, texts, byte_strings, Layout, bools, numbers, strings, constant, dictionary, fixed_lists, list_views, records, Valid, required, all_valid, all_null, by_array, Columns, no_columns, column, len_of, array_type_of, type_of_strings, fields_of, nullability_by, content_at, is_valid, row_at, rows_of, pick, span, string_content, number_in, IsCode, IsView, IsInteger, IsString, IsSound, HaveLength}
 use Rattle.vortex_arrays_model.proofs.RowsLemmas.{row_at_position, row_count}
 
 -- null where a row has none
@@ -101,19 +101,19 @@ pub count-span : (f : ℕ → Content) (i n : ℕ) → count (span f i n) ≡ n
 count-span f i zero = refl
 count-span f i (suc n) = ap (λ m. suc m) (count-span f (i + 1) n)
 
-string_null : (s : Strings) (n : Nullability) → IsNullable n → IsContent (kind_of_strings s n) null
+string_null : (s : Strings) (n : Nullability) → IsNullable n → IsContent (type_of_strings s n) null
 string_null texts n h = h
-string_null blobs n h = h
+string_null byte_strings n h = h
 
-string_holds : (s : Strings) (n : Nullability) (bs : List ℕ) → IsString s bs → IsContent (kind_of_strings s n) (string_content s bs)
+string_holds : (s : Strings) (n : Nullability) (bs : List ℕ) → IsString s bs → IsContent (type_of_strings s n) (string_content s bs)
 string_holds texts n bs h = h
-string_holds blobs n bs h = h
+string_holds byte_strings n bs h = h
 
 mutual
   pub rows_valid : (a : Layout) → IsSound a → (i : ℕ) → i < len_of a → IsContent (array_type_of a) (content_at a i)
   rows_valid (bools bs v) s i l = valid_if (boolean_type (nullability_by v)) v i (is_valid v i) (boolean (get_or bs i false)) refl (λ n. n) (λ t. tt)
   rows_valid (numbers k zs v) s i l = valid_if (integer_type k (nullability_by v)) v i (is_valid v i) (integer (get_or zs i (pos 0))) refl (λ n. n) (λ t. s.0 i (pos 0) l)
-  rows_valid (strings k vs bs v) s i l = valid_if (kind_of_strings k (nullability_by v)) v i (is_valid v i) (string_content k (value_of (get_or vs i []) bs)) refl (string_null k (nullability_by v)) (λ t. let h = s.0 i l t in string_holds k (nullability_by v) (value_of (get_or vs i []) bs) h.1)
+  rows_valid (strings k vs bs v) s i l = valid_if (type_of_strings k (nullability_by v)) v i (is_valid v i) (string_content k (value_of (get_or vs i []) bs)) refl (string_null k (nullability_by v)) (λ t. let h = s.0 i l t in string_holds k (nullability_by v) (value_of (get_or vs i []) bs) h.1)
   rows_valid (constant k r n) s i l = said (stored k) r s
   rows_valid (dictionary c v f) s i l = by_code (array_type_of c) (array_type_of v) (len_of v) (λ j. content_at v j) (content_at c i) s.2 (s.3 i l) (rows_valid c s.0 i l) (λ j b. rows_valid v s.1 j b)
   rows_valid (fixed_lists e m n v) s i l = valid_if (fixed_list (array_type_of e) m (nullability_by v)) v i (is_valid v i) (tuple (span (λ j. content_at e j) (i * m) m)) refl (λ h. h)

@@ -10,7 +10,7 @@ use Rattle.vortex_arrays_model.specs.Picks.{Picks, PicksSome, position_of}
 use Rattle.vortex_arrays_model.specs.Canonical.{counts, IsLaidOut, IsRebuilt}
 use Rattle.vortex_arrays_model.specs.Trimmed.{IsTrimmed}
 use Rattle.vortex_arrays_model.specs.Column.{IsColumn, array_at, IsMasked}
-use Rattle.vortex_arrays_model.specs.Referenced.{MarksNamed, Occurs, OccursMarked}
+use Rattle.vortex_arrays_model.specs.Referenced.{MarksReferenced, Occurs, OccursMarked}
 
 -- each row of a sound array is a content of its type
 abbrev pub RowsAreContents : Type 0
@@ -55,5 +55,5 @@ ColumnsStepDown = (cs : Columns) (n : ℕ) (v : Valid) (x : List ℕ) (xs : Name
     IsSound (records cs n v) → position_named (fields_of cs) x ≡ Some k → array_at cs k ≡ Some b → IsColumn b xs t → IsMasked v t r → IsColumn (records cs n v) (x ∷ xs) r
 
 -- a content but null stands in the rows of a dictionary exactly where it stands at a value that a code names
-abbrev pub NamedValuesAreTheRows : Type 0
-NamedValuesAreTheRows = (c v : Layout) (f b : Bool) (mask : List Bool) (x : Content) → IsSound (dictionary c v f) → MarksNamed c (len_of c) b mask → x ≢ null → Occurs (dictionary c v f) x ↔ OccursMarked v b mask x
+abbrev pub ReferencedValuesAreTheRows : Type 0
+ReferencedValuesAreTheRows = (c v : Layout) (f b : Bool) (mask : List Bool) (x : Content) → IsSound (dictionary c v f) → MarksReferenced c (len_of c) b mask → x ≢ null → Occurs (dictionary c v f) x ↔ OccursMarked v b mask x

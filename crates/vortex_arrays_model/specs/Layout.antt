@@ -9,11 +9,11 @@ use Rattle.vortex_arrays_view.specs.Views.{value_of, HasValue}
 -- what views of sixteen bytes stand for
 pub data Strings : Type 0 where
   texts : Strings
-  blobs : Strings
+  byte_strings : Strings
 
 mutual
   -- Numbers are of one kind. Views come with their buffers, a constant with its type and its length, a dictionary's codes with its values and whether each value is known to be
-  -- named, fixed lists with their elements, their size and how many they are, list views with their elements, offsets, sizes and whether they are known to follow one another.
+  -- referenced, fixed lists with their elements, their size and how many they are, list views with their elements, offsets, sizes and whether they are known to follow one another.
   pub data Layout : Type 0 where
     bools : List Bool → Valid → Layout
     numbers : IntKind → List ℤ → Valid → Layout
@@ -73,16 +73,16 @@ abbrev pub nullability_by : Valid → Nullability
 nullability_by required = non_nullable
 nullability_by v = nullable
 
-abbrev pub kind_of_strings : Strings → Nullability → LogicalType
-kind_of_strings texts n = utf8 n
-kind_of_strings blobs n = binary n
+abbrev pub type_of_strings : Strings → Nullability → LogicalType
+type_of_strings texts n = utf8 n
+type_of_strings byte_strings n = binary n
 
 -- its type
 abbrev mutual
   pub array_type_of : Layout → LogicalType
   array_type_of (bools bs v) = boolean_type (nullability_by v)
   array_type_of (numbers k zs v) = integer_type k (nullability_by v)
-  array_type_of (strings s vs bs v) = kind_of_strings s (nullability_by v)
+  array_type_of (strings s vs bs v) = type_of_strings s (nullability_by v)
   array_type_of (constant k r n) = k
   array_type_of (dictionary c v f) = with_nullability (either_nullable (nullability_of (array_type_of c)) (nullability_of (array_type_of v))) (array_type_of v)
   array_type_of (fixed_lists e s n v) = fixed_list (array_type_of e) s (nullability_by v)
@@ -118,7 +118,7 @@ span f i (suc n) = first (f i) (span f (i + 1) n)
 
 abbrev pub string_content : Strings → List ℕ → Content
 string_content texts bs = text bs
-string_content blobs bs = byte_string bs
+string_content byte_strings bs = byte_string bs
 
 -- the content at a position
 abbrev mutual
@@ -170,17 +170,17 @@ IsView n o s = ⊥
 -- a valid value is a text where texts are held, and else bytes
 abbrev pub IsString : Strings → List ℕ → Type 0
 IsString texts bs = IsUtf8 bs
-IsString blobs bs = AreBytes bs
+IsString byte_strings bs = AreBytes bs
 
 -- one of the first n codes is j
-pub record IsNamed (c : Layout) (n j : ℕ) : Type 0 where
+pub record IsReferenced (c : Layout) (n j : ℕ) : Type 0 where
   pub row : ℕ
   pub before : row < n
-  pub named : content_at c row ≡ integer (pos j)
+  pub referenced : content_at c row ≡ integer (pos j)
 
--- each value of a dictionary is named
-abbrev pub AllNamed : Layout → Layout → Type 0
-AllNamed c v = (j : ℕ) → j < len_of v → IsNamed c (len_of c) j
+-- each value of a dictionary is referenced
+abbrev pub AllReferenced : Layout → Layout → Type 0
+AllReferenced c v = (j : ℕ) → j < len_of v → IsReferenced c (len_of c) j
 
 -- each list begins where the one before ends
 abbrev pub AreEndToEnd : Layout → Layout → Type 0
@@ -193,7 +193,7 @@ abbrev mutual
   IsSound (numbers k zs v) = All (InRange k) zs × HasLength v (length zs)
   IsSound (strings s vs bs v) = ((i : ℕ) → i < length vs → IsTrue (is_valid v i) → HasValue (slice_index_or vs i []) bs × IsString s (value_of (slice_index_or vs i []) bs)) × HasLength v (length vs)
   IsSound (constant k r n) = IsValid k r
-  IsSound (dictionary c v f) = IsSound c × IsSound v × IsInteger (array_type_of c) × ((i : ℕ) → i < len_of c → IsCode (len_of v) (content_at c i)) × (IsTrue f → AllNamed c v)
+  IsSound (dictionary c v f) = IsSound c × IsSound v × IsInteger (array_type_of c) × ((i : ℕ) → i < len_of c → IsCode (len_of v) (content_at c i)) × (IsTrue f → AllReferenced c v)
   IsSound (fixed_lists e s n v) = IsSound e × (len_of e ≡ n * s) × HasLength v n
   IsSound (list_views e o s f v) = IsSound e × IsSound o × IsSound s × IsOffsets (array_type_of o) × IsOffsets (array_type_of s) × (len_of s ≡ len_of o) × HasLength v (len_of o) × ((i : ℕ) → i < len_of o → IsView (len_of e) (content_at o i) (content_at s i)) × (IsTrue f → AreEndToEnd o s)
   IsSound (records cs n v) = HaveLength cs n × HasLength v n

@@ -5,7 +5,7 @@ use Rattle.std.specs.Coded.{Coded, coded_ℕ, coded_ℤ, coded_bool, coded_list}
 use base.Stored.{Gv, gnil, gnum, gcons}
 use Rattle.vortex_model.specs.LogicalType.{Nullability, non_nullable, nullable, IntKind, u8, u16, u32, u64, i8, i16, i32, i64, FloatKind, f16, f32, f64, LogicalType, null_only, boolean_type, integer_type, float, decimal, utf8, binary, list, fixed_list, mapping, struct, union, variant, extension, Fields, no_fields, field, Variants, no_variants, choice, int_kind_number, float_kind_number}
 use Rattle.vortex_model.specs.Content.{Raw, raw_null, raw_boolean, raw_number, raw_text, raw_byte_string, raw_tuple, raw_tagged, raw_scalar, Raws, no_raws, raw_first}
-use Rattle.vortex_arrays_model.specs.Layout.{Strings, texts, blobs, Layout, bools, numbers, strings, constant, dictionary, fixed_lists, list_views, records, Valid, required, all_valid, all_null, by_array, Columns, no_columns, column}
+use Rattle.vortex_arrays_model.specs.Layout.{Strings, texts, byte_strings, Layout, bools, numbers, strings, constant, dictionary, fixed_lists, list_views, records, Valid, required, all_valid, all_null, by_array, Columns, no_columns, column}
 
 abbrev head : Gv → Gv
 head (gcons a b) = a
@@ -163,11 +163,11 @@ mutual
 
 abbrev strings_gv : Strings → Gv
 strings_gv texts = gnum 0
-strings_gv blobs = gnum 1
+strings_gv byte_strings = gnum 1
 
 strings_inj : (s t : Strings) → strings_gv s ≡ strings_gv t → s ≡ t
 strings_inj texts texts p = refl
-strings_inj blobs blobs p = refl
+strings_inj byte_strings byte_strings p = refl
 strings_inj s t p = cc
 
 abbrev coded_lists : Coded (List (List ℕ))

@@ -1,11 +1,11 @@
 -- Which values of a dictionary its codes name.
 use Rattle.std.specs.Prelude.{◌≡◌, ◌<◌, ℕ, pos, Bool, not, List, slice_index_or}
 use Rattle.vortex_model.specs.Content.{Content, integer}
-use Rattle.vortex_arrays_model.specs.Layout.{Layout, len_of, content_at, IsNamed}
+use Rattle.vortex_arrays_model.specs.Layout.{Layout, len_of, content_at, IsReferenced}
 
 -- bit j is b exactly where one of the first n codes is j
-pub record MarksNamed (c : Layout) (n : ℕ) (b : Bool) (mask : List Bool) : Type 0 where
-  pub named : (j : ℕ) → slice_index_or mask j (not b) ≡ b → IsNamed c n j
+pub record MarksReferenced (c : Layout) (n : ℕ) (b : Bool) (mask : List Bool) : Type 0 where
+  pub referenced : (j : ℕ) → slice_index_or mask j (not b) ≡ b → IsReferenced c n j
   pub marked : (i j : ℕ) → i < n → content_at c i ≡ integer (pos j) → slice_index_or mask j (not b) ≡ b
 
 -- a content stands in some row

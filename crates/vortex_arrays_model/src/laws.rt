@@ -3,7 +3,7 @@ ghost use Rattle.vortex_arrays_model.specs.Laws.{
   ColumnsStepDown,
   DictionariesTake,
   EqualRowsRebuildEqually,
-  NamedValuesAreTheRows,
+  ReferencedValuesAreTheRows,
   RebuildingKeepsRows,
   RebuildingTwiceIsOnce,
   RebuiltListsFollow,
@@ -65,6 +65,6 @@ pub fn columns_step_down()
 
 /// A content but null stands in a dictionary's rows exactly where it stands at a value that a code
 /// names.
-pub fn named_values_are_the_rows()
-    ensures { NamedValuesAreTheRows }
+pub fn referenced_values_are_the_rows()
+    ensures { ReferencedValuesAreTheRows }
 {}

@@ -5,9 +5,9 @@ use Rattle.std.proofs.lemmas.Bool.{cases_eq}
 use Rattle.std.proofs.lemmas.List.Elements.{All-get_or, All-from_get_or}
 use Rattle.vortex_arrays_buffer.specs.declared.error.ArrayError.{ArrayError}
 use Rattle.vortex_arrays_buffer.specs.declared.error.ArrayError.TheVariants.{Memory}
-use Rattle.vortex_arrays_model.specs.Layout.{Layout, dictionary, len_of, array_type_of, content_at, IsInteger, IsCode, IsSound, AllNamed}
-use Rattle.vortex_arrays_model.specs.Referenced.{MarksNamed}
-use Rattle.vortex_arrays_model.proofs.ReferencedLemmas.{all_marked, all_named}
+use Rattle.vortex_arrays_model.specs.Layout.{Layout, dictionary, len_of, array_type_of, content_at, IsInteger, IsCode, IsSound, AllReferenced}
+use Rattle.vortex_arrays_model.specs.Referenced.{MarksReferenced}
+use Rattle.vortex_arrays_model.proofs.ReferencedLemmas.{all_marked, all_referenced}
 use Rattle.vortex_arrays_nested.specs.Faults.{IsCodesFault, IsDictFault}
 use Rattle.vortex_arrays_model.specs.Parts.{AreWithin}
 use Rattle.vortex_arrays_nested.specs.Shapes.{codes_in, values_in}
@@ -45,12 +45,12 @@ pub unflagged : (c v : Layout) → IsSound c → IsSound v → IsInteger (array_
 unflagged c v a b k h = (a, b, k, h, λ t. absurd (cc (t)))
 
 -- the same codes and values with a flag that is true of them
-pub reflagged : (a c v : Layout) (f g : Bool) → a ≡ dictionary c v f → IsSound a → (IsTrue g → AllNamed (codes_in a) (values_in a)) → IsSound (dictionary c v g)
-reflagged a c v f g e s h = let t = subst IsSound e s in (t.0, t.1, t.2, t.3, λ b. subst (λ x. AllNamed (codes_in x) (values_in x)) e (h b))
+pub reflagged : (a c v : Layout) (f g : Bool) → a ≡ dictionary c v f → IsSound a → (IsTrue g → AllReferenced (codes_in a) (values_in a)) → IsSound (dictionary c v g)
+reflagged a c v f g e s h = let t = subst IsSound e s in (t.0, t.1, t.2, t.3, λ b. subst (λ x. AllReferenced (codes_in x) (values_in x)) e (h b))
 
 -- each value is named where each bit of the mask is true
-pub each_named : (c v : Layout) (mask : List Bool) (all : Bool) → MarksNamed c (len_of c) true mask → length mask ≡ len_of v → (IsTrue all ↔ All (λ b. b ≡ true) mask) → IsTrue all ↔ AllNamed c v
-each_named c v mask all h n e = (
+pub each_referenced : (c v : Layout) (mask : List Bool) (all : Bool) → MarksReferenced c (len_of c) true mask → length mask ≡ len_of v → (IsTrue all ↔ All (λ b. b ≡ true) mask) → IsTrue all ↔ AllReferenced c v
+each_referenced c v mask all h n e = (
   λ t. all_marked c v true mask h (λ j l. All-get_or (λ b. b ≡ true) mask j false (subst (λ k. j < k) (sym n) l) (e.0 t)),
-  λ a. e.1 (All-from_get_or (λ b. b ≡ true) mask false (λ j l. all_named c v true mask h a j (subst (λ k. j < k) n l))),
+  λ a. e.1 (All-from_get_or (λ b. b ≡ true) mask false (λ j l. all_referenced c v true mask h a j (subst (λ k. j < k) n l))),
 )

@@ -5,7 +5,7 @@ use Rattle.vortex_arrays_buffer.specs.declared.error.ArrayError.{ArrayError}
 use Rattle.vortex_arrays_buffer.specs.declared.error.ArrayError.TheVariants as error
 use Rattle.vortex_arrays_model.specs.Layout.{Layout, Valid, required, all_valid, all_null, by_array, len_of, array_type_of, IsInteger, IsOffsets, HasLength}
 use Rattle.vortex_arrays_core.specs.Faults.{IsValidityFault}
-use Rattle.vortex_arrays_nested.specs.ListViews.{HasTruths, IsListViewFault}
+use Rattle.vortex_arrays_nested.specs.ListViews.{HasBooleans, IsListViewFault}
 use Rattle.vortex_arrays_nested.specs.FixedLists.{IsFixedListFault}
 
 pub offsets_are : (k : LogicalType) → IsInteger k → is_nullable (nullability_of k) ≡ false → IsOffsets k
@@ -26,17 +26,17 @@ offsets_integer k h = absurd h
 pub ruleset offsets = (offsets_are, offsets_not_null, offsets_integer)
 
 -- a validity of so many rows is told by truth values
-pub has_truths : (v : Valid) (n : ℕ) → HasLength v n → HasTruths v
+pub has_truths : (v : Valid) (n : ℕ) → HasLength v n → HasBooleans v
 has_truths required n h = tt
 has_truths all_valid n h = tt
 has_truths all_null n h = tt
 has_truths (by_array a) n h = h.2
 
-no_truths : (v : Valid) (n : ℕ) → IsValidityFault error.WrongType v n → HasTruths v → ⊥
+no_truths : (v : Valid) (n : ℕ) → IsValidityFault error.WrongType v n → HasBooleans v → ⊥
 no_truths (by_array a) n h t = h t
 no_truths v n h t = absurd h
 
-still_truths : (v : Valid) (n : ℕ) → IsValidityFault error.LengthMismatch v n → HasTruths v
+still_truths : (v : Valid) (n : ℕ) → IsValidityFault error.LengthMismatch v n → HasBooleans v
 still_truths (by_array a) n h = h.0
 still_truths v n h = absurd h
 

@@ -10,13 +10,13 @@ IsListViews (list_views e o s f v) = Unit {0}
 IsListViews a = ⊥
 
 -- nulls are told by truth values, which are never null themselves
-abbrev pub HasTruths : Valid → Type 0
-HasTruths (by_array a) = array_type_of a ≡ boolean_type non_nullable
-HasTruths v = Unit {0}
+abbrev pub HasBooleans : Valid → Type 0
+HasBooleans (by_array a) = array_type_of a ≡ boolean_type non_nullable
+HasBooleans v = Unit {0}
 
 -- offsets and sizes are integers and never null, and nulls are told by truth values
 abbrev pub AreTyped : Layout → Layout → Valid → Type 0
-AreTyped o s v = IsOffsets (array_type_of o) × IsOffsets (array_type_of s) × HasTruths v
+AreTyped o s v = IsOffsets (array_type_of o) × IsOffsets (array_type_of s) × HasBooleans v
 
 -- there are as many sizes as offsets, and the validity is of as many rows
 abbrev pub AreAsMany : Layout → Layout → Valid → Type 0

@@ -3,7 +3,7 @@ ghost use Rattle.std.specs.Prelude.{◌≡◌, ◌==◌, ◌↔◌, false, IsTru
 ghost use Rattle.vortex_model.specs.LogicalType.{nullability_of};
 ghost use Rattle.vortex_dtype_ptype.specs.View.{nullability_of_flag};
 ghost use Rattle.vortex_dtype_core.specs.View.{type_of};
-ghost use Rattle.vortex_arrays_model.specs.Layout.{dictionary, len_of, array_type_of, AllNamed, IsInteger, IsSound};
+ghost use Rattle.vortex_arrays_model.specs.Layout.{dictionary, len_of, array_type_of, AllReferenced, IsInteger, IsSound};
 ghost use Rattle.vortex_arrays_nested.specs.Faults.{IsCodesFault, IsDictFault};
 ghost use Rattle.vortex_arrays_model.specs.Parts.{AreWithin};
 ghost use Rattle.vortex_arrays_nested.specs.Shapes.{IsDictionary, codes_in, values_in, flag_in};
@@ -198,7 +198,7 @@ impl DictArray {
         alloc: Global,
         all_values_referenced: bool,
     ) -> Result<DictArray, AllocError>
-        requires { IsTrue all_values_referenced → AllNamed (codes_in self) (values_in self) }
+        requires { IsTrue all_values_referenced → AllReferenced (codes_in self) (values_in self) }
         ensures { IfOk result
             (λ a. a ≡ dictionary (codes_in self) (values_in self) all_values_referenced) }
     {
@@ -222,7 +222,7 @@ impl DictArray {
         ensures { self.now ≡ dictionary result.0.now result.1.now result.2 }
     {
         match self.array.layout() {
-            ArrayLayout::Dict(codes, values, all_named) => (codes, values, *all_named),
+            ArrayLayout::Dict(codes, values, all_referenced) => (codes, values, *all_referenced),
             ArrayLayout::Bool(_, _) => unreachable!(),
             ArrayLayout::Primitive(_, _) => unreachable!(),
             ArrayLayout::VarBinView(_, _, _, _) => unreachable!(),

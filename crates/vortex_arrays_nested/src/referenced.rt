@@ -1,8 +1,8 @@
 //! Which values of a dictionary its codes name.
 ghost use Rattle.std.specs.Prelude.{◌≡◌, ◌↔◌, length, true, IsTrue, IfOk};
 ghost use Rattle.std.specs.List.{All};
-ghost use Rattle.vortex_arrays_model.specs.Layout.{len_of, array_type_of, AllNamed, IsInteger};
-ghost use Rattle.vortex_arrays_model.specs.Referenced.{MarksNamed};
+ghost use Rattle.vortex_arrays_model.specs.Layout.{len_of, array_type_of, AllReferenced, IsInteger};
+ghost use Rattle.vortex_arrays_model.specs.Referenced.{MarksReferenced};
 ghost use Rattle.vortex_arrays_model.specs.Parts.{AreWithin};
 ghost use Rattle.vortex_arrays_nested.specs.Shapes.{codes_in, values_in};
 
@@ -21,10 +21,10 @@ impl DictArray {
     ) -> Result<BitBuffer, AllocError>
         ensures count { IfOk result (λ mask. length mask ≡ len_of (values_in self.now)) }
         ensures marks { IfOk result (λ mask.
-            MarksNamed (codes_in self.now) (len_of (codes_in self.now)) referenced mask) }
+            MarksReferenced (codes_in self.now) (len_of (codes_in self.now)) referenced mask) }
     {
         self.as_array().is_sound();
-        let marks = named_marks(alloc, self.codes(), self.values().len(), referenced)?;
+        let marks = referenced_marks(alloc, self.codes(), self.values().len(), referenced)?;
         let mask = BitBuffer::from_bools(alloc, marks.as_slice())?;
         Ok(mask)
     }
@@ -33,10 +33,10 @@ impl DictArray {
     /// as Vortex's `DictArrayExt::validate_all_values_referenced` tests it.
     pub fn are_all_values_referenced(&self, alloc: Global) -> Result<bool, AllocError>
         ensures { IfOk result
-            (λ all. IsTrue all ↔ AllNamed (codes_in self.now) (values_in self.now)) }
+            (λ all. IsTrue all ↔ AllReferenced (codes_in self.now) (values_in self.now)) }
     {
         self.as_array().is_sound();
-        let marks = named_marks(alloc, self.codes(), self.values().len(), true)?;
+        let marks = referenced_marks(alloc, self.codes(), self.values().len(), true)?;
         let all = are_all_true(&marks);
         Ok(all)
     }
@@ -44,7 +44,7 @@ impl DictArray {
 
 /// `mark` for each value that a code names, and its contrary for each other value.
 #[tactic(auto, using(vortex_arrays_model::proofs::ReferencedLemmas::marks))]
-fn named_marks(
+fn referenced_marks(
     alloc: Global,
     codes: &ArrayRef,
     count: usize,
@@ -54,7 +54,7 @@ fn named_marks(
     requires named { AreWithin codes.now count }
     ensures count { IfOk result (λ marks. length marks.items ≡ count) }
     ensures marks { IfOk result
-        (λ marks. MarksNamed codes.now (len_of codes.now) mark marks.items) }
+        (λ marks. MarksReferenced codes.now (len_of codes.now) mark marks.items) }
 {
     let mut marks = vec![in alloc; !mark; count]?;
     for i in 0..codes.len() {

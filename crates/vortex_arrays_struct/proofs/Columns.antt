@@ -7,7 +7,7 @@ use Rattle.vortex_model.specs.LogicalType.{nullability_of, nullable_inside}
 use Rattle.vortex_model.specs.Content.{Content, null, integer}
 use Rattle.vortex_model.specs.Path.{Names, Positions, position_named, field_at, type_at, at, positions, type_of_column}
 use Rattle.vortex_dtype_ptype.specs.View.{IsFirstPlace}
-use Rattle.vortex_arrays_model.specs.Layout.{Layout, Strings, texts, blobs, dictionary, records, Valid, len_of, array_type_of, kind_of_strings, fields_of, nullability_by, content_at, pick, IsCode, IsSound, HasLength}
+use Rattle.vortex_arrays_model.specs.Layout.{Layout, Strings, texts, byte_strings, dictionary, records, Valid, len_of, array_type_of, type_of_strings, fields_of, nullability_by, content_at, pick, IsCode, IsSound, HasLength}
 use Rattle.vortex_arrays_model.specs.Column.{IsColumn, array_at, IsMasked}
 use Rattle.vortex_arrays_model.specs.Parts.{columns_of}
 use Rattle.vortex_arrays_model.proofs.SomeLemmas.{type_within}
@@ -71,9 +71,9 @@ field_fits xs fs n v x k b e s p is = subst (HasLength v) (sym (field_length xs 
 pub no_field_named : (xs : List (List ℕ)) (fs : List Layout) (n : ℕ) (v : Valid) (x : List ℕ) → length xs ≡ length fs → IsFirstPlace xs x None → type_of_column (array_type_of (records (columns_of xs fs) n v)) (x ∷ []) ≡ None
 no_field_named xs fs n v x e p = ap (λ o. option_and_then (type_at (array_type_of (records (columns_of xs fs) n v))) (option_and_then (λ i. option_and_then (λ part. option_map (λ is. i ∷ is) (positions part [])) (field_at (fields_of (columns_of xs fs)) i)) o)) (no_position xs fs x e p)
 
-pub no_field_of_strings : (s : Strings) (v : Valid) (x : List ℕ) → type_of_column (kind_of_strings s (nullability_by v)) (x ∷ []) ≡ None
+pub no_field_of_strings : (s : Strings) (v : Valid) (x : List ℕ) → type_of_column (type_of_strings s (nullability_by v)) (x ∷ []) ≡ None
 no_field_of_strings texts v x = refl
-no_field_of_strings blobs v x = refl
+no_field_of_strings byte_strings v x = refl
 
 -- Dictionaries: the column is that of the values, under the same codes.
 at_null : (is : Positions) → at null is ≡ null

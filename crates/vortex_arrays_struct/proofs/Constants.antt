@@ -18,7 +18,7 @@ use Rattle.vortex_arrays_model.specs.Column.{IsColumn, IsMasked}
 use Rattle.vortex_arrays_model.proofs.PicksLemmas.{no_flag}
 use Rattle.vortex_arrays_model.proofs.SomeLemmas.{type_within}
 use Rattle.vortex_arrays_model.proofs.ColumnLemmas.{part_named}
-use Rattle.vortex_arrays_core.proofs.Makers.{valid_so}
+use Rattle.vortex_arrays_core.proofs.Constructors.{valid_so}
 use Rattle.vortex_scalar_value.specs.Parts.{raw_nth, raw_part}
 use Rattle.vortex_arrays_struct.specs.ZeroCodes.{zero_codes}
 

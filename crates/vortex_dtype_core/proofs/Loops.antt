@@ -5,7 +5,7 @@ use Rattle.std.specs.List.{zip}
 use Rattle.std.specs.Ordering.{int_eq}
 use Rattle.std.specs.Str.{bytes_eq}
 use Rattle.vortex_model.specs.LogicalType.{LogicalType, bare, eq_type, eq_fields, eq_variants, bare_fields, bare_variants}
-use Rattle.vortex_dtype_core.specs.View.{NamedKind, TaggedKind, type_of, field_of, fields_of, variant_of, variants_of}
+use Rattle.vortex_dtype_core.specs.View.{NamedType, TaggedType, type_of, field_of, fields_of, variant_of, variants_of}
 use Rattle.vortex_dtype_core.specs.declared.dtype.DType.{DType}
 use Rattle.vortex_dtype_core.specs.declared.struct_fields.StructField.{StructField}
 use Rattle.vortex_dtype_core.specs.declared.union_variants.UnionVariant.{UnionVariant}
@@ -59,8 +59,8 @@ all_fields fs gs = eq_fields (fields_of fs) (fields_of gs)
 
 pub more_fields : (f g : StructField) (fs gs : List StructField) → all_fields (f ∷ fs) (g ∷ gs) ≡ (one_field f g && all_fields fs gs)
 more_fields f g fs gs =
-    ap (λ (p : NamedKind). bytes_eq p.0 (field_of g).0 && eq_type p.1 (field_of g).1 && all_fields fs gs) (field_of-parts f)
-    ∙ ap (λ (p : NamedKind). bytes_eq f.name p.0 && eq_type (type_of f.dtype) p.1 && all_fields fs gs) (field_of-parts g)
+    ap (λ (p : NamedType). bytes_eq p.0 (field_of g).0 && eq_type p.1 (field_of g).1 && all_fields fs gs) (field_of-parts f)
+    ∙ ap (λ (p : NamedType). bytes_eq f.name p.0 && eq_type (type_of f.dtype) p.1 && all_fields fs gs) (field_of-parts g)
 
 -- and bare
 abbrev pub one_bare_field : StructField → StructField → Bool
@@ -71,8 +71,8 @@ all_bare_fields fs gs = eq_fields (bare_fields (fields_of fs)) (bare_fields (fie
 
 pub more_bare_fields : (f g : StructField) (fs gs : List StructField) → all_bare_fields (f ∷ fs) (g ∷ gs) ≡ (one_bare_field f g && all_bare_fields fs gs)
 more_bare_fields f g fs gs =
-    ap (λ (p : NamedKind). bytes_eq p.0 (field_of g).0 && eq_type (bare p.1) (bare (field_of g).1) && all_bare_fields fs gs) (field_of-parts f)
-    ∙ ap (λ (p : NamedKind). bytes_eq f.name p.0 && eq_type (bare (type_of f.dtype)) (bare p.1) && all_bare_fields fs gs) (field_of-parts g)
+    ap (λ (p : NamedType). bytes_eq p.0 (field_of g).0 && eq_type (bare p.1) (bare (field_of g).1) && all_bare_fields fs gs) (field_of-parts f)
+    ∙ ap (λ (p : NamedType). bytes_eq f.name p.0 && eq_type (bare (type_of f.dtype)) (bare p.1) && all_bare_fields fs gs) (field_of-parts g)
 
 -- choices
 abbrev pub one_choice : UnionVariant → UnionVariant → Bool
@@ -83,8 +83,8 @@ all_choices vs ws = eq_variants (variants_of vs) (variants_of ws)
 
 pub more_choices : (v w : UnionVariant) (vs ws : List UnionVariant) → all_choices (v ∷ vs) (w ∷ ws) ≡ (one_choice v w && all_choices vs ws)
 more_choices v w vs ws =
-    ap (λ (p : TaggedKind). bytes_eq p.0 (variant_of w).0 && int_eq p.1.0 (variant_of w).1.0 && eq_type p.1.1 (variant_of w).1.1 && all_choices vs ws) (variant_of-parts v)
-    ∙ ap (λ (p : TaggedKind). bytes_eq v.name p.0 && int_eq v.tag p.1.0 && eq_type (type_of v.dtype) p.1.1 && all_choices vs ws) (variant_of-parts w)
+    ap (λ (p : TaggedType). bytes_eq p.0 (variant_of w).0 && int_eq p.1.0 (variant_of w).1.0 && eq_type p.1.1 (variant_of w).1.1 && all_choices vs ws) (variant_of-parts v)
+    ∙ ap (λ (p : TaggedType). bytes_eq v.name p.0 && int_eq v.tag p.1.0 && eq_type (type_of v.dtype) p.1.1 && all_choices vs ws) (variant_of-parts w)
 
 -- and bare
 abbrev pub one_bare_choice : UnionVariant → UnionVariant → Bool
@@ -95,8 +95,8 @@ all_bare_choices vs ws = eq_variants (bare_variants (variants_of vs)) (bare_vari
 
 pub more_bare_choices : (v w : UnionVariant) (vs ws : List UnionVariant) → all_bare_choices (v ∷ vs) (w ∷ ws) ≡ (one_bare_choice v w && all_bare_choices vs ws)
 more_bare_choices v w vs ws =
-    ap (λ (p : TaggedKind). bytes_eq p.0 (variant_of w).0 && int_eq p.1.0 (variant_of w).1.0 && eq_type (bare p.1.1) (bare (variant_of w).1.1) && all_bare_choices vs ws) (variant_of-parts v)
-    ∙ ap (λ (p : TaggedKind). bytes_eq v.name p.0 && int_eq v.tag p.1.0 && eq_type (bare (type_of v.dtype)) (bare p.1.1) && all_bare_choices vs ws) (variant_of-parts w)
+    ap (λ (p : TaggedType). bytes_eq p.0 (variant_of w).0 && int_eq p.1.0 (variant_of w).1.0 && eq_type (bare p.1.1) (bare (variant_of w).1.1) && all_bare_choices vs ws) (variant_of-parts v)
+    ∙ ap (λ (p : TaggedType). bytes_eq v.name p.0 && int_eq v.tag p.1.0 && eq_type (bare (type_of v.dtype)) (bare p.1.1) && all_bare_choices vs ws) (variant_of-parts w)
 
 -- parts made from names and types
 pub none_left : {A : Type 0} (xs : List A) → length xs ≡ 0 → xs ≡ []
@@ -113,30 +113,30 @@ one_more_made built new y made b left after n e whole = omega (arith, ap length 
 pub one_more : {A B : Type 0} (built : List A) (y : A) (b : B) (left after : List B) (n : ℕ) → left ≡ b ∷ after → length built + length left ≡ n → length (built ++ y ∷ []) + length after ≡ n
 one_more built y b left after n e whole = omega (arith, length-append built (y ∷ []), ap length e)
 
-pub one_more_field : (names : List (List ℕ)) (built : List StructField) (f : StructField) (left after : List DType) (all : List NamedKind) → length built < length names → f.name ≡ get_or names (length built) f.name → left ≡ f.dtype ∷ after → map field_of built ++ zip (drop (length built) names) (map type_of left) ≡ all → map field_of (built ++ f ∷ []) ++ zip (drop (length (built ++ f ∷ [])) names) (map type_of after) ≡ all
+pub one_more_field : (names : List (List ℕ)) (built : List StructField) (f : StructField) (left after : List DType) (all : List NamedType) → length built < length names → f.name ≡ get_or names (length built) f.name → left ≡ f.dtype ∷ after → map field_of built ++ zip (drop (length built) names) (map type_of left) ≡ all → map field_of (built ++ f ∷ []) ++ zip (drop (length (built ++ f ∷ [])) names) (map type_of after) ≡ all
 one_more_field names built f left after all h is e whole =
-    let rest : List NamedKind = zip (drop (length built + 1) names) (map type_of after) in
+    let rest : List NamedType = zip (drop (length built + 1) names) (map type_of after) in
     let turn : zip (drop (length built) names) (map type_of left) ≡ field_of f ∷ rest =
     ap (λ (ds : List DType). zip (drop (length built) names) (map type_of ds)) e
     ∙ ap (λ (ns : List (List ℕ)). zip ns (type_of f.dtype ∷ map type_of after)) (opened names (length built) f.name h is)
-    ∙ ap (λ (p : NamedKind). p ∷ rest) (sym (field_of-parts f)) in
-    rw (map-append, length-append, append_assoc) (sym (ap (λ (zs : List NamedKind). map field_of built ++ zs) turn) ∙ whole)
+    ∙ ap (λ (p : NamedType). p ∷ rest) (sym (field_of-parts f)) in
+    rw (map-append, length-append, append_assoc) (sym (ap (λ (zs : List NamedType). map field_of built ++ zs) turn) ∙ whole)
 
-pub no_more_fields : (names : List (List ℕ)) (built : List StructField) (left : List DType) (all : List NamedKind) → left ≡ [] → map field_of built ++ zip (drop (length built) names) (map type_of left) ≡ all → map field_of built ≡ all
+pub no_more_fields : (names : List (List ℕ)) (built : List StructField) (left : List DType) (all : List NamedType) → left ≡ [] → map field_of built ++ zip (drop (length built) names) (map type_of left) ≡ all → map field_of built ≡ all
 no_more_fields names built left all e whole =
     sym (append-nil (map field_of built))
-    ∙ sym (ap (λ (ds : List DType). map field_of built ++ zip (drop (length built) names) (map type_of ds)) e ∙ ap (λ (zs : List NamedKind). map field_of built ++ zs) (zip_none (drop (length built) names)))
+    ∙ sym (ap (λ (ds : List DType). map field_of built ++ zip (drop (length built) names) (map type_of ds)) e ∙ ap (λ (zs : List NamedType). map field_of built ++ zs) (zip_none (drop (length built) names)))
     ∙ whole
 
-one_more_choice_of : (names : List (List ℕ)) (tags : List ℤ) (built : List UnionVariant) (v : UnionVariant) (left after : List DType) (all : List TaggedKind) → length built < length names → length built < length tags → v.name ≡ get_or names (length built) v.name → v.tag ≡ get_or tags (length built) v.tag → left ≡ v.dtype ∷ after → map variant_of built ++ zip (drop (length built) names) (zip (drop (length built) tags) (map type_of left)) ≡ all → map variant_of (built ++ v ∷ []) ++ zip (drop (length (built ++ v ∷ [])) names) (zip (drop (length (built ++ v ∷ [])) tags) (map type_of after)) ≡ all
+one_more_choice_of : (names : List (List ℕ)) (tags : List ℤ) (built : List UnionVariant) (v : UnionVariant) (left after : List DType) (all : List TaggedType) → length built < length names → length built < length tags → v.name ≡ get_or names (length built) v.name → v.tag ≡ get_or tags (length built) v.tag → left ≡ v.dtype ∷ after → map variant_of built ++ zip (drop (length built) names) (zip (drop (length built) tags) (map type_of left)) ≡ all → map variant_of (built ++ v ∷ []) ++ zip (drop (length (built ++ v ∷ [])) names) (zip (drop (length (built ++ v ∷ [])) tags) (map type_of after)) ≡ all
 one_more_choice_of names tags built v left after all h k is at e whole =
-    let rest : List TaggedKind = zip (drop (length built + 1) names) (zip (drop (length built + 1) tags) (map type_of after)) in
+    let rest : List TaggedType = zip (drop (length built + 1) names) (zip (drop (length built + 1) tags) (map type_of after)) in
     let turn : zip (drop (length built) names) (zip (drop (length built) tags) (map type_of left)) ≡ variant_of v ∷ rest =
     ap (λ (ds : List DType). zip (drop (length built) names) (zip (drop (length built) tags) (map type_of ds))) e
     ∙ ap (λ (ts : List ℤ). zip (drop (length built) names) (zip ts (type_of v.dtype ∷ map type_of after))) (opened tags (length built) v.tag k at)
     ∙ ap (λ (ns : List (List ℕ)). zip ns ((v.tag, type_of v.dtype) ∷ zip (drop (length built + 1) tags) (map type_of after))) (opened names (length built) v.name h is)
-    ∙ ap (λ (p : TaggedKind). p ∷ rest) (sym (variant_of-parts v)) in
-    rw (map-append, length-append, append_assoc) (sym (ap (λ (zs : List TaggedKind). map variant_of built ++ zs) turn) ∙ whole)
+    ∙ ap (λ (p : TaggedType). p ∷ rest) (sym (variant_of-parts v)) in
+    rw (map-append, length-append, append_assoc) (sym (ap (λ (zs : List TaggedType). map variant_of built ++ zs) turn) ∙ whole)
 
-pub one_more_choice : (built new : List UnionVariant) (v : UnionVariant) → new ≡ built ++ v ∷ [] → (names : List (List ℕ)) (tags : List ℤ) (left after : List DType) (all : List TaggedKind) → length built < length names → length built < length tags → v.name ≡ get_or names (length built) v.name → v.tag ≡ get_or tags (length built) v.tag → left ≡ v.dtype ∷ after → map variant_of built ++ zip (drop (length built) names) (zip (drop (length built) tags) (map type_of left)) ≡ all → map variant_of new ++ zip (drop (length new) names) (zip (drop (length new) tags) (map type_of after)) ≡ all
+pub one_more_choice : (built new : List UnionVariant) (v : UnionVariant) → new ≡ built ++ v ∷ [] → (names : List (List ℕ)) (tags : List ℤ) (left after : List DType) (all : List TaggedType) → length built < length names → length built < length tags → v.name ≡ get_or names (length built) v.name → v.tag ≡ get_or tags (length built) v.tag → left ≡ v.dtype ∷ after → map variant_of built ++ zip (drop (length built) names) (zip (drop (length built) tags) (map type_of left)) ≡ all → map variant_of new ++ zip (drop (length new) names) (zip (drop (length new) tags) (map type_of after)) ≡ all
 one_more_choice built new v made names tags left after all h k is at e whole = rw made (one_more_choice_of names tags built v left after all h k is at e whole)

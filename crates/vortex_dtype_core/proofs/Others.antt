@@ -28,8 +28,8 @@ is_boolean_type-other : (k : LogicalType) → (form k ≡ of_booleans → ⊥) �
 is_boolean_type-other (boolean_type n) other = absurd (other refl)
 is_boolean_type-other k other = refl
 
-pub other_than_truths : (d : DType) → ((n : outer.Nullability) → d ≡ type.Bool n → ⊥) → false ≡ is_boolean_type (type_of d)
-other_than_truths d other = has_other of_booleans is_boolean_type false is_boolean_type-other d (λ h. other h.0 h.1)
+pub other_than_booleans : (d : DType) → ((n : outer.Nullability) → d ≡ type.Bool n → ⊥) → false ≡ is_boolean_type (type_of d)
+other_than_booleans d other = has_other of_booleans is_boolean_type false is_boolean_type-other d (λ h. other h.0 h.1)
 
 numbers_in_type-other : (k : LogicalType) → (form k ≡ of_numbers → ⊥) → None ≡ numbers_in_type k
 numbers_in_type-other (integer_type i n) other = absurd (other refl)

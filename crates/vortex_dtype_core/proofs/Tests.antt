@@ -3,7 +3,7 @@ use Rattle.std.proofs.Math.Bool.{and-false, and-true, true-and, false-and}
 use Rattle.std.proofs.Common.{◌≡◌, ◌≢◌, ◌↔◌, IsTrue, false, List, [], ◌∷◌, length, suc, refl, sym, ap}
 use Rattle.vortex_model.specs.LogicalType.{LogicalType, mapping, non_nullable, eq_fields, eq_variants, bare_fields, bare_variants}
 use Rattle.vortex_dtype_core.specs.Equal.{eq_type-decides, eq_fields-decides, eq_variants-decides}
-use Rattle.vortex_dtype_core.specs.View.{EntryKinds, entries_in, map_kind, eq_map, fields_of, variants_of}
+use Rattle.vortex_dtype_core.specs.View.{EntryTypes, entries_in, map_type_of, eq_map, fields_of, variants_of}
 use Rattle.vortex_dtype_core.specs.declared.map_dtype.MapDType.{MapDType}
 use Rattle.vortex_dtype_core.specs.declared.struct_fields.StructField.{StructField}
 use Rattle.vortex_dtype_core.specs.declared.union_variants.UnionVariant.{UnionVariant}
@@ -36,17 +36,17 @@ unequal_bare_choices (x ∷ xs) [] n = refl
 unequal_bare_choices (x ∷ xs) (y ∷ ys) n = rw (← unequal_bare_choices xs ys (λ e. n (ap suc e))) (sym (and-false _))
 
 -- the entries of a type of maps
-abbrev entries_inside : LogicalType → EntryKinds
+abbrev entries_inside : LogicalType → EntryTypes
 entries_inside (mapping k v s n) = record { key = k; value = v; sorted = s }
 entries_inside k = record { key = k; value = k; sorted = false }
 
-abbrev mapping_of : EntryKinds → LogicalType
+abbrev mapping_of : EntryTypes → LogicalType
 mapping_of e = mapping e.key e.value e.sorted non_nullable
 
 -- maps are equal where their entries are
 pub maps_decided : (m l : MapDType) → IsTrue (eq_map m l) ↔ (entries_in m ≡ entries_in l)
 maps_decided m l =
-    let decides = eq_type-decides (map_kind m) (map_kind l) in
+    let decides = eq_type-decides (map_type_of m) (map_type_of l) in
     (λ e. ap entries_inside (decides.0 e), λ e. decides.1 (ap mapping_of e))
 
 pub ruleset tests = (one_level, unequal_lengths, unequal_bare_lengths, unequal_choices, unequal_bare_choices, true-and, false-and)

@@ -15,29 +15,29 @@ flag_itself true = refl
 flag_itself false = refl
 
 mutual
-  kind_itself : (k : LogicalType) → eq_type k k ≡ true
-  kind_itself null_only = refl
-  kind_itself (boolean_type n) = nullability_itself n
-  kind_itself (integer_type i n) = both_true (nat_eq_equiv.refl (int_kind_number i)) (nullability_itself n)
-  kind_itself (float f n) = both_true (nat_eq_equiv.refl (float_kind_number f)) (nullability_itself n)
-  kind_itself (decimal p s n) = both_true (both_true (nat_eq_equiv.refl p) (int_eq_equiv.refl s)) (nullability_itself n)
-  kind_itself (utf8 n) = nullability_itself n
-  kind_itself (binary n) = nullability_itself n
-  kind_itself (list k n) = both_true (kind_itself k) (nullability_itself n)
-  kind_itself (fixed_list k m n) = both_true (both_true (kind_itself k) (nat_eq_equiv.refl m)) (nullability_itself n)
-  kind_itself (mapping k v s n) = both_true (both_true (both_true (kind_itself k) (kind_itself v)) (flag_itself s)) (nullability_itself n)
-  kind_itself (struct fs n) = both_true (fields_itself fs) (nullability_itself n)
-  kind_itself (union vs n) = both_true (variants_itself vs) (nullability_itself n)
-  kind_itself (variant n) = nullability_itself n
-  kind_itself (extension x a k) = both_true (both_true (nat_list_eq_equiv.refl x) (nat_list_eq_equiv.refl a)) (kind_itself k)
+  type_itself : (k : LogicalType) → eq_type k k ≡ true
+  type_itself null_only = refl
+  type_itself (boolean_type n) = nullability_itself n
+  type_itself (integer_type i n) = both_true (nat_eq_equiv.refl (int_kind_number i)) (nullability_itself n)
+  type_itself (float f n) = both_true (nat_eq_equiv.refl (float_kind_number f)) (nullability_itself n)
+  type_itself (decimal p s n) = both_true (both_true (nat_eq_equiv.refl p) (int_eq_equiv.refl s)) (nullability_itself n)
+  type_itself (utf8 n) = nullability_itself n
+  type_itself (binary n) = nullability_itself n
+  type_itself (list k n) = both_true (type_itself k) (nullability_itself n)
+  type_itself (fixed_list k m n) = both_true (both_true (type_itself k) (nat_eq_equiv.refl m)) (nullability_itself n)
+  type_itself (mapping k v s n) = both_true (both_true (both_true (type_itself k) (type_itself v)) (flag_itself s)) (nullability_itself n)
+  type_itself (struct fs n) = both_true (fields_itself fs) (nullability_itself n)
+  type_itself (union vs n) = both_true (variants_itself vs) (nullability_itself n)
+  type_itself (variant n) = nullability_itself n
+  type_itself (extension x a k) = both_true (both_true (nat_list_eq_equiv.refl x) (nat_list_eq_equiv.refl a)) (type_itself k)
 
   fields_itself : (fs : Fields) → eq_fields fs fs ≡ true
   fields_itself no_fields = refl
-  fields_itself (field x k fs) = both_true (both_true (nat_list_eq_equiv.refl x) (kind_itself k)) (fields_itself fs)
+  fields_itself (field x k fs) = both_true (both_true (nat_list_eq_equiv.refl x) (type_itself k)) (fields_itself fs)
 
   variants_itself : (vs : Variants) → eq_variants vs vs ≡ true
   variants_itself no_variants = refl
-  variants_itself (choice x t k vs) = both_true (both_true (both_true (nat_list_eq_equiv.refl x) (int_eq_equiv.refl t)) (kind_itself k)) (variants_itself vs)
+  variants_itself (choice x t k vs) = both_true (both_true (both_true (nat_list_eq_equiv.refl x) (int_eq_equiv.refl t)) (type_itself k)) (variants_itself vs)
 
 -- two tests that pass together are equal
 together : (a b : Bool) → (a ≡ true → b ≡ true) → (b ≡ true → a ≡ true) → a ≡ b
@@ -77,10 +77,10 @@ variants_so : (vs ws : Variants) → eq_variants vs ws ≡ true → vs ≡ ws
 variants_so vs ws e = ap variants_inside (kind_so (union vs nullable) (union ws nullable) (both_true e refl))
 
 pub eq_type_equiv : IsEquivalence eq_type
-eq_type_equiv = exact_equiv eq_type kind_itself kind_so
+eq_type_equiv = exact_equiv eq_type type_itself kind_so
 
 pub eq_type-decides : (k l : LogicalType) → IsTrue (eq_type k l) ↔ (k ≡ l)
-eq_type-decides = exact_decides eq_type kind_itself kind_so
+eq_type-decides = exact_decides eq_type type_itself kind_so
 
 pub eq_fields_equiv : IsEquivalence eq_fields
 eq_fields_equiv = exact_equiv eq_fields fields_itself fields_so

@@ -5,7 +5,7 @@ use Rattle.std.specs.Ordering.{int_eq}
 use Rattle.std.specs.Option.{is_some}
 use Rattle.vortex_model.specs.LogicalType.{LogicalType, null_only, boolean_type, integer_type, float, decimal, utf8, binary, list, fixed_list, mapping, struct, union, variant, extension, Fields, no_fields, field, Variants, no_variants, choice}
 use Rattle.vortex_dtype_ptype.specs.Numbers.{NumberKind, integral, floating}
-use Rattle.vortex_dtype_core.specs.View.{EntryKinds}
+use Rattle.vortex_dtype_core.specs.View.{EntryTypes}
 
 -- all types but that of null alone, also where it stores an extension's values
 abbrev pub can_be_nonnullable : LogicalType → Bool
@@ -100,7 +100,7 @@ list_element (list k n) = Some k
 list_element (fixed_list k m n) = Some k
 list_element k = None
 
-abbrev pub entries_in_type : LogicalType → Option EntryKinds
+abbrev pub entries_in_type : LogicalType → Option EntryTypes
 entries_in_type (mapping k v s n) = Some (record { key = k; value = v; sorted = s })
 entries_in_type k = None
 

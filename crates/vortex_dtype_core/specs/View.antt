@@ -14,95 +14,95 @@ use Rattle.vortex_dtype_core.specs.declared.union_variants.UnionVariants.{UnionV
 use Rattle.vortex_dtype_core.specs.declared.union_variants.UnionVariant.{UnionVariant, fold-UnionVariant}
 
 -- a name and a type
-abbrev pub NamedKind : Type 0
-NamedKind = List ℕ × LogicalType
+abbrev pub NamedType : Type 0
+NamedType = List ℕ × LogicalType
 
 -- a name, a tag and a type
-abbrev pub TaggedKind : Type 0
-TaggedKind = List ℕ × (ℤ × LogicalType)
+abbrev pub TaggedType : Type 0
+TaggedType = List ℕ × (ℤ × LogicalType)
 
 -- what an entry of a map has, and whether keys are in order
-pub record EntryKinds : Type 0 where
+pub record EntryTypes : Type 0 where
   pub key : LogicalType
   pub value : LogicalType
   pub sorted : Bool
 
-abbrev pub fields_from : List NamedKind → Fields
+abbrev pub fields_from : List NamedType → Fields
 fields_from [] = no_fields
 fields_from (f ∷ fs) = field f.0 f.1 (fields_from fs)
 
-abbrev pub variants_from : List TaggedKind → Variants
+abbrev pub variants_from : List TaggedType → Variants
 variants_from [] = no_variants
 variants_from (v ∷ vs) = choice v.0 v.1.0 v.1.1 (variants_from vs)
 
 -- one level, with each type inside already seen
-abbrev pub kind_step : DType-F LogicalType LogicalType EntryKinds EntryKinds NamedKind Fields TaggedKind Variants → LogicalType
-kind_step DType-F.Null = null_only
-kind_step (DType-F.Bool n) = boolean_type (nullability_of_flag n)
-kind_step (DType-F.Primitive p n) = type_of_numbers (number_kind_of p) (nullability_of_flag n)
-kind_step (DType-F.Decimal d n) = decimal d.precision d.scale (nullability_of_flag n)
-kind_step (DType-F.Utf8 n) = utf8 (nullability_of_flag n)
-kind_step (DType-F.Binary n) = binary (nullability_of_flag n)
-kind_step (DType-F.List e n) = list e.value (nullability_of_flag n)
-kind_step (DType-F.FixedSizeList e size n) = fixed_list e.value size (nullability_of_flag n)
-kind_step (DType-F.Map m n) = mapping m.key m.value m.sorted (nullability_of_flag n)
-kind_step (DType-F.Struct fs n) = struct fs (nullability_of_flag n)
-kind_step (DType-F.Union vs n) = union vs (nullability_of_flag n)
-kind_step (DType-F.Variant n) = variant (nullability_of_flag n)
-kind_step (DType-F.Extension k) = k
+abbrev pub type_step : DType-F LogicalType LogicalType EntryTypes EntryTypes NamedType Fields TaggedType Variants → LogicalType
+type_step DType-F.Null = null_only
+type_step (DType-F.Bool n) = boolean_type (nullability_of_flag n)
+type_step (DType-F.Primitive p n) = type_of_numbers (number_kind_of p) (nullability_of_flag n)
+type_step (DType-F.Decimal d n) = decimal d.precision d.scale (nullability_of_flag n)
+type_step (DType-F.Utf8 n) = utf8 (nullability_of_flag n)
+type_step (DType-F.Binary n) = binary (nullability_of_flag n)
+type_step (DType-F.List e n) = list e.value (nullability_of_flag n)
+type_step (DType-F.FixedSizeList e size n) = fixed_list e.value size (nullability_of_flag n)
+type_step (DType-F.Map m n) = mapping m.key m.value m.sorted (nullability_of_flag n)
+type_step (DType-F.Struct fs n) = struct fs (nullability_of_flag n)
+type_step (DType-F.Union vs n) = union vs (nullability_of_flag n)
+type_step (DType-F.Variant n) = variant (nullability_of_flag n)
+type_step (DType-F.Extension k) = k
 
-abbrev pub extension_step : ExtDTypeRef-F LogicalType LogicalType EntryKinds EntryKinds NamedKind Fields TaggedKind Variants → LogicalType
+abbrev pub extension_step : ExtDTypeRef-F LogicalType LogicalType EntryTypes EntryTypes NamedType Fields TaggedType Variants → LogicalType
 extension_step x = extension x.id x.metadata x.storage.value
 
-abbrev pub map_step : MapDType-F LogicalType LogicalType EntryKinds EntryKinds NamedKind Fields TaggedKind Variants → EntryKinds
+abbrev pub map_step : MapDType-F LogicalType LogicalType EntryTypes EntryTypes NamedType Fields TaggedType Variants → EntryTypes
 map_step m = m.entries.value
 
-abbrev pub entries_step : MapEntries-F LogicalType LogicalType EntryKinds EntryKinds NamedKind Fields TaggedKind Variants → EntryKinds
+abbrev pub entries_step : MapEntries-F LogicalType LogicalType EntryTypes EntryTypes NamedType Fields TaggedType Variants → EntryTypes
 entries_step e = record { key = e.key; value = e.value; sorted = e.keys_sorted }
 
-abbrev pub field_step : StructField-F LogicalType LogicalType EntryKinds EntryKinds NamedKind Fields TaggedKind Variants → NamedKind
+abbrev pub field_step : StructField-F LogicalType LogicalType EntryTypes EntryTypes NamedType Fields TaggedType Variants → NamedType
 field_step f = (f.name, f.dtype)
 
-abbrev pub fields_step : StructFields-F LogicalType LogicalType EntryKinds EntryKinds NamedKind Fields TaggedKind Variants → Fields
+abbrev pub fields_step : StructFields-F LogicalType LogicalType EntryTypes EntryTypes NamedType Fields TaggedType Variants → Fields
 fields_step s = fields_from s.fields.value.items
 
-abbrev pub variant_step : UnionVariant-F LogicalType LogicalType EntryKinds EntryKinds NamedKind Fields TaggedKind Variants → TaggedKind
+abbrev pub variant_step : UnionVariant-F LogicalType LogicalType EntryTypes EntryTypes NamedType Fields TaggedType Variants → TaggedType
 variant_step v = (v.name, (v.tag, v.dtype))
 
-abbrev pub variants_step : UnionVariants-F LogicalType LogicalType EntryKinds EntryKinds NamedKind Fields TaggedKind Variants → Variants
+abbrev pub variants_step : UnionVariants-F LogicalType LogicalType EntryTypes EntryTypes NamedType Fields TaggedType Variants → Variants
 variants_step u = variants_from u.variants.value.items
 
 -- the type that a `DType` is
 abbrev pub type_of : DType → LogicalType
-type_of = fold-DType LogicalType LogicalType EntryKinds EntryKinds NamedKind Fields TaggedKind Variants kind_step extension_step map_step entries_step field_step fields_step variant_step variants_step
+type_of = fold-DType LogicalType LogicalType EntryTypes EntryTypes NamedType Fields TaggedType Variants type_step extension_step map_step entries_step field_step fields_step variant_step variants_step
 
 -- the type that an `ExtDTypeRef` is
 abbrev pub extension_type : ExtDTypeRef → LogicalType
-extension_type = fold-ExtDTypeRef LogicalType LogicalType EntryKinds EntryKinds NamedKind Fields TaggedKind Variants kind_step extension_step map_step entries_step field_step fields_step variant_step variants_step
+extension_type = fold-ExtDTypeRef LogicalType LogicalType EntryTypes EntryTypes NamedType Fields TaggedType Variants type_step extension_step map_step entries_step field_step fields_step variant_step variants_step
 
 -- what an entry of a `MapDType` has
-abbrev pub entries_in : MapDType → EntryKinds
-entries_in = fold-MapDType LogicalType LogicalType EntryKinds EntryKinds NamedKind Fields TaggedKind Variants kind_step extension_step map_step entries_step field_step fields_step variant_step variants_step
+abbrev pub entries_in : MapDType → EntryTypes
+entries_in = fold-MapDType LogicalType LogicalType EntryTypes EntryTypes NamedType Fields TaggedType Variants type_step extension_step map_step entries_step field_step fields_step variant_step variants_step
 
-abbrev pub entries_of : MapEntries → EntryKinds
-entries_of = fold-MapEntries LogicalType LogicalType EntryKinds EntryKinds NamedKind Fields TaggedKind Variants kind_step extension_step map_step entries_step field_step fields_step variant_step variants_step
+abbrev pub entries_of : MapEntries → EntryTypes
+entries_of = fold-MapEntries LogicalType LogicalType EntryTypes EntryTypes NamedType Fields TaggedType Variants type_step extension_step map_step entries_step field_step fields_step variant_step variants_step
 
 -- the fields that `StructFields` are
 abbrev pub fields_in : StructFields → Fields
-fields_in = fold-StructFields LogicalType LogicalType EntryKinds EntryKinds NamedKind Fields TaggedKind Variants kind_step extension_step map_step entries_step field_step fields_step variant_step variants_step
+fields_in = fold-StructFields LogicalType LogicalType EntryTypes EntryTypes NamedType Fields TaggedType Variants type_step extension_step map_step entries_step field_step fields_step variant_step variants_step
 
-abbrev pub field_of : StructField → NamedKind
-field_of = fold-StructField LogicalType LogicalType EntryKinds EntryKinds NamedKind Fields TaggedKind Variants kind_step extension_step map_step entries_step field_step fields_step variant_step variants_step
+abbrev pub field_of : StructField → NamedType
+field_of = fold-StructField LogicalType LogicalType EntryTypes EntryTypes NamedType Fields TaggedType Variants type_step extension_step map_step entries_step field_step fields_step variant_step variants_step
 
 abbrev pub fields_of : List StructField → Fields
 fields_of fs = fields_from (map field_of fs)
 
 -- the choices that `UnionVariants` are
 abbrev pub variants_in : UnionVariants → Variants
-variants_in = fold-UnionVariants LogicalType LogicalType EntryKinds EntryKinds NamedKind Fields TaggedKind Variants kind_step extension_step map_step entries_step field_step fields_step variant_step variants_step
+variants_in = fold-UnionVariants LogicalType LogicalType EntryTypes EntryTypes NamedType Fields TaggedType Variants type_step extension_step map_step entries_step field_step fields_step variant_step variants_step
 
-abbrev pub variant_of : UnionVariant → TaggedKind
-variant_of = fold-UnionVariant LogicalType LogicalType EntryKinds EntryKinds NamedKind Fields TaggedKind Variants kind_step extension_step map_step entries_step field_step fields_step variant_step variants_step
+abbrev pub variant_of : UnionVariant → TaggedType
+variant_of = fold-UnionVariant LogicalType LogicalType EntryTypes EntryTypes NamedType Fields TaggedType Variants type_step extension_step map_step entries_step field_step fields_step variant_step variants_step
 
 abbrev pub variants_of : List UnionVariant → Variants
 variants_of vs = variants_from (map variant_of vs)
@@ -118,11 +118,11 @@ abbrev pub eq_union_variants : UnionVariants → UnionVariants → Bool
 eq_union_variants u v = eq_variants (variants_in u) (variants_in v)
 
 -- the type of maps of these entries
-abbrev pub map_kind : MapDType → LogicalType
-map_kind m = mapping (entries_in m).key (entries_in m).value (entries_in m).sorted non_nullable
+abbrev pub map_type_of : MapDType → LogicalType
+map_type_of m = mapping (entries_in m).key (entries_in m).value (entries_in m).sorted non_nullable
 
 abbrev pub eq_map : MapDType → MapDType → Bool
-eq_map m l = eq_type (map_kind m) (map_kind l)
+eq_map m l = eq_type (map_type_of m) (map_type_of l)
 
 abbrev pub eq_extension : ExtDTypeRef → ExtDTypeRef → Bool
 eq_extension x y = eq_type (extension_type x) (extension_type y)

@@ -2,7 +2,7 @@
 ghost use Rattle.std.specs.Prelude.{◌≡◌, ◌↔◌, IsTrue};
 ghost use Rattle.std.specs.Cmp.{on_equiv, partial_equiv_from_equiv};
 ghost use Rattle.vortex_model.specs.LogicalType.{eq_type, eq_fields, eq_variants};
-ghost use Rattle.vortex_dtype_core.specs.View.{type_of, extension_type, entries_in, fields_in, fields_of, variants_in, variants_of, map_kind, eq_dtype, eq_map, eq_struct_fields, eq_union_variants, eq_extension};
+ghost use Rattle.vortex_dtype_core.specs.View.{type_of, extension_type, entries_in, fields_in, fields_of, variants_in, variants_of, map_type_of, eq_dtype, eq_map, eq_struct_fields, eq_union_variants, eq_extension};
 ghost use Rattle.vortex_dtype_core.specs.Equal.{eq_type_equiv, eq_fields_equiv, eq_variants_equiv};
 
 use crate::dtype::DType;
@@ -69,7 +69,7 @@ impl Eq for UnionVariants {
 impl PartialEq for MapDType {
     ghost eq = { eq_map };
 
-    ghost laws = { partial_equiv_from_equiv (on_equiv map_kind eq_type_equiv) };
+    ghost laws = { partial_equiv_from_equiv (on_equiv map_type_of eq_type_equiv) };
 
     #[tactic(auto, using(crate::proofs::Tests::maps_decided))]
     fn eq(&self, other: &MapDType) -> bool
@@ -81,7 +81,7 @@ impl PartialEq for MapDType {
 }
 
 impl Eq for MapDType {
-    ghost laws = { on_equiv map_kind eq_type_equiv };
+    ghost laws = { on_equiv map_type_of eq_type_equiv };
 }
 
 impl PartialEq for ExtDTypeRef {

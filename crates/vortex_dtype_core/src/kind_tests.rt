@@ -23,7 +23,7 @@ use crate::dtype::DType;
 
 impl DType {
     /// Whether the values are truth values.
-    #[tactic(auto, using(crate::proofs::Others::other_than_truths))]
+    #[tactic(auto, using(crate::proofs::Others::other_than_booleans))]
     pub fn is_boolean(&self) -> bool
         ensures { result ≡ is_boolean_type (type_of self.now) }
     {

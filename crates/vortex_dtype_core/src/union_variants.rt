@@ -50,12 +50,12 @@ impl UnionVariants {
         if names.len() != dtypes.len() || tags.len() != dtypes.len() || has_repeated(&tags) {
             return Err(DTypeError::UnionShape);
         }
-        let all = UnionVariants::place_by_place(names, dtypes, &tags)?;
+        let all = UnionVariants::by_index(names, dtypes, &tags)?;
         Ok(all)
     }
 
     #[tactic(auto, using(crate::proofs::Views::built))]
-    fn place_by_place(
+    fn by_index(
         names: FieldNames,
         dtypes: Vec<DType>,
         tags: &[i8],

@@ -9,7 +9,7 @@ use Rattle.std.proofs.lemmas.Map.Text.{is_eq-slice_cmp}
 use Rattle.vortex_model.specs.Kept.{has_name}
 use Rattle.vortex_model.specs.LogicalType.{Fields, no_fields, field}
 use Rattle.vortex_model.specs.Path.{position_named}
-use Rattle.vortex_dtype_core.specs.View.{type_of, field_of, fields_of, fields_from, NamedKind}
+use Rattle.vortex_dtype_core.specs.View.{type_of, field_of, fields_of, fields_from, NamedType}
 use Rattle.vortex_dtype_core.specs.declared.struct_fields.StructField.{StructField}
 use Rattle.vortex_dtype_core.specs.Parts.{field_count}
 use Rattle.vortex_dtype_core.proofs.Views.{field_of-parts, field_count-fields_of}
@@ -28,7 +28,7 @@ pub ruleset types_in_order = (types_along)
 
 -- ---- places
 
-without_at : (ns : List NamedKind) (i : ℕ) → fields_from (take i ns ++ drop (suc i) ns) ≡ fields_without (fields_from ns) i
+without_at : (ns : List NamedType) (i : ℕ) → fields_from (take i ns ++ drop (suc i) ns) ≡ fields_without (fields_from ns) i
 without_at [] zero = refl
 without_at [] (suc i) = refl
 without_at (n ∷ ns) zero = refl
@@ -42,7 +42,7 @@ without-place fs front all i h g =
     ∙ ap (λ ns. take i (map field_of fs) ++ ns) (ap (λ n. map field_of (drop n fs)) (add-one i) ∙ sym (drop-map field_of (suc i) fs)) in
     ap fields_from split ∙ without_at (map field_of fs) i
 
-pub joined-from : (ms ns : List NamedKind) → fields_from (ms ++ ns) ≡ joined (fields_from ms) (fields_from ns)
+pub joined-from : (ms ns : List NamedType) → fields_from (ms ++ ns) ≡ joined (fields_from ms) (fields_from ns)
 joined-from [] ns = refl
 joined-from (m ∷ ms) ns = ap (λ fs. field m.0 m.1 fs) (joined-from ms ns)
 

@@ -3,12 +3,12 @@ use Rattle.std.proofs.Common.{◌≡◌, ◌++◌, ◌<◌, ◌≤◌, ◌+◌, 
 use Rattle.std.proofs.Math.ListN.{drop_of_length-le}
 use Rattle.std.proofs.lemmas.List.{map-append}
 use Rattle.vortex_model.specs.LogicalType.{LogicalType, Fields, no_fields, field}
-use Rattle.vortex_dtype_core.specs.View.{NamedKind, type_of, field_of, fields_of, fields_from}
+use Rattle.vortex_dtype_core.specs.View.{NamedType, type_of, field_of, fields_of, fields_from}
 use Rattle.vortex_dtype_core.specs.declared.struct_fields.StructField.{StructField}
 use Rattle.vortex_dtype_core.proofs.Views.{field_of-parts}
 use Rattle.vortex_dtype_fields.specs.Records.{type_named, projected, joined}
 
-abbrev pub projected_onto : List NamedKind → Fields → List (List ℕ) → Option (List NamedKind)
+abbrev pub projected_onto : List NamedType → Fields → List (List ℕ) → Option (List NamedType)
 projected_onto front fs [] = Some front
 projected_onto front fs (x ∷ xs) = elim (type_named fs x) [ None ↦ None | Some k ↦ projected_onto (front ++ (x, k) ∷ []) fs xs ]
 
@@ -16,16 +16,16 @@ joined-none : (fs : Fields) → joined fs no_fields ≡ fs
 joined-none no_fields = refl
 joined-none (field x k fs) = ap (λ gs. field x k gs) (joined-none fs)
 
-joined-next : (ns : List NamedKind) (x : List ℕ) (k : LogicalType) (gs : Fields) → joined (fields_from (ns ++ (x, k) ∷ [])) gs ≡ joined (fields_from ns) (field x k gs)
+joined-next : (ns : List NamedType) (x : List ℕ) (k : LogicalType) (gs : Fields) → joined (fields_from (ns ++ (x, k) ∷ [])) gs ≡ joined (fields_from ns) (field x k gs)
 joined-next [] x k gs = refl
 joined-next (n ∷ ns) x k gs = ap (λ fs. field n.0 n.1 fs) (joined-next ns x k gs)
 
-rest_joined : (front : List NamedKind) (x : List ℕ) (k : LogicalType) (rest : Option Fields) →
+rest_joined : (front : List NamedType) (x : List ℕ) (k : LogicalType) (rest : Option Fields) →
     option_map (joined (fields_from (front ++ (x, k) ∷ []))) rest ≡ option_map (joined (fields_from front)) (option_map (field x k) rest)
 rest_joined front x k None = refl
 rest_joined front x k (Some gs) = ap (λ hs. Some hs) (joined-next front x k gs)
 
-behind : (front : List NamedKind) (fs : Fields) (xs : List (List ℕ)) →
+behind : (front : List NamedType) (fs : Fields) (xs : List (List ℕ)) →
     option_map fields_from (projected_onto front fs xs) ≡ option_map (joined (fields_from front)) (projected fs xs)
 behind front fs [] = ap (λ gs. Some gs) (sym (joined-none (fields_from front)))
 behind front fs (x ∷ xs) =
@@ -42,7 +42,7 @@ joined-first (Some gs) = refl
 pub projected-onto : (fs : Fields) (xs : List (List ℕ)) → option_map fields_from (projected_onto [] fs xs) ≡ projected fs xs
 projected-onto fs xs = behind [] fs xs ∙ joined-first (projected fs xs)
 
-onto_first : (front : List NamedKind) (fs : Fields) (xs : List (List ℕ)) (i : ℕ) (x : List ℕ) (found : Option LogicalType) →
+onto_first : (front : List NamedType) (fs : Fields) (xs : List (List ℕ)) (i : ℕ) (x : List ℕ) (found : Option LogicalType) →
     i < length xs → x ≡ get_or xs i x → found ≡ type_named fs x →
     projected_onto front fs (drop i xs) ≡ elim found [ None ↦ None | Some k ↦ projected_onto (front ++ (x, k) ∷ []) fs (drop (i + 1) xs) ]
 onto_first front fs xs i x found h e g =
@@ -50,7 +50,7 @@ onto_first front fs xs i x found h e g =
     ap (λ ys. projected_onto front fs ys) split ∙ ap (λ o. elim o [ None ↦ None | Some k ↦ projected_onto (front ++ (x, k) ∷ []) fs (drop (i + 1) xs) ]) (sym g)
 
 -- a name that has no field
-pub onto_missed : (front : List NamedKind) (fs : Fields) (xs : List (List ℕ)) (i : ℕ) (x : List ℕ) →
+pub onto_missed : (front : List NamedType) (fs : Fields) (xs : List (List ℕ)) (i : ℕ) (x : List ℕ) →
     i < length xs → x ≡ get_or xs i x → None ≡ type_named fs x → projected_onto front fs (drop i xs) ≡ projected_onto [] fs xs → projected fs xs ≡ None
 onto_missed front fs xs i x h e g whole =
     sym (projected-onto fs xs) ∙ ap (λ o. option_map fields_from o) (sym whole ∙ onto_first front fs xs i x None h e g)

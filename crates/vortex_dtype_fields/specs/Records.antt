@@ -10,7 +10,7 @@ use Rattle.vortex_model.specs.LogicalType.{LogicalType, struct, non_nullable, Fi
 use Rattle.vortex_model.specs.Path.{position_named, field_at}
 use Rattle.vortex_model.specs.Kept.{has_name}
 use Rattle.vortex_dtype_core.specs.Parts.{is_distinct, variant_count}
-use Rattle.vortex_dtype_core.specs.View.{EntryKinds}
+use Rattle.vortex_dtype_core.specs.View.{EntryTypes}
 
 -- ---- fields
 
@@ -116,5 +116,5 @@ TagsLeadBack = (vs : Variants) (i : ℕ) → is_distinct (tags_of vs) ≡ true �
 -- ---- entries of maps
 
 -- the record that an entry is
-abbrev pub entry_type : EntryKinds → LogicalType
+abbrev pub entry_type : EntryTypes → LogicalType
 entry_type e = struct (field (codes "key") e.key (field (codes "value") e.value no_fields)) non_nullable

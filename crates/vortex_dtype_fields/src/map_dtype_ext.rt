@@ -1,6 +1,6 @@
 //! The records that a map's entries are.
 ghost use Rattle.std.specs.Prelude.{◌≡◌, [], ◌∷◌, IfOk};
-ghost use Rattle.vortex_dtype_core.specs.View.{EntryKinds, type_of, field_of, fields_of, fields_in, entries_in};
+ghost use Rattle.vortex_dtype_core.specs.View.{EntryTypes, type_of, field_of, fields_of, fields_in, entries_in};
 ghost use Rattle.vortex_dtype_fields.specs.Records.{entry_type};
 
 use std::alloc::{AllocError, Global};
@@ -12,7 +12,7 @@ use vortex_dtype_ptype::nullability::Nullability;
 
 /// What can be asked of a map's entries.
 pub trait MapDTypeExt {
-    ghost entries: { Self → EntryKinds };
+    ghost entries: { Self → EntryTypes };
 
     /// The type of an entry: a record of `key` and `value`, without null.
     fn entries_dtype(&self, alloc: Global) -> Result<DType, AllocError>

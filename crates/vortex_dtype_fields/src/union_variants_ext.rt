@@ -92,7 +92,7 @@ impl UnionVariantsExt for UnionVariants {
     }
 
     fn find(&self, name: &FieldName) -> Option<usize> {
-        place_of_name(self.as_slice(), name)
+        index_of_name(self.as_slice(), name)
     }
 
     fn variant(&self, name: &FieldName) -> Option<&DType> {
@@ -114,7 +114,7 @@ impl UnionVariantsExt for UnionVariants {
     }
 
     fn tag_to_child_index(&self, tag: i8) -> Option<usize> {
-        place_of_tag(self.as_slice(), tag)
+        index_of_tag(self.as_slice(), tag)
     }
 
     #[tactic(auto, using(crate::proofs::Choices::at_places))]
@@ -174,7 +174,7 @@ fn are_counted(variants: &[UnionVariant]) -> bool
 }
 
 #[tactic(auto, using(crate::proofs::Choices::at_places))]
-fn place_of_name(variants: &[UnionVariant], name: &FieldName) -> Option<usize>
+fn index_of_name(variants: &[UnionVariant], name: &FieldName) -> Option<usize>
     ensures { result ≡ variant_position (variants_of variants.now) name.now }
 {
     for (place, variant) in variants.iter().enumerate() {
@@ -186,7 +186,7 @@ fn place_of_name(variants: &[UnionVariant], name: &FieldName) -> Option<usize>
 }
 
 #[tactic(auto, using(crate::proofs::Choices::at_places))]
-fn place_of_tag(variants: &[UnionVariant], tag: i8) -> Option<usize>
+fn index_of_tag(variants: &[UnionVariant], tag: i8) -> Option<usize>
     ensures { result ≡ tag_position (variants_of variants.now) tag }
 {
     for (place, variant) in variants.iter().enumerate() {

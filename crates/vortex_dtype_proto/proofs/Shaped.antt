@@ -10,7 +10,7 @@ use Rattle.vortex_dtype_core.specs.Parts.{is_union_shape, is_distinct}
 use Rattle.vortex_dtype_core.specs.declared.dtype.DType.{DType}
 use Rattle.vortex_dtype_proto.specs.Sessions.{Session, admit}
 use Rattle.vortex_dtype_proto.specs.Shapes.{IsShaped, FieldsShaped, VariantsShaped}
-use Rattle.vortex_dtype_proto.specs.Messages.{Form, nulls, truths, texts, blobs, variants, numbers, decimals, lists, fixed_lists, maps, records, unions, extended, Tree, node, Trees, no_trees, tree, Reading, read, malformed, refused_by_plugin, read_if, are_tags, nullability_flagged, is_flag_of, admitted_as, row, with_children, then_rest, reading, readings, variant_tags}
+use Rattle.vortex_dtype_proto.specs.Messages.{Form, nulls, booleans, texts, byte_strings, variants, numbers, decimals, lists, fixed_lists, maps, records, unions, extended, Tree, node, Trees, no_trees, tree, Reading, read, malformed, refused_by_plugin, read_if, are_tags, nullability_flagged, is_flag_of, admitted_as, row, with_children, then_rest, reading, readings, variant_tags}
 use Rattle.vortex_dtype_proto.specs.View.{Gives}
 
 abbrev AllShaped : List LogicalType → Type 0
@@ -82,12 +82,12 @@ row_shaped : (s : Session) (form : Form) (flag : Bool) (ks : List LogicalType) (
 row_shaped s nulls true [] k a h = is_read _ k h tt
 row_shaped s nulls false [] k a h = absurd (cc (h))
 row_shaped s nulls flag (j ∷ ks) k a h = absurd (cc (h))
-row_shaped s truths flag [] k a h = is_read _ k h tt
-row_shaped s truths flag (j ∷ ks) k a h = absurd (cc (h))
+row_shaped s booleans flag [] k a h = is_read _ k h tt
+row_shaped s booleans flag (j ∷ ks) k a h = absurd (cc (h))
 row_shaped s texts flag [] k a h = is_read _ k h tt
 row_shaped s texts flag (j ∷ ks) k a h = absurd (cc (h))
-row_shaped s blobs flag [] k a h = is_read _ k h tt
-row_shaped s blobs flag (j ∷ ks) k a h = absurd (cc (h))
+row_shaped s byte_strings flag [] k a h = is_read _ k h tt
+row_shaped s byte_strings flag (j ∷ ks) k a h = absurd (cc (h))
 row_shaped s variants flag [] k a h = is_read _ k h tt
 row_shaped s variants flag (j ∷ ks) k a h = absurd (cc (h))
 row_shaped s (numbers p) flag [] k a h = is_read _ k h (numbers_shaped p _)

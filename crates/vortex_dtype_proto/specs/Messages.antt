@@ -11,9 +11,9 @@ use Rattle.vortex_dtype_proto.specs.Sessions.{Session, admit}
 -- their keys are sorted, records names, unions names and tags, and extensions an id and perhaps metadata.
 pub data Form : Type 0 where
   nulls : Form
-  truths : Form
+  booleans : Form
   texts : Form
-  blobs : Form
+  byte_strings : Form
   variants : Form
   numbers : NumberKind → Form
   decimals : ℤ → ℤ → Form
@@ -82,9 +82,9 @@ two_children ks f = malformed
 -- The table: the type of a node with this flag whose children have these types.
 abbrev pub row : Session → Form → Bool → List LogicalType → Reading LogicalType
 row s nulls flag ks = childless ks (read_if flag null_only)
-row s truths flag ks = childless ks (read (boolean_type (nullability_flagged flag)))
+row s booleans flag ks = childless ks (read (boolean_type (nullability_flagged flag)))
 row s texts flag ks = childless ks (read (utf8 (nullability_flagged flag)))
-row s blobs flag ks = childless ks (read (binary (nullability_flagged flag)))
+row s byte_strings flag ks = childless ks (read (binary (nullability_flagged flag)))
 row s variants flag ks = childless ks (read (variant (nullability_flagged flag)))
 row s (numbers p) flag ks = childless ks (read (type_of_numbers p (nullability_flagged flag)))
 row s (decimals p q) flag ks = childless ks (decimal_shaped p q (nullability_flagged flag))
@@ -141,12 +141,12 @@ variant_tags (choice x t k vs) = t ∷ variant_tags vs
 abbrev mutual
   pub written : LogicalType → Tree
   written null_only = node nulls true no_trees
-  written (boolean_type n) = leaf truths n
+  written (boolean_type n) = leaf booleans n
   written (integer_type i n) = leaf (numbers (integral i)) n
   written (float f n) = leaf (numbers (floating f)) n
   written (decimal p s n) = leaf (decimals (pos p) s) n
   written (utf8 n) = leaf texts n
-  written (binary n) = leaf blobs n
+  written (binary n) = leaf byte_strings n
   written (list k n) = node lists (is_nullable n) (tree (written k) no_trees)
   written (fixed_list k m n) = node (fixed_lists m) (is_nullable n) (tree (written k) no_trees)
   written (mapping k v sorted n) = node (maps sorted) (is_nullable n) (tree (written k) (tree (written v) no_trees))

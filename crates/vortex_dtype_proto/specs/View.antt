@@ -3,7 +3,7 @@ use Rattle.std.specs.Prelude.{◌≡◌, List, [], ◌∷◌, map, Result, Ok, E
 use Rattle.vortex_dtype_ptype.specs.declared.error.DTypeError.{DTypeError}
 use Rattle.vortex_dtype_ptype.specs.declared.error.DTypeError.TheVariants.{Memory, Malformed, Plugin}
 use Rattle.vortex_dtype_ptype.specs.View.{number_kind_of}
-use Rattle.vortex_dtype_proto.specs.Messages.{Form, nulls, truths, texts, blobs, variants, numbers, decimals, lists, fixed_lists, maps, records, unions, extended, Tree, node, Trees, no_trees, tree, Reading, read, malformed, refused_by_plugin}
+use Rattle.vortex_dtype_proto.specs.Messages.{Form, nulls, booleans, texts, byte_strings, variants, numbers, decimals, lists, fixed_lists, maps, records, unions, extended, Tree, node, Trees, no_trees, tree, Reading, read, malformed, refused_by_plugin}
 use Rattle.vortex_dtype_proto.specs.declared.message.MessageKind.{MessageKind}
 use Rattle.vortex_dtype_proto.specs.declared.message.MessageKind.TheVariants as kind
 use Rattle.vortex_dtype_proto.specs.declared.message.Message.{Message, fold-Message}
@@ -11,9 +11,9 @@ use Rattle.vortex_dtype_proto.specs.declared.message.Message.TheOpen.{Message-F}
 
 abbrev pub form_of : MessageKind → Form
 form_of kind.Null = nulls
-form_of kind.Bool = truths
+form_of kind.Bool = booleans
 form_of kind.Utf8 = texts
-form_of kind.Binary = blobs
+form_of kind.Binary = byte_strings
 form_of kind.Variant = variants
 form_of (kind.Primitive p) = numbers (number_kind_of p)
 form_of (kind.Decimal p s) = decimals p s

@@ -266,14 +266,14 @@ b = codes "b"
 abbrev pub B : LogicalType
 B = one b (binary non_nullable)
 
-abbrev pub blobs : List (List ℕ) → List Raw
-blobs bs = map (λ x. raw_row (raw_byte_string x)) bs
+abbrev pub byte_strings : List (List ℕ) → List Raw
+byte_strings bs = map (λ x. raw_row (raw_byte_string x)) bs
 
 abbrev pub lit_blob : List ℕ → Expression
 lit_blob x = literal (binary non_nullable) (byte_string x)
 
 abbrev pub tops : List Command
-tops = create B 2 [] ∷ append B (blobs ((0xff ∷ 0xff ∷ 0xff ∷ []) ∷ [])) ∷ []
+tops = create B 2 [] ∷ append B (byte_strings ((0xff ∷ 0xff ∷ 0xff ∷ []) ∷ [])) ∷ []
 
 tops_bounds : bounds_in (made tops) (0 ∷ []) 0 ≡ Some (inexact (byte_string (0xff ∷ 0xff ∷ [])), absent)
 tops_bounds = refl
@@ -286,12 +286,12 @@ abbrev pub and_more : List Command → List Command → List Command
 and_more [] ds = ds
 and_more (c ∷ cs) ds = c ∷ and_more cs ds
 
-tops_joined : zone_in (made (and_more tops (append B (blobs ((0 ∷ []) ∷ [])) ∷ join 0 ∷ []))) (0 ∷ []) 0
+tops_joined : zone_in (made (and_more tops (append B (byte_strings ((0 ∷ []) ∷ [])) ∷ join 0 ∷ []))) (0 ∷ []) 0
     ≡ Some (record { low = exact (byte_string (0 ∷ [])); high = absent; nulls = 0; rows = 2; total = absent; constant = absent })
 tops_joined = refl
 
 abbrev pub carries : List Command
-carries = create B 3 [] ∷ append B (blobs ((0x61 ∷ 0xff ∷ 0xff ∷ 0xff ∷ []) ∷ [])) ∷ append B (blobs ((0x62 ∷ []) ∷ [])) ∷ []
+carries = create B 3 [] ∷ append B (byte_strings ((0x61 ∷ 0xff ∷ 0xff ∷ 0xff ∷ []) ∷ [])) ∷ append B (byte_strings ((0x62 ∷ []) ∷ [])) ∷ []
 
 carries_bounds : bounds_in (made (and_more carries (join 0 ∷ []))) (0 ∷ []) 0
     ≡ Some (inexact (byte_string (0x61 ∷ 0xff ∷ 0xff ∷ [])), inexact (byte_string (0x62 ∷ 0 ∷ 0 ∷ [])))

@@ -3,7 +3,7 @@ use Rattle.std.proofs.Common.{◌≡◌, refl, subst, ℕ, List, false}
 use Rattle.vortex_model.specs.LogicalType.{LogicalType, boolean_type, integer_type, utf8, binary, list, fixed_list, mapping, struct, union, variant, extension, Fields, no_fields, field, nullable, stored, nullability_of, with_nullability, IsNullable}
 use Rattle.vortex_model.specs.Content.{Content, null, boolean, integer, text, byte_string, tuple, tagged, scalar, Contents, nothing, first}
 use Rattle.vortex_model.specs.Valid.{Holds, AllHold, FieldsHold}
-use Rattle.vortex_model.specs.Convert.{Converts, AllConvert, FieldsConvert, SameOutside}
+use Rattle.vortex_model.specs.Convert.{Converts, AllConvert, FieldsConvert, EqualOutside}
 use Rattle.vortex_model.specs.Content.{is_null}
 
 -- outer nullability matters to null alone
@@ -17,7 +17,7 @@ tightened (extension id meta k) c e h = tightened k c e h
 tightened k null e h = absurd (cc (e))
 tightened k c e h = h
 
-eq_holds : (s t : LogicalType) (c : Content) → is_null c ≡ false → SameOutside s t → Holds (stored s) c → Holds (stored t) c
+eq_holds : (s t : LogicalType) (c : Content) → is_null c ≡ false → EqualOutside s t → Holds (stored s) c → Holds (stored t) c
 eq_holds s t c e p h = tightened t c e (subst (λ k. Holds (stored k) c) p (loosened s c h))
 
 null_held : (t : LogicalType) → IsNullable (nullability_of t) → IsNullable (nullability_of (stored t))

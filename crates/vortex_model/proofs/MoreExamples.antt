@@ -18,7 +18,7 @@ use Rattle.vortex_model.specs.Expression.{row_count}
 use Rattle.vortex_model.specs.Kept.{type_fault}
 use Rattle.vortex_model.specs.Convert.{converts}
 use Rattle.vortex_model.specs.Class.{is_single_use, is_wide}
-use Rattle.vortex_model.proofs.Examples.{B, blobs, number, one, raw_row, raw_record, row, record_of, n32, rows32, a, A, path, col, lit32, made, filled, answer_of, refused, refused_there, numbers, s, S, lit_text, texts, zone_in, bounds_in, b, and_more, lit_true, N}
+use Rattle.vortex_model.proofs.Examples.{B, byte_strings, number, one, raw_row, raw_record, row, record_of, n32, rows32, a, A, path, col, lit32, made, filled, answer_of, refused, refused_there, numbers, s, S, lit_text, texts, zone_in, bounds_in, b, and_more, lit_true, N}
 
 -- ---- bounds
 
@@ -285,7 +285,7 @@ highest_first : bounds_in (made (create S 4 [] ∷ append S (texts ((0xf4 ∷ 0x
 unfolding chars is_utf8 lib.Utf8.encode
 highest_first = refl
 
-middle_counted : bounds_in (made (create B 2 [] ∷ append B (blobs ((0xff ∷ 0 ∷ 0xff ∷ []) ∷ [])) ∷ [])) (0 ∷ []) 0
+middle_counted : bounds_in (made (create B 2 [] ∷ append B (byte_strings ((0xff ∷ 0 ∷ 0xff ∷ []) ∷ [])) ∷ [])) (0 ∷ []) 0
     ≡ Some (inexact (byte_string (0xff ∷ 0 ∷ [])), inexact (byte_string (0xff ∷ 1 ∷ [])))
 middle_counted = refl
 

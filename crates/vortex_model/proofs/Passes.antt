@@ -10,7 +10,7 @@ use Rattle.std.proofs.lemmas.Str.{is_utf8-from_IsUtf8}
 use Rattle.vortex_model.specs.LogicalType.{LogicalType, null_only, boolean_type, integer_type, float, decimal, utf8, binary, list, fixed_list, mapping, struct, union, variant, extension, Fields, no_fields, field, Variants, no_variants, choice, Nullability, non_nullable, nullable, stored, nullability_of, type_tagged, IsNullable, IntKind, eq_nullability, eq_flag, eq_int_kind, eq_type, eq_fields, eq_variants, is_nullable, with_nullability}
 use Rattle.vortex_model.specs.Content.{Content, null, boolean, integer, text, byte_string, tuple, tagged, scalar, Contents, nothing, first, count, Raw, raw_null, raw_boolean, raw_number, raw_text, raw_byte_string, raw_tuple, raw_tagged, raw_scalar, Raws, no_raws, raw_first, raw_count}
 use Rattle.vortex_model.specs.Valid.{InRange, in_range, least_number, greatest_number, AreBytes, are_bytes, Has, AllHave, EntriesHave, FieldsHave, has, all_have, entries_have, fields_have}
-use Rattle.vortex_model.specs.Convert.{Converts, AllConvert, FieldsConvert, SameOutside, eq_outside, converts, all_convert, fields_convert}
+use Rattle.vortex_model.specs.Convert.{Converts, AllConvert, FieldsConvert, EqualOutside, eq_outside, converts, all_convert, fields_convert}
 
 two_pass : (c d : Bool) → c ≡ true → d ≡ true → c && d ≡ true
 two_pass true d p q = q
@@ -118,7 +118,7 @@ mutual
   fields_pass (field x k fs) (raw_first r rs) h = two_pass _ _ (has_passes (stored k) r h.0) (fields_pass fs rs h.1)
   fields_pass fs rs h = absurd h
 
-outside_passes : (s t : LogicalType) → SameOutside s t → eq_outside s t ≡ true
+outside_passes : (s t : LogicalType) → EqualOutside s t → eq_outside s t ≡ true
 outside_passes s t e = kinds_pass (with_nullability nullable s) (with_nullability nullable t) e
 
 mutual

@@ -13,9 +13,9 @@ pub use vortex_scalar_convert::laws::{
     tied_values_are_equal, values_cast_to_their_type,
 };
 pub use vortex_scalar_ops::laws::{
-    eq_values_are_fed_alike, eq_values_compare_alike, order_is_transitive, order_turns,
-    plain_types_have_plain_values, sameness_is_an_equivalence, tied_values_are_the_same,
-    values_of_a_type_compare,
+    eq_values_are_fed_alike, eq_values_compare_alike, equality_is_an_equivalence,
+    order_is_transitive, order_turns, plain_types_have_plain_values, values_of_a_type_compare,
+    values_that_tie_are_equal,
 };
 pub use vortex_scalar_truncation::laws::{
     bounds_are_well_formed, bounds_fit, highs_are_of_the_function, highs_are_unique,

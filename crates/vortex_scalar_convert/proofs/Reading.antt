@@ -9,15 +9,15 @@ use Rattle.vortex_scalar_value.specs.View.{raws_in, content_in, content_at}
 use Rattle.vortex_scalar_value.specs.declared.scalar_value.ScalarValue.{ScalarValue}
 use Rattle.vortex_scalar_value.proofs.Views.{contents_of-raws_in}
 use Rattle.vortex_scalar_ops.proofs.Casts.{content_at-copied}
-use Rattle.vortex_scalar_convert.specs.Reading.{is_truth, is_whole_of, is_text, is_blob, all_read, reads_list}
+use Rattle.vortex_scalar_convert.specs.Reading.{is_boolean_content, is_whole_of, is_text, is_byte_string, all_read, reads_list}
 
 -- ---- truth values
 
-pub truth_read : (r : Raw) (b : Bool) → Some b ≡ boolean_in r → (is_truth (content_of r) ≡ true) × (boolean b ≡ content_of r)
+pub truth_read : (r : Raw) (b : Bool) → Some b ≡ boolean_in r → (is_boolean_content (content_of r) ≡ true) × (boolean b ≡ content_of r)
 truth_read (raw_boolean a) b e = (refl, ap (λ x. boolean x) (cc (e)))
 truth_read r b e = absurd (cc (e))
 
-pub no_truth : (r : Raw) → None ≡ boolean_in r → is_truth (content_of r) ≡ false
+pub no_truth : (r : Raw) → None ≡ boolean_in r → is_boolean_content (content_of r) ≡ false
 no_truth (raw_boolean a) e = absurd (cc (e))
 no_truth r e = refl
 
@@ -47,15 +47,15 @@ no_text r e = refl
 
 pub ruleset texts = (text_read, no_text, and-false)
 
-pub blob_read : (r : Raw) (t : List ℕ) → Some t ≡ byte_string_in r → (is_blob (content_of r) ≡ true) × (byte_string t ≡ content_of r)
-blob_read (raw_byte_string a) b e = (refl, ap (λ x. byte_string x) (cc (e)))
-blob_read r b e = absurd (cc (e))
+pub byte_string_read : (r : Raw) (t : List ℕ) → Some t ≡ byte_string_in r → (is_byte_string (content_of r) ≡ true) × (byte_string t ≡ content_of r)
+byte_string_read (raw_byte_string a) b e = (refl, ap (λ x. byte_string x) (cc (e)))
+byte_string_read r b e = absurd (cc (e))
 
-pub no_blob : (r : Raw) → None ≡ byte_string_in r → is_blob (content_of r) ≡ false
+pub no_blob : (r : Raw) → None ≡ byte_string_in r → is_byte_string (content_of r) ≡ false
 no_blob (raw_byte_string a) e = absurd (cc (e))
 no_blob r e = refl
 
-pub ruleset blobs = (blob_read, no_blob, and-false)
+pub ruleset byte_strings = (byte_string_read, no_blob, and-false)
 
 -- ---- one after the other
 

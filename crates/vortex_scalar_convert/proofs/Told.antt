@@ -18,9 +18,9 @@ abbrev text_of : Content → List ℕ
 text_of (text bs) = bs
 text_of c = []
 
-abbrev blob_of : Content → List ℕ
-blob_of (byte_string bs) = bs
-blob_of c = []
+abbrev byte_string_of : Content → List ℕ
+byte_string_of (byte_string bs) = bs
+byte_string_of c = []
 
 abbrev tuple_of : Content → Contents
 tuple_of (tuple cs) = cs
@@ -64,9 +64,9 @@ text_told : (bs : List ℕ) (s : Raw) → text bs ≡ content_of s → raw_text 
 text_told bs (raw_text cs) e = ap (λ x. raw_text x) (ap text_of e)
 text_told bs s e = absurd (cc (e))
 
-blob_told : (bs : List ℕ) (s : Raw) → byte_string bs ≡ content_of s → raw_byte_string bs ≡ s
-blob_told bs (raw_byte_string cs) e = ap (λ x. raw_byte_string x) (ap blob_of e)
-blob_told bs s e = absurd (cc (e))
+byte_string_told : (bs : List ℕ) (s : Raw) → byte_string bs ≡ content_of s → raw_byte_string bs ≡ s
+byte_string_told bs (raw_byte_string cs) e = ap (λ x. raw_byte_string x) (ap byte_string_of e)
+byte_string_told bs s e = absurd (cc (e))
 
 mutual
   pub told : (k : LogicalType) (r s : Raw) → Has k r → Has k s → content_of r ≡ content_of s → r ≡ s
@@ -75,7 +75,7 @@ mutual
   told (integer_type i n) (raw_number j y) s h g e = number_told i n j y s h.0 g e
   told k (raw_number j y) s h g e = absurd h
   told k (raw_text bs) s h g e = text_told bs s e
-  told k (raw_byte_string bs) s h g e = blob_told bs s e
+  told k (raw_byte_string bs) s h g e = byte_string_told bs s e
   told (list k n) (raw_tuple rs) (raw_tuple ss) h g e = ap (λ x. raw_tuple x) (all_told k rs ss h g (ap tuple_of e))
   told (list k n) (raw_tuple rs) s h g e = absurd (cc (e))
   told (fixed_list k m n) (raw_tuple rs) (raw_tuple ss) h g e = ap (λ x. raw_tuple x) (all_told k rs ss h.1 g.1 (ap tuple_of e))

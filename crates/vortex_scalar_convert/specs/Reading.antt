@@ -9,9 +9,9 @@ use Rattle.vortex_scalar_value.specs.declared.error.ScalarError.{ScalarError}
 use Rattle.vortex_scalar_value.specs.declared.error.ScalarError.TheVariants.{Memory, Invalid}
 
 -- the content has the form asked
-abbrev pub is_truth : Content → Bool
-is_truth (boolean b) = true
-is_truth c = false
+abbrev pub is_boolean_content : Content → Bool
+is_boolean_content (boolean b) = true
+is_boolean_content c = false
 
 abbrev pub is_whole_of : IntKind → Content → Bool
 is_whole_of i (integer z) = in_range i z
@@ -21,13 +21,13 @@ abbrev pub is_text : Content → Bool
 is_text (text bs) = true
 is_text c = false
 
-abbrev pub is_blob : Content → Bool
-is_blob (byte_string bs) = true
-is_blob c = false
+abbrev pub is_byte_string : Content → Bool
+is_byte_string (byte_string bs) = true
+is_byte_string c = false
 
 -- a content of the type is read
-abbrev pub reads_truth : LogicalType → Content → Bool
-reads_truth k c = is_boolean_type k && is_truth c
+abbrev pub reads_boolean : LogicalType → Content → Bool
+reads_boolean k c = is_boolean_type k && is_boolean_content c
 
 abbrev pub reads_number : IntKind → LogicalType → Content → Bool
 reads_number i k c = is_primitive_type k && is_whole_of i c
@@ -36,7 +36,7 @@ abbrev pub reads_text : LogicalType → Content → Bool
 reads_text k c = is_utf8_type k && is_text c
 
 abbrev pub reads_bytes : LogicalType → Content → Bool
-reads_bytes k c = is_binary_type k && is_blob c
+reads_bytes k c = is_binary_type k && is_byte_string c
 
 -- of a list, each of its elements is
 abbrev pub all_read : (LogicalType → Content → Bool) → LogicalType → Contents → Bool

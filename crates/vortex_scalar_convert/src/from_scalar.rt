@@ -7,7 +7,7 @@ ghost use Rattle.vortex_dtype_core.specs.Parts.{is_boolean_type, is_primitive_ty
 ghost use Rattle.vortex_dtype_core.specs.View.{type_of};
 ghost use Rattle.vortex_scalar_value.specs.View.{content_at};
 ghost use Rattle.vortex_scalar_core.specs.Scalar.{scalar_type, scalar_content};
-ghost use Rattle.vortex_scalar_convert.specs.Reading.{IsRead, reads_truth, reads_number, reads_text, reads_bytes, reads_list, says_or_null};
+ghost use Rattle.vortex_scalar_convert.specs.Reading.{IsRead, reads_boolean, reads_number, reads_text, reads_bytes, reads_list, says_or_null};
 
 use crate::leaves::{boolean, bytes, number, text};
 use crate::lists::read_items;
@@ -58,7 +58,7 @@ impl FromScalar for bool {
 
     ghost is_kind = { is_boolean_type };
 
-    ghost reads = { reads_truth };
+    ghost reads = { reads_boolean };
 
     fn is_read_from(dtype: &DType) -> bool {
         dtype.is_boolean()

@@ -3,7 +3,7 @@ ghost use Rattle.std.specs.Prelude.{◌≡◌};
 ghost use Rattle.vortex_model.specs.Content.{boolean, integer, text, byte_string};
 ghost use Rattle.vortex_dtype_core.specs.View.{type_of};
 ghost use Rattle.vortex_scalar_value.specs.View.{content_at};
-ghost use Rattle.vortex_scalar_convert.specs.Reading.{IsFound, reads_truth, reads_number, reads_text, reads_bytes};
+ghost use Rattle.vortex_scalar_convert.specs.Reading.{IsFound, reads_boolean, reads_number, reads_text, reads_bytes};
 
 use vortex_dtype_core::dtype::DType;
 use vortex_dtype_core::{BufferString, ByteBuffer};
@@ -14,7 +14,7 @@ use vortex_scalar_value::scalar_value::ScalarValue;
 /// The truth value. `Invalid` of another type and of null.
 #[tactic(auto, using(crate::proofs::Reading::truths))]
 pub(crate) fn boolean(dtype: &DType, value: Option<&ScalarValue>) -> Result<bool, ScalarError>
-    ensures { IsFound boolean (reads_truth (type_of dtype.now) (content_at value.entry))
+    ensures { IsFound boolean (reads_boolean (type_of dtype.now) (content_at value.entry))
         (content_at value.entry) result }
 {
     if !dtype.is_boolean() {
@@ -71,7 +71,7 @@ pub(crate) fn text<'a>(
 }
 
 /// The bytes. `Invalid` of another type and of null.
-#[tactic(auto, using(crate::proofs::Reading::blobs))]
+#[tactic(auto, using(crate::proofs::Reading::byte_strings))]
 pub(crate) fn bytes<'a>(
     dtype: &DType,
     value: Option<&'a ScalarValue>,

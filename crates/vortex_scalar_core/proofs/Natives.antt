@@ -36,13 +36,13 @@ text_or_null k r h v = absurd (cc (h))
 
 pub ruleset texts = (never_null, text_or_null)
 
-pub blob_or_null : (k : LogicalType) (r : Raw) → is_binary_type k ≡ true → valid k r ≡ true → or_null byte_string_in r ≡ Some (byte_string_in r)
-blob_or_null k raw_null h v = refl
-blob_or_null k (raw_byte_string b) h v = refl
-blob_or_null (binary n) r h v = absurd (cc (v))
-blob_or_null k r h v = absurd (cc (h))
+pub byte_string_or_null : (k : LogicalType) (r : Raw) → is_binary_type k ≡ true → valid k r ≡ true → or_null byte_string_in r ≡ Some (byte_string_in r)
+byte_string_or_null k raw_null h v = refl
+byte_string_or_null k (raw_byte_string b) h v = refl
+byte_string_or_null (binary n) r h v = absurd (cc (v))
+byte_string_or_null k r h v = absurd (cc (h))
 
-pub ruleset bytes = (never_null, blob_or_null)
+pub ruleset bytes = (never_null, byte_string_or_null)
 
 -- a number that fits, and one that does not
 pub number_read : (i : IntKind) (r : Raw) (z : ℤ) → has_whole i r ≡ true → whole_number_in r ≡ Some z → or_null (whole_within i) r ≡ Some (Some z)

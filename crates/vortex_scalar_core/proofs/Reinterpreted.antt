@@ -48,11 +48,11 @@ eq_bytes (raw_number l z) p q e h =
     subst (λ u. HaveSameBytes l u (kind_of_number q) (integer_of q)) numbers (subst (λ u. HaveSameBytes u (integer_of p) (kind_of_number q) (integer_of q)) kinds h)
 eq_bytes r p q e h = absurd (cc (e))
 
-kind_itself : (i : IntKind) → eq_int_kind i i ≡ true
-kind_itself i = nat_eq_equiv.refl (int_kind_number i)
+type_itself : (i : IntKind) → eq_int_kind i i ≡ true
+type_itself i = nat_eq_equiv.refl (int_kind_number i)
 
 pub number_fits : (k : LogicalType) (t : NumberKind) (q : PValue) → integral (kind_of_number q) ≡ t → in_range (kind_of_number q) (integer_of q) ≡ true → valid (type_of_numbers t (nullability_of k)) (raw_of_number q) ≡ true
-number_fits k t q e h = subst (λ u. valid (type_of_numbers u (nullability_of k)) (raw_of_number q) ≡ true) e (both_true (kind_itself (kind_of_number q)) h)
+number_fits k t q e h = subst (λ u. valid (type_of_numbers u (nullability_of k)) (raw_of_number q) ≡ true) e (both_true (type_itself (kind_of_number q)) h)
 
 pub ruleset types = (type_views.one_level)
 

@@ -9,7 +9,7 @@ use Rattle.vortex_dtype_fields.proofs.Lawful.{equal_equiv, fed_alike}
 use Rattle.vortex_scalar_ops.specs.Hashing.{content_writes}
 use Rattle.vortex_scalar_ops.specs.Equality.{eq_content}
 use Rattle.vortex_scalar_ops.proofs.Fed.{eq_fed}
-use Rattle.vortex_scalar_ops.proofs.Sameness.{eq_equiv}
+use Rattle.vortex_scalar_ops.proofs.EqualityLemmas.{eq_equiv}
 use Rattle.vortex_scalar_core.specs.Scalar.{scalar_type, scalar_content}
 use Rattle.vortex_scalar_core.specs.declared.scalar.Scalar.{Scalar}
 

@@ -4,7 +4,7 @@ use Rattle.vortex_model.specs.LogicalType.{LogicalType, stored}
 use Rattle.vortex_model.specs.Content.{Raw, raw_null, raw_tuple, Raws, no_raws, raw_first}
 use Rattle.vortex_model.specs.Valid.{valid, has, entries_have}
 use Rattle.vortex_dtype_core.specs.Parts.{entries_in_type}
-use Rattle.vortex_dtype_core.specs.View.{EntryKinds}
+use Rattle.vortex_dtype_core.specs.View.{EntryTypes}
 use Rattle.vortex_scalar_value.specs.View.{raws_in, raw_in, raw_at}
 use Rattle.vortex_scalar_value.specs.declared.scalar_value.ScalarValue.{ScalarValue}
 use Rattle.vortex_scalar_value.proofs.Sizes.{raw_at-copied}
@@ -58,7 +58,7 @@ others_valid k w v vs h = raws_behind k w (raw_in v) (raws_in vs) h
 pub first_paired : (k w : LogicalType) (v : Option ScalarValue) (vs : List (Option ScalarValue)) (o : Option (Bor ScalarValue)) → entries_have k w (raws_in (v ∷ vs)) ≡ true → option_copied o ≡ v → None ≡ pair_in (raw_at o) → ⊥
 first_paired k w v vs o h c p = raws_paired k w (raw_in v) (raws_in vs) h (p ∙ ap pair_in (seen v o c))
 
-pub first_entry : (e : EntryKinds) (v : Option ScalarValue) (vs : List (Option ScalarValue)) (o : Option (Bor ScalarValue)) (a b : Raw) → option_copied o ≡ v → Some (a, b) ≡ pair_in (raw_at o) → each_entry e (raws_in (v ∷ vs)) ≡ typed_pair e (a, b) ∷ each_entry e (raws_in vs)
+pub first_entry : (e : EntryTypes) (v : Option ScalarValue) (vs : List (Option ScalarValue)) (o : Option (Bor ScalarValue)) (a b : Raw) → option_copied o ≡ v → Some (a, b) ≡ pair_in (raw_at o) → each_entry e (raws_in (v ∷ vs)) ≡ typed_pair e (a, b) ∷ each_entry e (raws_in vs)
 first_entry e v vs o a b c p =
     let pair : Some (a, b) ≡ pair_in (raw_in v) = p ∙ ap pair_in (seen v o c) in
     (λ i. typed_pair e (key_of_pair (raw_in v) a b pair i, value_of_pair (raw_in v) a b pair i) ∷ each_entry e (raws_in vs))
@@ -77,7 +77,7 @@ pub as_many_values : (k : LogicalType) (vs : List (Option ScalarValue)) → leng
 as_many_values k [] = refl
 as_many_values k (v ∷ vs) = ap suc (as_many_values k vs)
 
-pub eq_length : (e : EntryKinds) (vs : List (Option ScalarValue)) → length (each_entry e (raws_in vs)) ≡ length vs
+pub eq_length : (e : EntryTypes) (vs : List (Option ScalarValue)) → length (each_entry e (raws_in vs)) ≡ length vs
 eq_length e [] = refl
 eq_length e (v ∷ vs) = ap suc (eq_length e vs)
 
@@ -91,34 +91,34 @@ pub ruleset counted = (eq_length, as_many_keys, as_many_values)
 
 -- ---- the entries of a map
 
-pub map_entries : (k : LogicalType) (e : EntryKinds) (r : Raw) (rs : Raws) → entries_in_type k ≡ Some e → raw_tuple rs ≡ r → Some (each_entry e rs) ≡ entries_of_map (k, r)
+pub map_entries : (k : LogicalType) (e : EntryTypes) (r : Raw) (rs : Raws) → entries_in_type k ≡ Some e → raw_tuple rs ≡ r → Some (each_entry e rs) ≡ entries_of_map (k, r)
 map_entries k e r rs h p = sym (ap (λ o. option_and_then (λ d. entries_under d r) o) h ∙ ap (λ z. entries_under e z) (sym p))
 
 pub no_entries_of_null : (k : LogicalType) (r : Raw) → raw_null ≡ r → None ≡ entries_of_map (k, r)
 no_entries_of_null k r p = none_at (entries_in_type k) ∙ ap (λ z. entries_of_map (k, z)) p where
-  none_at : (o : Option EntryKinds) → None ≡ option_and_then (λ e. entries_under e raw_null) o
+  none_at : (o : Option EntryTypes) → None ≡ option_and_then (λ e. entries_under e raw_null) o
   none_at None = refl
   none_at (Some e) = refl
 
 pub ruleset listed = (entries_all, map_entries, no_entries_of_null)
 
-pub map_keys : (k : LogicalType) (e : EntryKinds) (r : Raw) (rs : Raws) → entries_in_type k ≡ Some e → raw_tuple rs ≡ r → Some (each_key e.key rs) ≡ keys_of (k, r)
+pub map_keys : (k : LogicalType) (e : EntryTypes) (r : Raw) (rs : Raws) → entries_in_type k ≡ Some e → raw_tuple rs ≡ r → Some (each_key e.key rs) ≡ keys_of (k, r)
 map_keys k e r rs h p = sym (ap (λ o. option_and_then (λ d. keys_under d r) o) h ∙ ap (λ z. keys_under e z) (sym p))
 
 pub no_keys_of_null : (k : LogicalType) (r : Raw) → raw_null ≡ r → None ≡ keys_of (k, r)
 no_keys_of_null k r p = none_at (entries_in_type k) ∙ ap (λ z. keys_of (k, z)) p where
-  none_at : (o : Option EntryKinds) → None ≡ option_and_then (λ e. keys_under e raw_null) o
+  none_at : (o : Option EntryTypes) → None ≡ option_and_then (λ e. keys_under e raw_null) o
   none_at None = refl
   none_at (Some e) = refl
 
 pub ruleset keys_listed = (entries_all, map_keys, no_keys_of_null)
 
-pub map_values : (k : LogicalType) (e : EntryKinds) (r : Raw) (rs : Raws) → entries_in_type k ≡ Some e → raw_tuple rs ≡ r → Some (each_value e.value rs) ≡ values_of (k, r)
+pub map_values : (k : LogicalType) (e : EntryTypes) (r : Raw) (rs : Raws) → entries_in_type k ≡ Some e → raw_tuple rs ≡ r → Some (each_value e.value rs) ≡ values_of (k, r)
 map_values k e r rs h p = sym (ap (λ o. option_and_then (λ d. values_under d r) o) h ∙ ap (λ z. values_under e z) (sym p))
 
 pub no_values_of_null : (k : LogicalType) (r : Raw) → raw_null ≡ r → None ≡ values_of (k, r)
 no_values_of_null k r p = none_at (entries_in_type k) ∙ ap (λ z. values_of (k, z)) p where
-  none_at : (o : Option EntryKinds) → None ≡ option_and_then (λ e. values_under e raw_null) o
+  none_at : (o : Option EntryTypes) → None ≡ option_and_then (λ e. values_under e raw_null) o
   none_at None = refl
   none_at (Some e) = refl
 

@@ -4,7 +4,7 @@ use Rattle.vortex_model.specs.LogicalType.{LogicalType, mapping, stored}
 use Rattle.vortex_model.specs.Content.{Raw, raw_null, raw_tuple, Raws, no_raws, raw_first}
 use Rattle.vortex_model.specs.Valid.{valid, has, entries_have}
 use Rattle.vortex_dtype_core.specs.Parts.{is_map_type, entries_in_type}
-use Rattle.vortex_dtype_core.specs.View.{EntryKinds}
+use Rattle.vortex_dtype_core.specs.View.{EntryTypes}
 use Rattle.vortex_scalar_value.specs.Parts.{items_in}
 use Rattle.vortex_scalar_value.specs.View.{raw_in, raw_at, raws_in}
 use Rattle.vortex_scalar_value.specs.declared.scalar_value.ScalarValue.{ScalarValue}
@@ -76,25 +76,25 @@ each_valid k w (raw_first (raw_tuple (raw_first x (raw_first y no_raws))) rs) (s
     each_valid k w rs i r a b (first_valid (has (stored k) x) (has (stored w) y) (entries_have k w rs) h).2 p q
 each_valid k w (raw_first u rs) i r a b h p q = absurd (cc (h))
 
-abbrev kind_of_keys : LogicalType → Option EntryKinds → LogicalType
+abbrev kind_of_keys : LogicalType → Option EntryTypes → LogicalType
 kind_of_keys d None = d
 kind_of_keys d (Some e) = e.key
 
-abbrev kind_of_values : LogicalType → Option EntryKinds → LogicalType
+abbrev kind_of_values : LogicalType → Option EntryTypes → LogicalType
 kind_of_values d None = d
 kind_of_values d (Some e) = e.value
 
-pub entries_all : (k : LogicalType) (e : EntryKinds) (rs : Raws) → entries_in_type k ≡ Some e → valid k (raw_tuple rs) ≡ true → entries_have e.key e.value rs ≡ true
+pub entries_all : (k : LogicalType) (e : EntryTypes) (rs : Raws) → entries_in_type k ≡ Some e → valid k (raw_tuple rs) ≡ true → entries_have e.key e.value rs ≡ true
 entries_all (mapping l w s n) e rs h v =
     let keys : e.key ≡ l = ap (λ o. kind_of_keys l o) (sym h) in
     let values : e.value ≡ w = ap (λ o. kind_of_values w o) (sym h) in
     ap (λ x. entries_have x e.value rs) keys ∙ ap (λ x. entries_have l x rs) values ∙ v
 entries_all k e rs h v = absurd (cc (h))
 
-pub key_valid : (k : LogicalType) (e : EntryKinds) (rs : Raws) (i : ℕ) (r a b : Raw) → entries_in_type k ≡ Some e → valid k (raw_tuple rs) ≡ true → Some r ≡ item_at rs i → Some (a, b) ≡ pair_in r → valid e.key a ≡ true
+pub key_valid : (k : LogicalType) (e : EntryTypes) (rs : Raws) (i : ℕ) (r a b : Raw) → entries_in_type k ≡ Some e → valid k (raw_tuple rs) ≡ true → Some r ≡ item_at rs i → Some (a, b) ≡ pair_in r → valid e.key a ≡ true
 key_valid k e rs i r a b h v p q = (each_valid e.key e.value rs i r a b (entries_all k e rs h v) p q).0
 
-pub value_valid : (k : LogicalType) (e : EntryKinds) (rs : Raws) (i : ℕ) (r a b : Raw) → entries_in_type k ≡ Some e → valid k (raw_tuple rs) ≡ true → Some r ≡ item_at rs i → Some (a, b) ≡ pair_in r → valid e.value b ≡ true
+pub value_valid : (k : LogicalType) (e : EntryTypes) (rs : Raws) (i : ℕ) (r a b : Raw) → entries_in_type k ≡ Some e → valid k (raw_tuple rs) ≡ true → Some r ≡ item_at rs i → Some (a, b) ≡ pair_in r → valid e.value b ≡ true
 value_valid k e rs i r a b h v p q = (each_valid e.key e.value rs i r a b (entries_all k e rs h v) p q).1
 
 pub ruleset placed = (key_valid, value_valid)

@@ -3,7 +3,7 @@ use Rattle.std.specs.Prelude.{ℕ, List, [], ◌∷◌, Option, Some, None, opti
 use Rattle.vortex_model.specs.LogicalType.{LogicalType}
 use Rattle.vortex_model.specs.Content.{Raw, raw_null, raw_tuple, Raws, no_raws, raw_first}
 use Rattle.vortex_dtype_core.specs.Parts.{entries_in_type}
-use Rattle.vortex_dtype_core.specs.View.{EntryKinds}
+use Rattle.vortex_dtype_core.specs.View.{EntryTypes}
 use Rattle.vortex_scalar_views.specs.Forms.{Typed}
 use Rattle.vortex_scalar_nested.specs.Places.{part_of}
 
@@ -13,7 +13,7 @@ pair_in (raw_tuple (raw_first a (raw_first b no_raws))) = Some (a, b)
 pair_in r = None
 
 -- the same with their types
-abbrev pub typed_pair : EntryKinds → Raw × Raw → Typed × Typed
+abbrev pub typed_pair : EntryTypes → Raw × Raw → Typed × Typed
 typed_pair e p = ((e.key, p.0), (e.value, p.1))
 
 -- the entry of a map at this place; null has none
@@ -40,7 +40,7 @@ each_value k no_raws = []
 each_value k (raw_first r rs) = (k, value_in r) ∷ each_value k rs
 
 -- the keys of a map in order; null has none
-abbrev pub keys_under : EntryKinds → Raw → Option (List Typed)
+abbrev pub keys_under : EntryTypes → Raw → Option (List Typed)
 keys_under e (raw_tuple rs) = Some (each_key e.key rs)
 keys_under e r = None
 
@@ -48,7 +48,7 @@ abbrev pub keys_of : Typed → Option (List Typed)
 keys_of t = option_and_then (λ e. keys_under e t.1) (entries_in_type t.0)
 
 -- the values of a map in the order of its keys; null has none
-abbrev pub values_under : EntryKinds → Raw → Option (List Typed)
+abbrev pub values_under : EntryTypes → Raw → Option (List Typed)
 values_under e (raw_tuple rs) = Some (each_value e.value rs)
 values_under e r = None
 

@@ -70,7 +70,7 @@ pub valid-byte_string : (t : LogicalType) (bs : List ℕ) → AreBytes bs → is
 valid-byte_string (binary n) bs u h = bytes_pass bs u
 valid-byte_string t bs u h = absurd (cc (h))
 
-pub ruleset blobs = (converts-byte_string, true-and, false-and)
+pub ruleset byte_strings = (converts-byte_string, true-and, false-and)
 
 -- ---- integers
 

@@ -9,7 +9,7 @@ pub mod ListValues
 pub mod NativeValues
 pub mod Nullable
 pub mod Ordered
-pub mod Sameness
+pub mod EqualityLemmas
 pub mod Tags
 pub mod Validity
 pub mod Views

@@ -11,12 +11,12 @@ use Rattle.vortex_scalar_ops.specs.Hashing.{content_writes}
 use Rattle.vortex_scalar_ops.specs.Equality.{eq_content, holds_variant, has_variant}
 
 -- being the same is reflexive, symmetric and transitive
-abbrev pub SamenessIsAnEquivalence : Type 0
-SamenessIsAnEquivalence = IsEquivalence eq_content
+abbrev pub EqualityIsAnEquivalence : Type 0
+EqualityIsAnEquivalence = IsEquivalence eq_content
 
 -- values that are the same feed a hasher equally
-abbrev pub SameValuesAreFedAlike : Type 0
-SameValuesAreFedAlike = (c d : Content) → eq_content c d ≡ true → content_writes c ≡ content_writes d
+abbrev pub EqualValuesAreFedAlike : Type 0
+EqualValuesAreFedAlike = (c d : Content) → eq_content c d ≡ true → content_writes c ≡ content_writes d
 
 -- Values without a variant's in them compare as equal exactly where they are the same. Those of a type without Variant anywhere are such values.
 abbrev pub TiedValuesAreTheSame : Type 0
@@ -45,5 +45,5 @@ abbrev pub OrderIsTransitive : Type 0
 OrderIsTransitive = (c d e : Content) → (IsBelow c d → IsBelow d e → IsBelow c e) × (IsNotAbove c d → IsNotAbove d e → IsNotAbove c e)
 
 -- values that are the same compare alike with any other
-abbrev pub SameValuesCompareAlike : Type 0
-SameValuesCompareAlike = (c d e : Content) → eq_content c d ≡ true → content_cmp c e ≡ content_cmp d e
+abbrev pub EqualValuesCompareAlike : Type 0
+EqualValuesCompareAlike = (c d e : Content) → eq_content c d ≡ true → content_cmp c e ≡ content_cmp d e

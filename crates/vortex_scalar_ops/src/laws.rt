@@ -3,20 +3,20 @@ ghost use Rattle.vortex_scalar_ops.specs.Laws.{
   OrderIsTransitive,
   OrderTurns,
   PlainTypesHavePlainValues,
-  SameValuesAreFedAlike,
-  SameValuesCompareAlike,
-  SamenessIsAnEquivalence,
+  EqualValuesAreFedAlike,
+  EqualValuesCompareAlike,
+  EqualityIsAnEquivalence,
   TiedValuesAreTheSame,
   ValuesOfATypeCompare,
 };
 
 /// Being the same is an equivalence.
-pub fn sameness_is_an_equivalence()
-    ensures { SamenessIsAnEquivalence }
+pub fn equality_is_an_equivalence()
+    ensures { EqualityIsAnEquivalence }
 {}
 
 /// Values without a variant's in them compare as equal exactly where they are the same.
-pub fn tied_values_are_the_same()
+pub fn values_that_tie_are_equal()
     ensures { TiedValuesAreTheSame }
 {}
 
@@ -27,7 +27,7 @@ pub fn order_turns()
 
 /// Values that are the same feed a hasher equally.
 pub fn eq_values_are_fed_alike()
-    ensures { SameValuesAreFedAlike }
+    ensures { EqualValuesAreFedAlike }
 {}
 
 /// What is below chains, and what is not above.
@@ -37,7 +37,7 @@ pub fn order_is_transitive()
 
 /// Values that are the same compare alike with any other.
 pub fn eq_values_compare_alike()
-    ensures { SameValuesCompareAlike }
+    ensures { EqualValuesCompareAlike }
 {}
 
 /// Values of a type without Variant anywhere have no variant's value in them.

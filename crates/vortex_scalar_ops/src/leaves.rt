@@ -59,7 +59,7 @@ pub(crate) fn cast_leaf(
 {
     match value {
         ScalarValue::Bool(flag) => {
-            if !converts_truth(source, target, *flag) {
+            if !converts_boolean(source, target, *flag) {
                 return Err(ScalarError::NotConvertible);
             }
             Ok(ScalarValue::Bool(*flag))
@@ -90,7 +90,7 @@ pub(crate) fn cast_leaf(
 
 /// Whether the target can hold the truth value.
 #[tactic(auto, using(crate::proofs::LeafValues::truths))]
-fn converts_truth(source: &DType, target: &DType, flag: bool) -> bool
+fn converts_boolean(source: &DType, target: &DType, flag: bool) -> bool
     requires { is_identity_cast (type_of source.now) ≡ false }
     ensures when { result ≡ converts (type_of source.now) (type_of target.now) (boolean flag) }
     ensures valid { result ≡ true → valid (type_of target.now) (raw_boolean flag) ≡ true }
@@ -109,7 +109,7 @@ fn converts_text(source: &DType, target: &DType, value: &str) -> bool
 }
 
 /// Whether the target can hold the bytes.
-#[tactic(auto, using(crate::proofs::LeafValues::blobs))]
+#[tactic(auto, using(crate::proofs::LeafValues::byte_strings))]
 fn converts_bytes(source: &DType, target: &DType, bytes: &[u8]) -> bool
     requires { is_identity_cast (type_of source.now) ≡ false }
     ensures when { result ≡ converts (type_of source.now) (type_of target.now)

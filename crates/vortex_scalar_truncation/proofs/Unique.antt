@@ -28,10 +28,10 @@ text_part v L None h = (None, refl, h)
 text_part v L (Some (text s)) h = (Some s, refl, h)
 text_part v L o h = absurd h
 
-pub blob_part : (v : List ℕ) (L : ℕ) (o : Option Content) → IsHighBytes v L o → (s : Option (List ℕ)) × (o ≡ option_map byte_string s) × IsStringAbove v L s
-blob_part v L None h = (None, refl, h)
-blob_part v L (Some (byte_string s)) h = (Some s, refl, h)
-blob_part v L o h = absurd h
+pub byte_string_part : (v : List ℕ) (L : ℕ) (o : Option Content) → IsHighBytes v L o → (s : Option (List ℕ)) × (o ≡ option_map byte_string s) × IsStringAbove v L s
+byte_string_part v L None h = (None, refl, h)
+byte_string_part v L (Some (byte_string s)) h = (Some s, refl, h)
+byte_string_part v L o h = absurd h
 
 raised_beginning_same : (v : List ℕ) (L : ℕ) (o q : Option (List ℕ)) → IsRaisedBeginning v L o → IsRaisedBeginning v L q → o ≡ q
 raised_beginning_same v L o q a b = raise_same b.0 o q (subst (λ p. IsRaise p o) (longest_same IsUtf8 v a.0 b.0 L a.1 b.1) a.2) b.2
@@ -49,7 +49,7 @@ long_text_same v L o q a b =
 
 long_blob_same : (v : List ℕ) (L : ℕ) (o q : Option Content) → IsHighBytes v L o → IsHighBytes v L q → o ≡ q
 long_blob_same v L o q a b =
-    let x = blob_part v L o a in let y = blob_part v L q b in
+    let x = byte_string_part v L o a in let y = byte_string_part v L q b in
     x.1 ∙ ap (λ s. option_map byte_string s) (string_above_same v L x.0 y.0 x.2 y.2) ∙ sym y.1
 
 pub high_same : (v : Content) (o q : Option Content) (L : ℕ) → IsHigh v L o → IsHigh v L q → o ≡ q

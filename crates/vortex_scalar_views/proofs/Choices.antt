@@ -11,7 +11,7 @@ use Rattle.vortex_scalar_value.specs.View.{raw_of_union}
 use Rattle.vortex_scalar_value.specs.declared.union_value.UnionValue.{UnionValue}
 use Rattle.vortex_scalar_value.proofs.Views as values
 use Rattle.vortex_scalar_views.specs.Held.{raw_of_choice}
-use Rattle.vortex_scalar_views.specs.Choices.{place_of_choice, child_of}
+use Rattle.vortex_scalar_views.specs.Choices.{index_of_choice, child_of}
 
 pub choice_held : (k : LogicalType) (r : Raw) (o : Option (Bor UnionValue)) → is_union_type k ≡ true → valid k r ≡ true → option_map (λ u. raw_of_union u.now) o ≡ as_tagged r → raw_of_choice o ≡ r
 choice_held k raw_null None h v e = refl
@@ -56,17 +56,17 @@ child_valid (union ws n) vs t r h v = ap (λ x. valid (type_tagged x t) r) (sym 
 child_valid k vs t r h v = absurd (cc (h))
 
 -- the choice at the place of a value's tag is of the type of what the value holds
-chosen : (k : LogicalType) (vs : Variants) (r : Raw) → variants_in_type k ≡ Some vs → valid k r ≡ true → option_and_then (λ i. variant_at vs i) (place_of_choice (k, r)) ≡ option_map (λ c. c.0) (child_of (k, r))
+chosen : (k : LogicalType) (vs : Variants) (r : Raw) → variants_in_type k ≡ Some vs → valid k r ≡ true → option_and_then (λ i. variant_at vs i) (index_of_choice (k, r)) ≡ option_map (λ c. c.0) (child_of (k, r))
 chosen (union ws n) vs (raw_tagged t r) h v =
     let same : vs ≡ ws = cc h in
     ap (λ x. option_and_then (λ i. variant_at x i) (tag_position ws t)) same ∙ kind_at_tag ws t (tag_valid (union ws n) ws t r refl v)
 chosen (union ws n) vs r h v = refl
 chosen k vs r h v = absurd (cc (h))
 
-pub chosen_some : (k : LogicalType) (vs : Variants) (r : Raw) (i : ℕ) → variants_in_type k ≡ Some vs → valid k r ≡ true → Some i ≡ place_of_choice (k, r) → variant_at vs i ≡ option_map (λ c. c.0) (child_of (k, r))
+pub chosen_some : (k : LogicalType) (vs : Variants) (r : Raw) (i : ℕ) → variants_in_type k ≡ Some vs → valid k r ≡ true → Some i ≡ index_of_choice (k, r) → variant_at vs i ≡ option_map (λ c. c.0) (child_of (k, r))
 chosen_some k vs r i h v e = ap (λ p. option_and_then (λ j. variant_at vs j) p) e ∙ chosen k vs r h v
 
-pub chosen_none : (k : LogicalType) (vs : Variants) (r : Raw) → variants_in_type k ≡ Some vs → valid k r ≡ true → None ≡ place_of_choice (k, r) → None ≡ option_map (λ c. c.0) (child_of (k, r))
+pub chosen_none : (k : LogicalType) (vs : Variants) (r : Raw) → variants_in_type k ≡ Some vs → valid k r ≡ true → None ≡ index_of_choice (k, r) → None ≡ option_map (λ c. c.0) (child_of (k, r))
 chosen_none k vs r h v e = ap (λ p. option_and_then (λ j. variant_at vs j) p) e ∙ chosen k vs r h v
 
 pub ruleset found = (chosen_some, chosen_none)

@@ -42,14 +42,14 @@ pub ruleset texts = (values.one_level, text_held, text_in-raw_of_text)
 
 -- ---- bytes
 
-pub blob_held : (k : LogicalType) (r : Raw) → is_binary_type k ≡ true → valid k r ≡ true → raw_of_bytes (byte_string_in r) ≡ r
-blob_held (binary n) raw_null h v = refl
-blob_held (binary n) (raw_byte_string b) h v = refl
-blob_held (binary n) r h v = absurd (cc (v))
-blob_held k r h v = absurd (cc (h))
+pub byte_string_held : (k : LogicalType) (r : Raw) → is_binary_type k ≡ true → valid k r ≡ true → raw_of_bytes (byte_string_in r) ≡ r
+byte_string_held (binary n) raw_null h v = refl
+byte_string_held (binary n) (raw_byte_string b) h v = refl
+byte_string_held (binary n) r h v = absurd (cc (v))
+byte_string_held k r h v = absurd (cc (h))
 
 pub byte_string_in-raw_of_bytes : (o : Option (List ℕ)) → byte_string_in (raw_of_bytes o) ≡ o
 byte_string_in-raw_of_bytes None = refl
 byte_string_in-raw_of_bytes (Some b) = refl
 
-pub ruleset bytes = (values.one_level, blob_held, byte_string_in-raw_of_bytes)
+pub ruleset bytes = (values.one_level, byte_string_held, byte_string_in-raw_of_bytes)

@@ -10,15 +10,15 @@ use Rattle.vortex_model.specs.Order.{scalar_cmp}
 use Rattle.vortex_dtype_core.specs.Equal.{eq_type_equiv}
 use Rattle.vortex_scalar_ops.specs.Hashing.{content_writes}
 use Rattle.vortex_scalar_ops.proofs.Fed.{eq_fed}
-use Rattle.vortex_scalar_ops.proofs.Sameness.{eq_equiv}
+use Rattle.vortex_scalar_ops.proofs.EqualityLemmas.{eq_equiv}
 use Rattle.vortex_scalar_core.specs.Equality.{eq_typed}
 use Rattle.vortex_scalar_views.specs.Forms.{Typed}
 
-abbrev pub type_seen : Typed → LogicalType
-type_seen t = t.0
+abbrev pub type_of_view : Typed → LogicalType
+type_of_view t = t.0
 
-abbrev pub content_seen : Typed → Content
-content_seen t = content_of t.1
+abbrev pub content_of_view : Typed → Content
+content_of_view t = content_of t.1
 
 -- the types are equal, nullability aside, and the values are the same
 abbrev pub eq_views : Typed → Typed → Bool
@@ -35,7 +35,7 @@ typed_writes t = content_writes (content_of t.1)
 -- ---- laws
 
 pub eq_views_equiv : IsEquivalence eq_views
-eq_views_equiv = and_equiv (on_equiv type_seen (on_equiv bare eq_type_equiv)) (on_equiv content_seen eq_equiv)
+eq_views_equiv = and_equiv (on_equiv type_of_view (on_equiv bare eq_type_equiv)) (on_equiv content_of_view eq_equiv)
 
 pub eq_views_alike : Alike eq_views typed_writes
-eq_views_alike = second_alike (on type_seen equal_ignoring_nullability) (on_Alike content_seen (record { fed = eq_fed }))
+eq_views_alike = second_alike (on type_of_view equal_ignoring_nullability) (on_Alike content_of_view (record { fed = eq_fed }))

@@ -12,31 +12,31 @@ use Rattle.vortex_scalar_views.specs.declared.primitive_scalar.PrimitiveScalar.{
 use Rattle.vortex_scalar_views.specs.declared.utf8_scalar.Utf8Scalar.{Utf8Scalar}
 use Rattle.vortex_scalar_views.specs.declared.binary_scalar.BinaryScalar.{BinaryScalar}
 
-abbrev pub truth_seen : BoolScalar → Option Bool
-truth_seen v = boolean_in (typed_bool v).1
+abbrev pub boolean_of_view : BoolScalar → Option Bool
+boolean_of_view v = boolean_in (typed_bool v).1
 
 abbrev pub numbers_type : PrimitiveScalar → LogicalType
 numbers_type v = (typed_primitive v).0
 
-abbrev pub number_seen : PrimitiveScalar → Option ℤ
-number_seen v = whole_number_in (typed_primitive v).1
+abbrev pub number_of_view : PrimitiveScalar → Option ℤ
+number_of_view v = whole_number_in (typed_primitive v).1
 
-abbrev pub text_seen : Utf8Scalar → Option (List ℕ)
-text_seen v = text_in (typed_utf8 v).1
+abbrev pub text_of_view : Utf8Scalar → Option (List ℕ)
+text_of_view v = text_in (typed_utf8 v).1
 
-abbrev pub bytes_seen : BinaryScalar → Option (List ℕ)
-bytes_seen v = byte_string_in (typed_binary v).1
+abbrev pub bytes_of_view : BinaryScalar → Option (List ℕ)
+bytes_of_view v = byte_string_in (typed_binary v).1
 
 -- the two are both null, or both the same
-abbrev pub eq_truths : BoolScalar → BoolScalar → Bool
-eq_truths = on truth_seen (option_eq beq)
+abbrev pub eq_booleans : BoolScalar → BoolScalar → Bool
+eq_booleans = on boolean_of_view (option_eq beq)
 
 abbrev pub eq_texts : Utf8Scalar → Utf8Scalar → Bool
-eq_texts = on text_seen (option_eq (pointwise nat_eq))
+eq_texts = on text_of_view (option_eq (pointwise nat_eq))
 
 abbrev pub eq_bytes : BinaryScalar → BinaryScalar → Bool
-eq_bytes = on bytes_seen (option_eq (pointwise nat_eq))
+eq_bytes = on bytes_of_view (option_eq (pointwise nat_eq))
 
 -- the types are equal, nullability aside, and the two are both null, or both the same whole number
 abbrev pub eq_numbers : PrimitiveScalar → PrimitiveScalar → Bool
-eq_numbers = eq_of_both (on numbers_type equal_ignoring_nullability) (on number_seen (option_eq int_eq))
+eq_numbers = eq_of_both (on numbers_type equal_ignoring_nullability) (on number_of_view (option_eq int_eq))

@@ -11,8 +11,8 @@ use Rattle.std.specs.Hash as fed
 use Rattle.std.proofs.Math.Bool.{beq}
 use Rattle.vortex_model.specs.LogicalType.{bare, equal_ignoring_nullability}
 use Rattle.vortex_dtype_core.specs.Equal.{eq_type_equiv}
-use Rattle.vortex_scalar_views.specs.Equal.{truth_seen, numbers_type, number_seen, text_seen, bytes_seen, eq_truths, eq_texts, eq_bytes, eq_numbers}
-use Rattle.vortex_scalar_views.specs.Ordered.{truths_cmp, texts_cmp, bytes_cmp, numbers_cmp, truth_writes, number_writes, text_writes, bytes_writes}
+use Rattle.vortex_scalar_views.specs.Equal.{boolean_of_view, numbers_type, number_of_view, text_of_view, bytes_of_view, eq_booleans, eq_texts, eq_bytes, eq_numbers}
+use Rattle.vortex_scalar_views.specs.Ordered.{booleans_cmp, texts_cmp, bytes_cmp, numbers_cmp, boolean_writes, number_writes, text_writes, bytes_writes}
 use Rattle.vortex_scalar_views.specs.declared.bool_scalar.BoolScalar.{BoolScalar}
 use Rattle.vortex_scalar_views.specs.declared.primitive_scalar.PrimitiveScalar.{PrimitiveScalar}
 use Rattle.vortex_scalar_views.specs.declared.utf8_scalar.Utf8Scalar.{Utf8Scalar}
@@ -24,7 +24,7 @@ kinds_equiv : IsEquivalence equal_ignoring_nullability
 kinds_equiv = on_equiv bare eq_type_equiv
 
 pub numbers_equiv : IsEquivalence eq_numbers
-numbers_equiv = and_equiv (on_equiv numbers_type kinds_equiv) (on_equiv number_seen (options_equiv int_eq_equiv))
+numbers_equiv = and_equiv (on_equiv numbers_type kinds_equiv) (on_equiv number_of_view (options_equiv int_eq_equiv))
 
 -- ---- order
 
@@ -42,29 +42,29 @@ bools_tie true false = refl
 bools_tie false true = refl
 bools_tie false false = refl
 
-pub truths_total : IsTotalOrder truths_cmp
-truths_total = on_total truth_seen (options_total bool_cmp_total)
+pub booleans_total : IsTotalOrder booleans_cmp
+booleans_total = on_total boolean_of_view (options_total bool_cmp_total)
 
-pub truths_ties : (v w : BoolScalar) → eq_truths v w ≡ eq_by_cmp truths_cmp v w
-truths_ties v w = options_ties bool_cmp bools_tie (truth_seen v) (truth_seen w)
+pub booleans_ties : (v w : BoolScalar) → eq_booleans v w ≡ eq_by_cmp booleans_cmp v w
+booleans_ties v w = options_ties bool_cmp bools_tie (boolean_of_view v) (boolean_of_view w)
 
-pub truths_po : IsPartialOrder eq_truths (as_partial_cmp truths_cmp)
-truths_po = po truths_total truths_ties
+pub booleans_po : IsPartialOrder eq_booleans (as_partial_cmp booleans_cmp)
+booleans_po = po booleans_total booleans_ties
 
 pub texts_total : IsTotalOrder texts_cmp
-texts_total = on_total text_seen (options_total nat_list_cmp_total)
+texts_total = on_total text_of_view (options_total nat_list_cmp_total)
 
-pub seen_texts_ties : (v w : Utf8Scalar) → eq_texts v w ≡ eq_by_cmp texts_cmp v w
-seen_texts_ties v w = options_ties (slice_cmp nat_cmp) texts_ties (text_seen v) (text_seen w)
+pub texts_of_views_ties : (v w : Utf8Scalar) → eq_texts v w ≡ eq_by_cmp texts_cmp v w
+texts_of_views_ties v w = options_ties (slice_cmp nat_cmp) texts_ties (text_of_view v) (text_of_view w)
 
-pub seen_texts_po : IsPartialOrder eq_texts (as_partial_cmp texts_cmp)
-seen_texts_po = po texts_total seen_texts_ties
+pub texts_of_views_po : IsPartialOrder eq_texts (as_partial_cmp texts_cmp)
+texts_of_views_po = po texts_total texts_of_views_ties
 
 pub bytes_total : IsTotalOrder bytes_cmp
-bytes_total = on_total bytes_seen (options_total nat_list_cmp_total)
+bytes_total = on_total bytes_of_view (options_total nat_list_cmp_total)
 
 pub bytes_ties : (v w : BinaryScalar) → eq_bytes v w ≡ eq_by_cmp bytes_cmp v w
-bytes_ties v w = options_ties (slice_cmp nat_cmp) texts_ties (bytes_seen v) (bytes_seen w)
+bytes_ties v w = options_ties (slice_cmp nat_cmp) texts_ties (bytes_of_view v) (bytes_of_view w)
 
 pub bytes_po : IsPartialOrder eq_bytes (as_partial_cmp bytes_cmp)
 bytes_po = po bytes_total bytes_ties
@@ -102,8 +102,8 @@ pub numbers_po : IsPartialOrder eq_numbers numbers_cmp
 numbers_po =
     let types : IsPartialOrder (on numbers_type equal_ignoring_nullability) (on numbers_type (λ k l. if equal_ignoring_nullability k l then Some Equal else None)) = on_po numbers_type (tied_po kinds_equiv) in
     let integers : IsPartialOrder (option_eq int_eq) (as_partial_cmp (option_cmp int_cmp)) = po (options_total int_cmp_total) (options_ties int_cmp (λ x y. refl)) in
-    subst (IsPartialOrder eq_numbers) (λ i v w. either_way (equal_ignoring_nullability (numbers_type v) (numbers_type w)) (option_cmp int_cmp (number_seen v) (number_seen w)) i)
-    (then_po types (on_po number_seen integers))
+    subst (IsPartialOrder eq_numbers) (λ i v w. either_way (equal_ignoring_nullability (numbers_type v) (numbers_type w)) (option_cmp int_cmp (number_of_view v) (number_of_view w)) i)
+    (then_po types (on_po number_of_view integers))
 
 -- ---- hashing
 
@@ -115,14 +115,14 @@ options_alike {K} {E} {F} a = record { fed = both } where
   both (Some x) None h = absurd (cc (h))
   both (Some x) (Some y) h = ap (λ ws. fed.isize (pos 1) ++ ws) (a.fed x y h)
 
-pub truths_alike : (v w : BoolScalar) → eq_truths v w ≡ true → truth_writes v ≡ truth_writes w
-truths_alike = (on_Alike truth_seen (options_alike (same_Alike fed.bool booleans_Decides))).fed
+pub booleans_alike : (v w : BoolScalar) → eq_booleans v w ≡ true → boolean_writes v ≡ boolean_writes w
+booleans_alike = (on_Alike boolean_of_view (options_alike (same_Alike fed.bool booleans_Decides))).fed
 
 pub numbers_alike : (v w : PrimitiveScalar) → eq_numbers v w ≡ true → number_writes v ≡ number_writes w
-numbers_alike = (second_alike (on numbers_type equal_ignoring_nullability) (on_Alike number_seen (options_alike (same_Alike fed.i128 signed_Decides)))).fed
+numbers_alike = (second_alike (on numbers_type equal_ignoring_nullability) (on_Alike number_of_view (options_alike (same_Alike fed.i128 signed_Decides)))).fed
 
 pub texts_alike : (v w : Utf8Scalar) → eq_texts v w ≡ true → text_writes v ≡ text_writes w
-texts_alike = (on_Alike text_seen (options_alike (same_Alike fed.str bytes_decides))).fed
+texts_alike = (on_Alike text_of_view (options_alike (same_Alike fed.str bytes_decides))).fed
 
 pub bytes_alike : (v w : BinaryScalar) → eq_bytes v w ≡ true → bytes_writes v ≡ bytes_writes w
-bytes_alike = (on_Alike bytes_seen (options_alike (same_Alike (fed.slice fed.u8) bytes_decides))).fed
+bytes_alike = (on_Alike bytes_of_view (options_alike (same_Alike (fed.slice fed.u8) bytes_decides))).fed

@@ -2,7 +2,7 @@
 //! of truth values, of texts and of bytes differ in nullability alone.
 ghost use Rattle.std.specs.Cmp.{bool_eq_equiv, on_equiv, partial_equiv_from_equiv};
 ghost use Rattle.std.specs.Cmp.Lexicographic.{options_equiv, nat_list_eq_equiv};
-ghost use Rattle.vortex_scalar_views.specs.Equal.{truth_seen, text_seen, bytes_seen, eq_truths, eq_numbers, eq_texts, eq_bytes};
+ghost use Rattle.vortex_scalar_views.specs.Equal.{boolean_of_view, text_of_view, bytes_of_view, eq_booleans, eq_numbers, eq_texts, eq_bytes};
 ghost use Rattle.vortex_scalar_views.specs.Laws.{numbers_equiv};
 
 use crate::binary_scalar::BinaryScalar;
@@ -11,9 +11,9 @@ use crate::primitive_scalar::PrimitiveScalar;
 use crate::utf8_scalar::Utf8Scalar;
 
 impl PartialEq for BoolScalar<'_> {
-    ghost eq = { eq_truths };
+    ghost eq = { eq_booleans };
 
-    ghost laws = { partial_equiv_from_equiv (on_equiv truth_seen (options_equiv bool_eq_equiv)) };
+    ghost laws = { partial_equiv_from_equiv (on_equiv boolean_of_view (options_equiv bool_eq_equiv)) };
 
     fn eq(&self, other: &BoolScalar<'_>) -> bool {
         self.value() == other.value()
@@ -21,7 +21,7 @@ impl PartialEq for BoolScalar<'_> {
 }
 
 impl Eq for BoolScalar<'_> {
-    ghost laws = { on_equiv truth_seen (options_equiv bool_eq_equiv) };
+    ghost laws = { on_equiv boolean_of_view (options_equiv bool_eq_equiv) };
 }
 
 /// Numbers are equal as whole numbers.
@@ -44,7 +44,7 @@ impl PartialEq for Utf8Scalar<'_> {
     ghost eq = { eq_texts };
 
     ghost laws = { partial_equiv_from_equiv
-        (on_equiv text_seen (options_equiv nat_list_eq_equiv)) };
+        (on_equiv text_of_view (options_equiv nat_list_eq_equiv)) };
 
     fn eq(&self, other: &Utf8Scalar<'_>) -> bool {
         self.value() == other.value()
@@ -52,14 +52,14 @@ impl PartialEq for Utf8Scalar<'_> {
 }
 
 impl Eq for Utf8Scalar<'_> {
-    ghost laws = { on_equiv text_seen (options_equiv nat_list_eq_equiv) };
+    ghost laws = { on_equiv text_of_view (options_equiv nat_list_eq_equiv) };
 }
 
 impl PartialEq for BinaryScalar<'_> {
     ghost eq = { eq_bytes };
 
     ghost laws = { partial_equiv_from_equiv
-        (on_equiv bytes_seen (options_equiv nat_list_eq_equiv)) };
+        (on_equiv bytes_of_view (options_equiv nat_list_eq_equiv)) };
 
     fn eq(&self, other: &BinaryScalar<'_>) -> bool {
         self.value() == other.value()
@@ -67,5 +67,5 @@ impl PartialEq for BinaryScalar<'_> {
 }
 
 impl Eq for BinaryScalar<'_> {
-    ghost laws = { on_equiv bytes_seen (options_equiv nat_list_eq_equiv) };
+    ghost laws = { on_equiv bytes_of_view (options_equiv nat_list_eq_equiv) };
 }

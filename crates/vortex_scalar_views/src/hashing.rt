@@ -1,7 +1,7 @@
 //! What views feed hashers. Views that are equal feed them equally, whatever their types'
 //! nullability.
-ghost use Rattle.vortex_scalar_views.specs.Laws.{truths_alike, numbers_alike, texts_alike, bytes_alike};
-ghost use Rattle.vortex_scalar_views.specs.Ordered.{truth_writes, number_writes, text_writes, bytes_writes};
+ghost use Rattle.vortex_scalar_views.specs.Laws.{booleans_alike, numbers_alike, texts_alike, bytes_alike};
+ghost use Rattle.vortex_scalar_views.specs.Ordered.{boolean_writes, number_writes, text_writes, bytes_writes};
 
 use crate::binary_scalar::BinaryScalar;
 use crate::bool_scalar::BoolScalar;
@@ -10,9 +10,9 @@ use crate::utf8_scalar::Utf8Scalar;
 use std::hash::{Hash, Hasher};
 
 impl Hash for BoolScalar<'_> {
-    ghost hash_input = { truth_writes };
+    ghost hash_input = { boolean_writes };
 
-    ghost respects_eq = { truths_alike };
+    ghost respects_eq = { booleans_alike };
 
     fn hash<H: Hasher>(&self, state: &mut H) {
         self.value().hash(state);

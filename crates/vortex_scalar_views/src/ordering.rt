@@ -1,8 +1,8 @@
 //! The order of views. Null is least.
 ghost use Rattle.std.specs.Prelude.{◌≡◌, refl};
 ghost use Rattle.std.specs.Ordering.{as_partial_cmp};
-ghost use Rattle.vortex_scalar_views.specs.Laws.{truths_total, truths_ties, truths_po, numbers_po, texts_total, seen_texts_ties, seen_texts_po, bytes_total, bytes_ties, bytes_po};
-ghost use Rattle.vortex_scalar_views.specs.Ordered.{truths_cmp, numbers_cmp, texts_cmp, bytes_cmp};
+ghost use Rattle.vortex_scalar_views.specs.Laws.{booleans_total, booleans_ties, booleans_po, numbers_po, texts_total, texts_of_views_ties, texts_of_views_po, bytes_total, bytes_ties, bytes_po};
+ghost use Rattle.vortex_scalar_views.specs.Ordered.{booleans_cmp, numbers_cmp, texts_cmp, bytes_cmp};
 
 use crate::binary_scalar::BinaryScalar;
 use crate::bool_scalar::BoolScalar;
@@ -12,13 +12,13 @@ use std::cmp::Ordering;
 
 /// False is below true.
 impl Ord for BoolScalar<'_> {
-    ghost cmp = { truths_cmp };
+    ghost cmp = { booleans_cmp };
 
-    ghost total = { truths_total };
+    ghost total = { booleans_total };
 
     ghost matches_partial_cmp = { λ x y. refl };
 
-    ghost matches_eq = { truths_ties };
+    ghost matches_eq = { booleans_ties };
 
     fn cmp(&self, other: &BoolScalar<'_>) -> Ordering {
         self.value().cmp(&other.value())
@@ -26,9 +26,9 @@ impl Ord for BoolScalar<'_> {
 }
 
 impl PartialOrd for BoolScalar<'_> {
-    ghost partial_cmp = { as_partial_cmp truths_cmp };
+    ghost partial_cmp = { as_partial_cmp booleans_cmp };
 
-    ghost laws = { truths_po };
+    ghost laws = { booleans_po };
 
     fn partial_cmp(&self, other: &BoolScalar<'_>) -> Option<Ordering> {
         Some(self.cmp(other))
@@ -43,7 +43,7 @@ impl Ord for Utf8Scalar<'_> {
 
     ghost matches_partial_cmp = { λ x y. refl };
 
-    ghost matches_eq = { seen_texts_ties };
+    ghost matches_eq = { texts_of_views_ties };
 
     fn cmp(&self, other: &Utf8Scalar<'_>) -> Ordering {
         self.value().cmp(&other.value())
@@ -53,7 +53,7 @@ impl Ord for Utf8Scalar<'_> {
 impl PartialOrd for Utf8Scalar<'_> {
     ghost partial_cmp = { as_partial_cmp texts_cmp };
 
-    ghost laws = { seen_texts_po };
+    ghost laws = { texts_of_views_po };
 
     fn partial_cmp(&self, other: &Utf8Scalar<'_>) -> Option<Ordering> {
         Some(self.cmp(other))

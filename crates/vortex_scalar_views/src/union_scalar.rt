@@ -8,7 +8,7 @@ ghost use Rattle.vortex_dtype_core.specs.Parts.{is_union_type, variants_in_type}
 ghost use Rattle.vortex_dtype_core.specs.View.{type_of, variants_in};
 ghost use Rattle.vortex_scalar_value.specs.View.{raw_at};
 ghost use Rattle.vortex_scalar_views.specs.Forms.{GivesView};
-ghost use Rattle.vortex_scalar_views.specs.Choices.{tag_of, place_of_choice, child_of};
+ghost use Rattle.vortex_scalar_views.specs.Choices.{tag_of, index_of_choice, child_of};
 ghost use Rattle.vortex_scalar_views.specs.Held.{raw_of_choice};
 
 use crate::copies::scalar_of;
@@ -126,7 +126,7 @@ impl<'a> UnionScalar<'a> {
     /// The index of the variant of the tag, and `None` of null.
     #[tactic(auto, using(crate::proofs::Choices::tagged))]
     pub fn child_index(&self) -> Option<usize>
-        ensures { result ≡ place_of_choice (typed_union self.now) }
+        ensures { result ≡ index_of_choice (typed_union self.now) }
     {
         let tag = self.type_id()?;
         self.variants().tag_to_child_index(tag)

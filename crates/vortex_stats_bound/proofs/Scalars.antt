@@ -11,7 +11,7 @@ use Rattle.vortex_model.proofs.Tests.{kind_so, has_so}
 use Rattle.vortex_dtype_fields.proofs.Lawful.{equal_equiv}
 use Rattle.vortex_scalar_ops.specs.Equality.{eq_content, has_variant}
 use Rattle.vortex_scalar_ops.proofs.Compared.{type_compares}
-use Rattle.vortex_scalar_ops.proofs.Sameness.{eq_equiv}
+use Rattle.vortex_scalar_ops.proofs.EqualityLemmas.{eq_equiv}
 use Rattle.vortex_scalar_core.specs.Scalar.{scalar_type, scalar_raw, scalar_content}
 use Rattle.vortex_scalar_core.specs.Equality.{eq_scalar, eq_scalar_equiv}
 use Rattle.vortex_scalar_core.specs.declared.scalar.Scalar.{Scalar}

@@ -13,7 +13,7 @@ use Rattle.vortex_dtype_ptype.specs.Numbers.{NumberKind, integral}
 use Rattle.vortex_dtype_ptype.specs.View.{number_kind_of}
 use Rattle.vortex_dtype_ptype.specs.declared.ptype.PType.{PType}
 use Rattle.vortex_dtype_ptype.specs.declared.ptype.PType.TheVariants as ptype
-use Rattle.vortex_stats_expr.specs.Bound.{Bound, bound_value, bound_of, bound_place}
+use Rattle.vortex_stats_expr.specs.Bound.{Bound, bound_value, bound_of, bound_column}
 use Rattle.vortex_stats_expr.specs.Faults.{IsReason, IsChecked, IsSameOf, refusal_of, truths_of}
 use Rattle.vortex_stats_expr.specs.Types.{IsOfLeaf, IsOfClass, IsClass, IsLeaf}
 use Rattle.vortex_stats_expr.specs.declared.bind.PredicateError.{PredicateError}
@@ -240,7 +240,7 @@ pub fault_inside : (k : LogicalType) (e : Expression) (r : PredicateError) → I
 fault_inside k e r h = first_reason r (expression_fault k e) (unless (is_boolean (expression_type k e)) not_boolean) h
 
 bound_value-place : (k : LogicalType) (xs : Names) (o : Option Positions) (row : Content) →
-    bound_value (bound_place o) row ≡ elim o [ None ↦ null | Some is ↦ at row is ]
+    bound_value (bound_column o) row ≡ elim o [ None ↦ null | Some is ↦ at row is ]
 bound_value-place k xs None row = refl
 bound_value-place k xs (Some is) row = refl
 

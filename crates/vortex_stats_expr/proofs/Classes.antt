@@ -99,31 +99,31 @@ plain-within non_nullable (Some k) = refl
 plain-within nullable (Some k) = ap Some (plain-plain k)
 
 -- what a path leads to, nullability aside
-abbrev SameAlong : LogicalType → Names → Type 0
-SameAlong k xs = option_map plain (type_of_column k xs) ≡ option_map plain (along (Some k) xs)
+abbrev EqualAlong : LogicalType → Names → Type 0
+EqualAlong k xs = option_map plain (type_of_column k xs) ≡ option_map plain (along (Some k) xs)
 
 along-none : (xs : Names) → along None xs ≡ None
 along-none [] = refl
 along-none (x ∷ xs) = along-none xs
 
-no_part : (k : LogicalType) (x : List ℕ) (xs : Names) → part_named k x ≡ None → SameAlong k (x ∷ xs)
+no_part : (k : LogicalType) (x : List ℕ) (xs : Names) → part_named k x ≡ None → EqualAlong k (x ∷ xs)
 no_part k x xs p =
     ap (λ o. option_map plain (option_and_then (type_at k) o)) (positions-stop k x xs p) ∙ sym (ap (option_map plain) (ap (λ o. along o xs) p ∙ along-none xs))
 
-a_part : (k part : LogicalType) (i : ℕ) (x : List ℕ) (xs : Names) → position_in k x ≡ Some i → part_at k i ≡ Some part → SameAlong part xs → SameAlong k (x ∷ xs)
+a_part : (k part : LogicalType) (i : ℕ) (x : List ℕ) (xs : Names) → position_in k x ≡ Some i → part_at k i ≡ Some part → EqualAlong part xs → EqualAlong k (x ∷ xs)
 a_part k part i x xs p q same =
     ap (option_map plain) (type_of_column-step k part i x xs p q) ∙ plain-within (nullability_of k) (type_of_column part xs) ∙ same
     ∙ sym (ap (λ o. option_map plain (along o xs)) (ap (option_and_then (part_at k)) p ∙ q))
 
-by_part : (k : LogicalType) (i : ℕ) (x : List ℕ) (xs : Names) (o : Option LogicalType) → position_in k x ≡ Some i → part_at k i ≡ o → ((part : LogicalType) → SameAlong part xs) → SameAlong k (x ∷ xs)
+by_part : (k : LogicalType) (i : ℕ) (x : List ℕ) (xs : Names) (o : Option LogicalType) → position_in k x ≡ Some i → part_at k i ≡ o → ((part : LogicalType) → EqualAlong part xs) → EqualAlong k (x ∷ xs)
 by_part k i x xs None p q same = no_part k x xs (ap (option_and_then (part_at k)) p ∙ q)
 by_part k i x xs (Some part) p q same = a_part k part i x xs p q (same part)
 
-by_position : (k : LogicalType) (x : List ℕ) (xs : Names) (o : Option ℕ) → position_in k x ≡ o → ((part : LogicalType) → SameAlong part xs) → SameAlong k (x ∷ xs)
+by_position : (k : LogicalType) (x : List ℕ) (xs : Names) (o : Option ℕ) → position_in k x ≡ o → ((part : LogicalType) → EqualAlong part xs) → EqualAlong k (x ∷ xs)
 by_position k x xs None p same = no_part k x xs (ap (option_and_then (part_at k)) p)
 by_position k x xs (Some i) p same = by_part k i x xs (part_at k i) p refl same
 
-eq_along : (k : LogicalType) (xs : Names) → SameAlong k xs
+eq_along : (k : LogicalType) (xs : Names) → EqualAlong k xs
 eq_along k [] = refl
 eq_along k (x ∷ xs) = by_position k x xs (position_in k x) refl (λ part. eq_along part xs)
 

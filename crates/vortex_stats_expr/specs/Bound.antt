@@ -33,14 +33,14 @@ bound_value (range_test x lo hi lower_strict upper_strict) row =
     kleene_and (compared (end_of lower_strict) (bound_value lo row) (bound_value x row)) (compared (end_of upper_strict) (bound_value x row) (bound_value hi row))
 bound_value (match_test x form negated) row = liked (bound_value x row) (bound_value form row) negated
 
-abbrev pub bound_place : Option Positions → Bound
-bound_place None = fixed null
-bound_place (Some is) = place is
+abbrev pub bound_column : Option Positions → Bound
+bound_column None = fixed null
+bound_column (Some is) = place is
 
 -- a predicate over rows of this type, with its columns resolved
 abbrev pub bound_of : LogicalType → Expression → Bound
 bound_of k (literal l c) = fixed c
-bound_of k (column xs) = bound_place (positions k xs)
+bound_of k (column xs) = bound_column (positions k xs)
 bound_of k (compare op x y) = test op (bound_of k x) (bound_of k y)
 bound_of k (both x y) = each (bound_of k x) (bound_of k y)
 bound_of k (either x y) = some (bound_of k x) (bound_of k y)

@@ -12,7 +12,7 @@ ghost use Rattle.vortex_model.specs.Command.{predicate_fault};
 ghost use Rattle.vortex_model.specs.Pruning.{has_no_like};
 ghost use Rattle.vortex_dtype_core.specs.View.{type_of};
 ghost use Rattle.vortex_scalar_core.specs.Scalar.{scalar_type, scalar_content};
-ghost use Rattle.vortex_stats_expr.specs.Bound.{fixed, bound_value, bound_of, bound_place};
+ghost use Rattle.vortex_stats_expr.specs.Bound.{fixed, bound_value, bound_of, bound_column};
 ghost use Rattle.vortex_stats_expr.specs.Faults.{IsReason, IsChecked, IsSameOf, truths_of};
 
 use crate::bound::{BoundExpression, BoundNode, bound_and, bound_compare, bound_or};
@@ -110,12 +110,12 @@ fn check(dtype: &DType, e: &Expression) -> Result<Leaf, PredicateError>
         Node::And(x, y) => {
             let left = check(dtype, x)?;
             let right = check(dtype, y)?;
-            check_truths(left, right)
+            check_booleans(left, right)
         }
         Node::Or(x, y) => {
             let left = check(dtype, x)?;
             let right = check(dtype, y)?;
-            check_truths(left, right)
+            check_booleans(left, right)
         }
         Node::Stat(_, x) => {
             check(dtype, x)?;
@@ -162,7 +162,7 @@ fn check_same(left: Leaf, right: Leaf) -> Result<Leaf, PredicateError>
     }
 }
 
-fn check_truths(left: Leaf, right: Leaf) -> Result<Leaf, PredicateError>
+fn check_booleans(left: Leaf, right: Leaf) -> Result<Leaf, PredicateError>
     ensures { result ≡ truths_of left right }
 {
     match left {
@@ -240,7 +240,7 @@ fn resolve_column(
     dtype: &DType,
     path: &FieldNames,
 ) -> Result<BoundExpression, AllocError>
-    ensures { IfOk result (λ bound. bound ≡ bound_place (positions (type_of dtype.now) path.now)) }
+    ensures { IfOk result (λ bound. bound ≡ bound_column (positions (type_of dtype.now) path.now)) }
 {
     match column_positions(alloc, dtype, path)? {
         Some(positions) => Ok(BoundExpression {

@@ -9,7 +9,7 @@ use Rattle.vortex_dtype_ptype.specs.declared.ptype.PType.{PType}
 use Rattle.vortex_dtype_ptype.specs.declared.ptype.PType.TheVariants as ptype
 use Rattle.vortex_stats_expr.specs.Tree.{aggregate_of}
 use Rattle.vortex_stats_expr.specs.Types.{IsOfClass, IsClass}
-use Rattle.vortex_stats_rewrite.specs.Classes.{sum_class, count_class, truth_class, of_floats, aggregate_class}
+use Rattle.vortex_stats_rewrite.specs.Classes.{sum_class, count_class, boolean_class, of_floats, aggregate_class}
 use Rattle.vortex_stats_expr.specs.declared.aggregate.AggregateFn.{AggregateFn}
 use Rattle.vortex_stats_expr.specs.declared.aggregate.AggregateFn.TheVariants as aggregate
 use Rattle.vortex_stats_expr.specs.declared.types.Leaf.TheVariants as leaf
@@ -98,8 +98,8 @@ of_any aggregate.UncompressedSizeInBytes c k h = refl
 of_any aggregate.AllNull c k h = tt
 of_any aggregate.AllNonNull c k h = tt
 of_any aggregate.NanCount c k h = of_float c count_class k count_type h refl
-of_any aggregate.AllNan c k h = of_float c truth_class k (boolean_type nullable) h tt
-of_any aggregate.AllNonNan c k h = of_float c truth_class k (boolean_type nullable) h tt
+of_any aggregate.AllNan c k h = of_float c boolean_class k (boolean_type nullable) h tt
+of_any aggregate.AllNonNan c k h = of_float c boolean_class k (boolean_type nullable) h tt
 
 -- the class of a placeholder follows from that of its input
 pub placeholder_class : (f : AggregateFn) (c : TypeClass) (o : Option LogicalType) → IsClass (Some c) o → IsClass (aggregate_class f c) (option_and_then (type_of_aggregate (aggregate_of f)) o)

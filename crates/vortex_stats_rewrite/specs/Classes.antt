@@ -45,8 +45,8 @@ sum_class c = None
 abbrev pub count_class : TypeClass
 count_class = class.Leaf (leaf.Primitive ptype.U64)
 
-abbrev pub truth_class : TypeClass
-truth_class = class.Leaf leaf.Bool
+abbrev pub boolean_class : TypeClass
+boolean_class = class.Leaf leaf.Bool
 
 -- what is asked of floats alone
 abbrev pub of_floats : TypeClass → TypeClass → Option TypeClass
@@ -61,8 +61,8 @@ aggregate_class aggregate.MinMax c = bounds_class c
 aggregate_class aggregate.Sum c = sum_class c
 aggregate_class aggregate.NullCount c = Some count_class
 aggregate_class aggregate.UncompressedSizeInBytes c = Some count_class
-aggregate_class aggregate.AllNull c = Some truth_class
-aggregate_class aggregate.AllNonNull c = Some truth_class
+aggregate_class aggregate.AllNull c = Some boolean_class
+aggregate_class aggregate.AllNonNull c = Some boolean_class
 aggregate_class aggregate.NanCount c = of_floats c count_class
-aggregate_class aggregate.AllNan c = of_floats c truth_class
-aggregate_class aggregate.AllNonNan c = of_floats c truth_class
+aggregate_class aggregate.AllNan c = of_floats c boolean_class
+aggregate_class aggregate.AllNonNan c = of_floats c boolean_class

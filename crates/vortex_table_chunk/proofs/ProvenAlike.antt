@@ -19,11 +19,11 @@ use Rattle.vortex_table_schema.specs.Leaves.{leaf_positions}
 use Rattle.vortex_table_schema.proofs.Places.{is_among, leaf_there}
 use Rattle.vortex_table_chunk.specs.zones.Bounds.{IsBoundsOf}
 use Rattle.vortex_table_chunk.specs.declared.zones.bounds.ColumnBounds.{ColumnBounds}
-use Rattle.vortex_table_chunk.proofs.zones.SaidRightly.{said_rightly}
+use Rattle.vortex_table_chunk.proofs.zones.StatValueLemmas.{stat_values_are_right}
 use Rattle.vortex_stats_rewrite.specs.Stats.{is_proved}
 use Rattle.vortex_table_chunk.specs.Bounds.{row_content, column_at}
 use Rattle.vortex_table_chunk.specs.Chunk.{chunk_rows}
-use Rattle.vortex_table_chunk.specs.BoundStat.{said_if_there, stat_value_at, bound_stat}
+use Rattle.vortex_table_chunk.specs.BoundStat.{stat_value_or_null, stat_value_at, bound_stat}
 use Rattle.vortex_table_chunk.specs.Proved.{proved_by}
 use Rattle.vortex_table_chunk.specs.declared.chunk.Chunk.{Chunk}
 use Rattle.vortex_table_chunk.proofs.Agreement.{AgreeIn, eq_value}
@@ -72,8 +72,8 @@ module _ (t : Table) (chunk : Chunk) (of_type : AllByRecursion (IsContent t.kind
   of_leaf : (xs : Names) (own : LeafAt t.kind (positions t.kind xs)) → Found chunk.bound_length leaves bounds chunk.rows.items own.place → (a : Aggregate) →
       bound_stat t.kind leaves bounds (length rows) (column xs) a ≡ known (chunk_zone t rows) (length rows) (column xs) a
   of_leaf xs own found a =
-      ap (λ o. stat_value_at leaves bounds (length rows) o a) own.only ∙ ap (λ o. said_if_there o (length rows) a) found.there
-      ∙ said_rightly found.bounds_of own.type (bound_length t own.place) (length rows) (column_at own.place chunk.rows.items) own.leaf
+      ap (λ o. stat_value_at leaves bounds (length rows) o a) own.only ∙ ap (λ o. stat_value_or_null o (length rows) a) found.there
+      ∙ stat_values_are_right found.bounds_of own.type (bound_length t own.place) (length rows) (column_at own.place chunk.rows.items) own.leaf
       (all_at_type t.kind own.place own.type rows own.there of_type)
       (subst (λ L. IsBoundsOf L found.bounds_of (column_at own.place chunk.rows.items)) (long own.place) found.honest) xs (chunk_zone t rows)
       (ap (option_map (λ (leaf : Positions × LogicalType). chunk_zone_at t rows leaf.0 leaf.1)) (leaf_of_path xs own)) a

@@ -1,3 +1,3 @@
 pub mod InFront
-pub mod SaidRightly
+pub mod StatValueLemmas
 pub mod ValueBounds

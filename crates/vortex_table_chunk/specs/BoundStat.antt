@@ -7,9 +7,9 @@ use Rattle.vortex_model.specs.Expression.{Expression, column, Aggregate}
 use Rattle.vortex_table_chunk.specs.zones.StatValue.{stat_value}
 use Rattle.vortex_table_chunk.specs.declared.zones.bounds.ColumnBounds.{ColumnBounds}
 
-abbrev pub said_if_there : Option ColumnBounds → ℕ → Aggregate → Content
-said_if_there None rows a = null
-said_if_there (Some b) rows a = stat_value b rows a
+abbrev pub stat_value_or_null : Option ColumnBounds → ℕ → Aggregate → Content
+stat_value_or_null None rows a = null
+stat_value_or_null (Some b) rows a = stat_value b rows a
 
 -- the bounds of the leaf at these positions; the first bounds belong to the first leaf, and so on
 abbrev pub bounds_at : List Positions → List ColumnBounds → Positions → Option ColumnBounds
@@ -18,7 +18,7 @@ bounds_at leaves bounds is = None
 
 abbrev pub stat_value_at : List Positions → List ColumnBounds → ℕ → Option Positions → Aggregate → Content
 stat_value_at leaves bounds rows None a = null
-stat_value_at leaves bounds rows (Some is) a = said_if_there (bounds_at leaves bounds is) rows a
+stat_value_at leaves bounds rows (Some is) a = stat_value_or_null (bounds_at leaves bounds is) rows a
 
 -- what is given for a placeholder
 abbrev pub bound_stat : LogicalType → List Positions → List ColumnBounds → ℕ → Expression → Aggregate → Content

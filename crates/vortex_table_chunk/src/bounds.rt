@@ -11,15 +11,15 @@ use vortex_stats_expr::bound::part_at;
 use vortex_table_schema::leaves::LeafPath;
 
 // `leaf` is the path of the column.
-fn leaf_extremes<'a>(rows: &'a [ScalarValue], leaf: &[usize]) -> MinMax<'a>
+fn leaf_min_max<'a>(rows: &'a [ScalarValue], leaf: &[usize]) -> MinMax<'a>
     ensures { IsMinMaxOf result (column_at leaf.now rows.now) }
 {
     // Each is added in front of those behind it.
-    let mut extremes = MinMax::none();
+    let mut min_max = MinMax::none();
     for index in (0..rows.len()).rev() {
-        extremes = extremes.with(part_at(&rows[index], leaf));
+        min_max = min_max.with(part_at(&rows[index], leaf));
     }
-    extremes
+    min_max
 }
 
 fn leaf_bounds(
@@ -30,7 +30,7 @@ fn leaf_bounds(
 ) -> Result<ColumnBounds, AllocError>
     ensures { IfOk result (λ bounds. IsBoundsOf max_length bounds (column_at leaf.now rows.now)) }
 {
-    let bounds = leaf_extremes(rows, leaf).bounds(alloc, max_length)?;
+    let bounds = leaf_min_max(rows, leaf).bounds(alloc, max_length)?;
     Ok(bounds)
 }
 

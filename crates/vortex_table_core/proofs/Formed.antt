@@ -9,7 +9,7 @@ use Rattle.vortex_scalar_value.specs.View.{raw_of}
 use Rattle.vortex_table_schema.specs.Leaves.{leaf_positions}
 use Rattle.vortex_table_chunk.specs.declared.chunk.Chunk.{Chunk}
 use Rattle.vortex_table_core.specs.Table.{is_formed, eq_leaves}
-use Rattle.vortex_table_core.proofs.SameLeaves.{leaves_so}
+use Rattle.vortex_table_core.proofs.EqualLeaves.{leaves_so}
 
 eq_length : (m n : ℕ) → IsTrue (nat_eq m n) → m ≡ n
 eq_length m n h = grind (arith, nat_tests, h)

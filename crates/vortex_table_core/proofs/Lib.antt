@@ -9,5 +9,5 @@ pub mod Progress
 pub mod Proven
 pub mod Rows
 pub mod Run
-pub mod SameLeaves
+pub mod EqualLeaves
 pub mod Taken

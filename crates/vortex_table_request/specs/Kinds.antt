@@ -8,7 +8,7 @@ use Rattle.serde_json.specs.Data.{Data, null, boolean as truth, number, string, 
 use Rattle.serde_json.specs.Find.{get, as_array, as_bool, as_i64, as_number, as_str}
 use Rattle.vortex_model.specs.LogicalType.{u8, u16, u32, u64, i8, i16, i32, i64, f16, f32, f64, LogicalType}
 use Rattle.vortex_dtype_ptype.specs.Numbers.{NumberKind, integral, floating}
-use Rattle.vortex_dtype_proto.specs.Messages.{Form, nulls, truths, texts, blobs, variants, numbers, decimals, lists, fixed_lists, maps, records, unions, extended, Tree, node, Reading, read, malformed, refused_by_plugin, reading}
+use Rattle.vortex_dtype_proto.specs.Messages.{Form, nulls, booleans, texts, byte_strings, variants, numbers, decimals, lists, fixed_lists, maps, records, unions, extended, Tree, node, Reading, read, malformed, refused_by_plugin, reading}
 use Rattle.vortex_dtype_proto.specs.Sessions.{no_plugins}
 use Rattle.vortex_dtype_proto.specs.View.{trees_from}
 use Rattle.vortex_table_request.specs.Parsed.{size_of, natural_of}
@@ -68,9 +68,9 @@ number_kind_named name =
 abbrev pub plain_named : List ℕ → Option Form
 plain_named name =
     if bytes_eq name (codes "null") then Some nulls
-    else (if bytes_eq name (codes "bool") then Some truths
+    else (if bytes_eq name (codes "bool") then Some booleans
     else (if bytes_eq name (codes "utf8") then Some texts
-    else (if bytes_eq name (codes "binary") then Some blobs
+    else (if bytes_eq name (codes "binary") then Some byte_strings
     else (if bytes_eq name (codes "variant") then Some variants
     else (if bytes_eq name (codes "list") then Some lists else option_map numbers (number_kind_named name))))))
 

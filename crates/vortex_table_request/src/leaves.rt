@@ -19,7 +19,7 @@ use vortex_scalar_value::scalar_value::ScalarValue;
 
 /// A truth value, which only a type of truth values has.
 #[tactic(auto, using(crate::proofs::AtKinds::leaves))]
-pub(crate) fn read_truth(dtype: &DType, truth: bool) -> Result<Option<ScalarValue>, ParseError>
+pub(crate) fn read_boolean(dtype: &DType, truth: bool) -> Result<Option<ScalarValue>, ParseError>
     ensures { Gives raw_in result (reading (type_of dtype.now) (boolean truth)) }
 {
     if dtype.is_boolean() {

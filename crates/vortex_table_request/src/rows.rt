@@ -7,7 +7,7 @@ ghost use Rattle.vortex_table_request.specs.Parsed.{Gives};
 ghost use Rattle.vortex_table_request.specs.Rows.{reading, readings, row_at, rows_at};
 
 use crate::ParseError;
-use crate::leaves::{read_number, read_truth, take_text};
+use crate::leaves::{read_boolean, read_number, take_text};
 use serde_json::Value;
 use std::alloc::Global;
 use vortex_dtype_core::dtype::DType;
@@ -36,7 +36,7 @@ pub fn take_value(
         },
         Value::Null => Ok(None),
         Value::Number(number) => read_number(dtype, &number),
-        Value::Bool(truth) => read_truth(dtype, truth),
+        Value::Bool(truth) => read_boolean(dtype, truth),
         Value::String(text) => take_text(alloc, dtype, text),
         Value::Object(_) => Err(ParseError::Malformed),
     }

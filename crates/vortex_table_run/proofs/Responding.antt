@@ -13,7 +13,7 @@ use Rattle.vortex_model.specs.Reply.{refused, found, RespondsTo, PassesTotal}
 use Rattle.vortex_table_core.specs.Error.{Explains}
 use Rattle.vortex_table_core.specs.declared.error.TableError.{TableError}
 use Rattle.vortex_table_core.specs.declared.error.TableError.TheVariants as error
-use Rattle.vortex_table_run.specs.Said.{error_answer}
+use Rattle.vortex_table_run.specs.CommandAnswers.{error_answer}
 use Rattle.vortex_table_run.proofs.Errors.{explained}
 
 create_refusal : (old : Option Table) (k : LogicalType) (n : ℕ) → refusal_in old (create k n []) ≡ create_fault k []

@@ -1,3 +1,3 @@
 pub mod LineAnswers
-pub mod Said
+pub mod CommandAnswers
 pub mod State

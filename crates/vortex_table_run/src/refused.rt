@@ -1,6 +1,6 @@
 //! Refusals as texts that take no memory.
 ghost use Rattle.std.specs.Prelude.{◌≡◌, ◌≤◌, ℕ, List, length};
-ghost use Rattle.vortex_table_run.specs.Said.{IsSaid, error_answer, error_name};
+ghost use Rattle.vortex_table_run.specs.CommandAnswers.{IsWrittenAs, error_answer, error_name};
 
 use vortex_table_core::error::TableError;
 use vortex_table_io::Response;
@@ -32,7 +32,7 @@ fn name(error: TableError) -> &'static str
 
 /// What is said of an error.
 pub(crate) fn fault(error: TableError) -> Response
-    ensures { (out : List ℕ) → IsSaid (error_answer error) result out }
+    ensures { (out : List ℕ) → IsWrittenAs (error_answer error) result out }
 {
     if error == TableError::Memory {
         return Response::NoMemory;

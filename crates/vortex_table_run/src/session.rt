@@ -9,7 +9,7 @@ ghost use Rattle.vortex_table_schema.specs.Answer.{answer_of};
 ghost use Rattle.vortex_table_response.specs.Text.{scan_text};
 ghost use Rattle.vortex_table_io.specs.Lines.{with_lf};
 ghost use Rattle.vortex_table_request.specs.View.{shown};
-ghost use Rattle.vortex_table_run.specs.Said.{Responds};
+ghost use Rattle.vortex_table_run.specs.CommandAnswers.{Responds};
 
 use crate::refused::fault;
 use std::alloc::{AllocError, Global};

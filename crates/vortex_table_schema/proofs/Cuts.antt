@@ -11,7 +11,7 @@ use Rattle.vortex_model.proofs.Answers.{KeepAll, uncut, uncut_kind}
 use Rattle.vortex_model.proofs.ContentOrder.{true_left, true_right}
 use Rattle.vortex_model.proofs.Contents.{said}
 use Rattle.vortex_model.proofs.Tests.{has_so}
-use Rattle.vortex_dtype_core.specs.View.{NamedKind, fields_from}
+use Rattle.vortex_dtype_core.specs.View.{NamedType, fields_from}
 use Rattle.vortex_dtype_core.specs.Parts.{fields_in_type}
 use Rattle.vortex_table_schema.specs.Cut.{Tree, whole, parts, Parts, no_parts, part, KeptPart, parts_from, strip_all, ask_for_all, is_not_root, kept_by, kept_parts, cut_named, kept_list, content_cut, contents_cut, raw_cut, raws_cut}
 use Rattle.vortex_scalar_value.specs.Parts.{raw_nth}
@@ -74,18 +74,18 @@ mutual
 
 -- ---- the type
 
-named_one : (b : Bool) (x : List ℕ) (k : LogicalType) (fs : List NamedKind) (gs : Fields) → gs ≡ fields_from fs → (if b then field x k gs else gs) ≡ fields_from (if b then (x, k) ∷ fs else fs)
+named_one : (b : Bool) (x : List ℕ) (k : LogicalType) (fs : List NamedType) (gs : Fields) → gs ≡ fields_from fs → (if b then field x k gs else gs) ≡ fields_from (if b then (x, k) ∷ fs else fs)
 named_one true x k fs gs h = ap (field x k) h
 named_one false x k fs gs h = h
 
-named : (paths : List Names) (fs : List NamedKind) → cut_fields paths [] (fields_from fs) ≡ fields_from (cut_named paths fs)
+named : (paths : List Names) (fs : List NamedType) → cut_fields paths [] (fields_from fs) ≡ fields_from (cut_named paths fs)
 named paths [] = refl
 named paths (f ∷ fs) =
     (λ i. if kept_field paths f.0 i then field f.0 (cut_beyond paths f.0 [] f.1 i) (cut_fields paths [] (fields_from fs)) else cut_fields paths [] (fields_from fs))
     ∙ named_one (is_not_root (strip_all f.0 paths)) f.0 (cut_kind (strip_all f.0 paths) [] f.1) (cut_named paths fs) (cut_fields paths [] (fields_from fs)) (named paths fs)
 
 -- the type of a record that is cut
-pub cut_struct : (paths : List Names) (k : LogicalType) (fs : List NamedKind) (n : Nullability) → k ≡ struct (fields_from fs) n → cut_kind paths [] k ≡ struct (fields_from (cut_named paths fs)) n
+pub cut_struct : (paths : List Names) (k : LogicalType) (fs : List NamedType) (n : Nullability) → k ≡ struct (fields_from fs) n → cut_kind paths [] k ≡ struct (fields_from (cut_named paths fs)) n
 cut_struct paths k fs n is = ap (cut_kind paths []) is ∙ ap (λ gs. struct gs n) (named paths fs)
 
 pub cut_whole : (paths : List Names) (k : LogicalType) → ask_for_all paths ≡ true → cut_kind paths [] k ≡ k
@@ -97,11 +97,11 @@ listed_one : (b : Bool) (i : ℕ) (t : Tree) (ps : List KeptPart) (qs : Parts) �
 listed_one true i t ps qs h = ap (part i t) h
 listed_one false i t ps qs h = h
 
-listed : (paths : List Names) (i : ℕ) (fs : List NamedKind) → kept_parts paths i (fields_from fs) ≡ parts_from (kept_list paths i fs)
+listed : (paths : List Names) (i : ℕ) (fs : List NamedType) → kept_parts paths i (fields_from fs) ≡ parts_from (kept_list paths i fs)
 listed paths i [] = refl
 listed paths i (f ∷ fs) = listed_one (is_not_root (strip_all f.0 paths)) i (kept_by (strip_all f.0 paths) f.1) (kept_list paths (suc i) fs) (kept_parts paths (suc i) (fields_from fs)) (listed paths (suc i) fs)
 
-pub parts_struct : (paths : List Names) (k : LogicalType) (fs : List NamedKind) (n : Nullability) → k ≡ struct (fields_from fs) n → ask_for_all paths ≡ false → kept_by paths k ≡ parts (parts_from (kept_list paths 0 fs))
+pub parts_struct : (paths : List Names) (k : LogicalType) (fs : List NamedType) (n : Nullability) → k ≡ struct (fields_from fs) n → ask_for_all paths ≡ false → kept_by paths k ≡ parts (parts_from (kept_list paths 0 fs))
 parts_struct paths k fs n is h =
     ap (kept_by paths) is ∙ ap (λ b. if b then whole else parts (kept_parts paths 0 (fields_from fs))) h ∙ ap parts (listed paths 0 fs)
 

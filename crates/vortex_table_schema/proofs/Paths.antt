@@ -8,7 +8,7 @@ use Rattle.std.specs.Borrow.{Bor}
 use Rattle.vortex_model.specs.LogicalType.{LogicalType}
 use Rattle.vortex_model.specs.Path.{Names}
 use Rattle.vortex_model.specs.Cut.{cut_kind}
-use Rattle.vortex_dtype_core.specs.View.{NamedKind, field_of, type_of}
+use Rattle.vortex_dtype_core.specs.View.{NamedType, field_of, type_of}
 use Rattle.vortex_dtype_path.specs.declared.field.Field.{Field}
 use Rattle.vortex_dtype_core.specs.declared.struct_fields.StructField.{StructField}
 use Rattle.vortex_dtype_core.proofs.Views.{field_of-parts}
@@ -38,11 +38,11 @@ not_on x paths i path old new h is leads same before =
 -- ---- a record's fields that are kept
 
 fields_left : (fs : List StructField) (i : ℕ) (f : StructField) → i < length fs → f ≡ get_or fs i f → map field_of (drop i fs) ≡ (f.name, type_of f.dtype) ∷ map field_of (drop (suc i) fs)
-fields_left fs i f h is = ap (map field_of) (drop-cons fs i f h ∙ ap (λ g. g ∷ drop (suc i) fs) (sym is)) ∙ ap (λ (p : NamedKind). p ∷ map field_of (drop (suc i) fs)) (field_of-parts f)
+fields_left fs i f h is = ap (map field_of) (drop-cons fs i f h ∙ ap (λ g. g ∷ drop (suc i) fs) (sym is)) ∙ ap (λ (p : NamedType). p ∷ map field_of (drop (suc i) fs)) (field_of-parts f)
 
 -- one more part
 pub part_added : (old new : List StructField) (f : StructField) → new ≡ old ++ f ∷ [] → map field_of new ≡ map field_of old ++ (f.name, type_of f.dtype) ∷ []
-part_added old new f made = ap (map field_of) made ∙ map-append field_of old (f ∷ []) ∙ ap (λ (p : NamedKind). map field_of old ++ p ∷ []) (field_of-parts f)
+part_added old new f made = ap (map field_of) made ∙ map-append field_of old (f ∷ []) ∙ ap (λ (p : NamedType). map field_of old ++ p ∷ []) (field_of-parts f)
 
 pub kept_added : (old new : List ProjectedField) (f : ProjectedField) → new ≡ old ++ f ∷ [] → map part_of_field new ≡ map part_of_field old ++ (f.position, tree_of f.projection) ∷ []
 kept_added old new f made = ap (map part_of_field) made ∙ map-append part_of_field old (f ∷ []) ∙ ap (λ (p : KeptPart). map part_of_field old ++ p ∷ []) (part_of_field-parts f)
@@ -58,7 +58,7 @@ module _ (paths : List Names) (fs : List StructField) (i : ℕ) (f : StructField
   parts_left = ap (kept_list paths i) (fields_left fs i f inside is)
 
   -- one more field that is kept
-  pub named_more : (old new all : List NamedKind) (left : List Names) (k : LogicalType) → left ≡ strip_all f.name paths → is_not_root left ≡ true → k ≡ cut_kind left [] (type_of f.dtype) → new ≡ old ++ (f.name, k) ∷ [] →
+  pub named_more : (old new all : List NamedType) (left : List Names) (k : LogicalType) → left ≡ strip_all f.name paths → is_not_root left ≡ true → k ≡ cut_kind left [] (type_of f.dtype) → new ≡ old ++ (f.name, k) ∷ [] →
       old ++ cut_named paths (map field_of (drop i fs)) ≡ all → new ++ cut_named paths (map field_of (drop (i + 1) fs)) ≡ all
   named_more old new all left k e leads cut made before =
       (λ j. made j ++ cut_named paths (map field_of (drop (add-one i j) fs)))
@@ -77,7 +77,7 @@ module _ (paths : List Names) (fs : List StructField) (i : ℕ) (f : StructField
       ∙ ap (λ xs. old ++ xs) (sym parts_left) ∙ before
 
   -- and one that isn't
-  pub named_same : (old new all : List NamedKind) (left : List Names) → left ≡ strip_all f.name paths → is_not_root left ≡ false → new ≡ old →
+  pub named_same : (old new all : List NamedType) (left : List Names) → left ≡ strip_all f.name paths → is_not_root left ≡ false → new ≡ old →
       old ++ cut_named paths (map field_of (drop i fs)) ≡ all → new ++ cut_named paths (map field_of (drop (i + 1) fs)) ≡ all
   named_same old new all left e leads same before =
       (λ j. same j ++ cut_named paths (map field_of (drop (add-one i j) fs)))

@@ -10,7 +10,7 @@ use Rattle.vortex_model.specs.Path.{Positions, eq_positions, type_at, field_at}
 use Rattle.vortex_model.proofs.Columns.{stepped, leaf_within}
 use Rattle.vortex_model.proofs.ContentOrder.{true_left, true_right}
 use Rattle.vortex_dtype_ptype.specs.declared.nullability.Nullability as outer
-use Rattle.vortex_dtype_core.specs.View.{type_of, fields_of, NamedKind}
+use Rattle.vortex_dtype_core.specs.View.{type_of, fields_of, NamedType}
 use Rattle.vortex_dtype_core.specs.declared.dtype.DType as type
 use Rattle.vortex_dtype_core.specs.declared.dtype.DType.{DType}
 use Rattle.vortex_dtype_core.specs.declared.struct_fields.StructFields.{StructFields}
@@ -117,7 +117,7 @@ leaf_there k is t e w = leaf_among [] is k t e w
 -- ---- the leaves of fields, one by one
 
 first_leaves : (here : Positions) (i : ℕ) (f : StructField) (fs : List StructField) → leaves_among here i (fields_of (f ∷ fs)) ≡ leaves_in (here ++ i ∷ []) (type_of f.dtype) ++ leaves_among here (suc i) (fields_of fs)
-first_leaves here i f fs = ap (λ (p : NamedKind). leaves_in (here ++ i ∷ []) p.1 ++ leaves_among here (suc i) (fields_of fs)) (field_of-parts f)
+first_leaves here i f fs = ap (λ (p : NamedType). leaves_in (here ++ i ∷ []) p.1 ++ leaves_among here (suc i) (fields_of fs)) (field_of-parts f)
 
 fields_from_here : (here : Positions) (n : ℕ) (fs : List StructField) (i : ℕ) (f : StructField) → i < length fs → f ≡ get_or fs i f →
     leaves_among here n (fields_of (drop i fs)) ≡ leaves_in (here ++ n ∷ []) (type_of f.dtype) ++ leaves_among here (suc n) (fields_of (drop (suc i) fs))

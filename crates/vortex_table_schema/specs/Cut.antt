@@ -8,7 +8,7 @@ use Rattle.vortex_model.specs.Content.{Content, tuple, Contents, nothing, first,
 use Rattle.vortex_model.specs.Path.{Names}
 use Rattle.vortex_model.specs.Cut.{cut_kind}
 use Rattle.vortex_model.specs.Command.{names_of}
-use Rattle.vortex_dtype_core.specs.View.{NamedKind}
+use Rattle.vortex_dtype_core.specs.View.{NamedType}
 use Rattle.vortex_scalar_value.specs.Parts.{raw_nth}
 use Rattle.vortex_dtype_path.specs.View.{step_of, steps_of}
 use Rattle.vortex_dtype_path.specs.declared.field.Field.{Field}
@@ -97,12 +97,12 @@ abbrev mutual
       if is_not_root (strip_all x paths) then part i (kept_by (strip_all x paths) k) (kept_parts paths (suc i) fs) else kept_parts paths (suc i) fs
 
 -- the same of a list of fields: those that are kept, each cut
-abbrev pub cut_named : List Names → List NamedKind → List NamedKind
+abbrev pub cut_named : List Names → List NamedType → List NamedType
 cut_named paths [] = []
 cut_named paths (f ∷ fs) = if is_not_root (strip_all f.0 paths) then (f.0, cut_kind (strip_all f.0 paths) [] f.1) ∷ cut_named paths fs else cut_named paths fs
 
 -- and the parts that are kept, of fields of which the first has this position
-abbrev pub kept_list : List Names → ℕ → List NamedKind → List KeptPart
+abbrev pub kept_list : List Names → ℕ → List NamedType → List KeptPart
 kept_list paths i [] = []
 kept_list paths i (f ∷ fs) = if is_not_root (strip_all f.0 paths) then (i, kept_by (strip_all f.0 paths) f.1) ∷ kept_list paths (suc i) fs else kept_list paths (suc i) fs
 

@@ -114,17 +114,17 @@ fn strings(alloc: Global, checks: &mut Checks<'_>) -> Result<(), DTypeError> {
         "of_strings, texts",
         *texts.dtype() == DType::Utf8(WITHOUT) && texts.len() == 2,
     );
-    let blobs = ArrayRef::of_strings(
+    let byte_strings = ArrayRef::of_strings(
         alloc,
         StringKind::Binary,
         views,
         buffers,
         Validity::AllValid,
     )?;
-    checks.holds("of_strings, bytes", *blobs.dtype() == DType::Binary(WITH));
+    checks.holds("of_strings, bytes", *byte_strings.dtype() == DType::Binary(WITH));
     checks.holds(
         "values of strings",
-        match blobs.layout() {
+        match byte_strings.layout() {
             ArrayLayout::VarBinView(_, views, buffers, _) => {
                 views.get(1).bytes(buffers) == b"abcdefghijklm".as_slice()
             }

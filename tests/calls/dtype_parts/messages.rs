@@ -76,20 +76,20 @@ fn leaves(alloc: Global, checks: &mut Checks<'_>) -> Result<(), DTypeError> {
         &texts,
         &DType::Utf8(OR_NULL),
     )?;
-    let blobs = leaf(alloc, MessageKind::Binary);
+    let byte_strings = leaf(alloc, MessageKind::Binary);
     says(
         alloc,
         checks,
         "message: Binary",
-        &blobs,
+        &byte_strings,
         &DType::Binary(THERE),
     )?;
-    let blobs = leaf_or_null(alloc, MessageKind::Binary);
+    let byte_strings = leaf_or_null(alloc, MessageKind::Binary);
     says(
         alloc,
         checks,
         "message: Binary or null",
-        &blobs,
+        &byte_strings,
         &DType::Binary(OR_NULL),
     )?;
     let any = leaf(alloc, MessageKind::Variant);

@@ -134,7 +134,7 @@ fn gone_over(alloc: Global, checks: &mut Checks<'_>) -> Result<(), DTypeError> {
 }
 
 // The place of the choice of this tag, through the bound.
-fn place_of_tag<U: UnionVariantsExt>(choices: &U, tag: i8) -> Option<usize> {
+fn index_of_tag<U: UnionVariantsExt>(choices: &U, tag: i8) -> Option<usize> {
     choices.tag_to_child_index(tag)
 }
 
@@ -142,19 +142,19 @@ fn tagged(alloc: Global, checks: &mut Checks<'_>) -> Result<(), DTypeError> {
     let sample = sample(alloc)?;
     checks.holds(
         "tag_to_child_index: a tag",
-        place_of_tag(&sample, 5) == Some(0),
+        index_of_tag(&sample, 5) == Some(0),
     );
     checks.holds(
         "tag_to_child_index: the least tag",
-        place_of_tag(&sample, -128) == Some(1),
+        index_of_tag(&sample, -128) == Some(1),
     );
     checks.holds(
         "tag_to_child_index: a place is no tag",
-        place_of_tag(&sample, 0) == Some(2),
+        index_of_tag(&sample, 0) == Some(2),
     );
     checks.holds(
         "tag_to_child_index: a tag that isn't there",
-        place_of_tag(&sample, 1).is_none(),
+        index_of_tag(&sample, 1).is_none(),
     );
     checks.holds(
         "child_index_to_tag: the first",

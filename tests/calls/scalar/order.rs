@@ -53,7 +53,7 @@ fn groups(alloc: Global) -> Result<Vec<Vec<Value>>, ScalarError> {
         text("\u{ffff}"),
         text("\u{10000}"),
     ]?;
-    let blobs = vec![in alloc;
+    let byte_strings = vec![in alloc;
         bytes(b""),
         bytes(b"\x00"),
         bytes(b"\x00\x00"),
@@ -81,7 +81,7 @@ fn groups(alloc: Global) -> Result<Vec<Vec<Value>>, ScalarError> {
         tagged(alloc, -1, number(4))?,
         tagged(alloc, 127, number(3))?,
     ]?;
-    Ok(vec![in alloc; flags, numbers, texts, blobs, tuples, unions]?)
+    Ok(vec![in alloc; flags, numbers, texts, byte_strings, tuples, unions]?)
 }
 
 fn hash_of(value: Option<&ScalarValue>) -> u64 {

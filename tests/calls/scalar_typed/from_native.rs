@@ -14,7 +14,7 @@ pub fn run(alloc: Global, checks: &mut Checks<'_>) -> Done {
     truths(checks);
     all_numbers(checks);
     texts(alloc, checks)?;
-    blobs(alloc, checks)?;
+    byte_strings(alloc, checks)?;
     vectors(alloc, checks)?;
     empty_vectors(alloc, checks)?;
     native_values(alloc, checks)?;
@@ -159,7 +159,7 @@ fn texts(alloc: Global, checks: &mut Checks<'_>) -> Done {
     Ok(())
 }
 
-fn blobs(alloc: Global, checks: &mut Checks<'_>) -> Done {
+fn byte_strings(alloc: Global, checks: &mut Checks<'_>) -> Done {
     let (with, without) = (DType::Binary(WITH), DType::Binary(WITHOUT));
     let all: [&'static [u8]; 3] = [b"", b"\x00", b"\xff\xfe"];
     for given in all {

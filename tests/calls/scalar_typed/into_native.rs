@@ -31,7 +31,7 @@ pub fn run(alloc: Global, checks: &mut Checks<'_>) -> Done {
     other_types(alloc, checks)?;
     truths(checks)?;
     texts(checks)?;
-    blobs(checks)
+    byte_strings(checks)
 }
 
 /// The number as one of `T`, where it is in range. Null is `None`, and no number.
@@ -235,7 +235,7 @@ fn texts(checks: &mut Checks<'_>) -> Done {
     Ok(())
 }
 
-fn blobs(checks: &mut Checks<'_>) -> Done {
+fn byte_strings(checks: &mut Checks<'_>) -> Done {
     let all: [&'static [u8]; 2] = [b"", b"\x00\xff"];
     for given in all {
         for scalar in [

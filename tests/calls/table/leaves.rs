@@ -58,7 +58,7 @@ fn fruits(alloc: Global, bound_length: usize) -> Result<Table, TableError> {
 }
 
 // Bytes, in two chunks: 1 255, null; and 3.
-fn blobs(alloc: Global, bound_length: usize) -> Result<Table, TableError> {
+fn byte_strings(alloc: Global, bound_length: usize) -> Result<Table, TableError> {
     let dtype = record(alloc, ["blob", "n"], all_bytes(), integers())?;
     let mut table = Table::create(alloc, dtype.clone()?, bound_length)?;
     let mut values = Vec::new(alloc);
@@ -131,17 +131,17 @@ pub fn chunks_are_skipped_by_any_leaf(
         answer.skipped.as_slice() == [1].as_slice(),
     );
 
-    let answer = scan(alloc, &blobs(alloc, 1)?, &in_blob(alloc, &[2])?)?;
+    let answer = scan(alloc, &byte_strings(alloc, 1)?, &in_blob(alloc, &[2])?)?;
     checks.holds(
         "bytes below a raised bound",
         answer.rows_tested == 2 && answer.rows.is_empty(),
     );
-    let answer = scan(alloc, &blobs(alloc, 2)?, &in_blob(alloc, &[2])?)?;
+    let answer = scan(alloc, &byte_strings(alloc, 2)?, &in_blob(alloc, &[2])?)?;
     checks.holds(
         "bytes between exact bounds",
         answer.rows_tested == 0 && answer.rows.is_empty(),
     );
-    let answer = scan(alloc, &blobs(alloc, 1)?, &in_blob(alloc, &[1, 255])?)?;
+    let answer = scan(alloc, &byte_strings(alloc, 1)?, &in_blob(alloc, &[1, 255])?)?;
     checks.holds(
         "bytes that are there: rows",
         answer.rows.len() == 1 && answer.rows_tested == 2,

@@ -13,9 +13,9 @@ use Rattle.vortex_scalar_value.specs.View.{raw_at}
 use Rattle.vortex_scalar_value.specs.declared.pvalue.PValue.{PValue}
 use Rattle.vortex_scalar_value.specs.declared.scalar_value.ScalarValue.{ScalarValue}
 use Rattle.vortex_arrays_model.proofs.RowsLemmas.{rows_by_position}
-use Rattle.vortex_arrays_leaf.specs.builders.Plain.{is_held, truth_or_false, whole_or_zero, is_there, MarksNulls, IsPlain}
+use Rattle.vortex_arrays_leaf.specs.builders.Plain.{is_held, boolean_or_false, whole_or_zero, is_there, MarksNulls, IsPlain}
 
-truth_row : (n : Nullability) (r : Raw) (b x : Bool) → b ≡ is_there n r → x ≡ truth_or_false r → valid (boolean_type n) r ≡ true → cond b (boolean x) null ≡ content_of r
+truth_row : (n : Nullability) (r : Raw) (b x : Bool) → b ≡ is_there n r → x ≡ boolean_or_false r → valid (boolean_type n) r ≡ true → cond b (boolean x) null ≡ content_of r
 truth_row nullable raw_null b x e f h = ap (λ t. cond t (boolean x) null) e
 truth_row non_nullable raw_null b x e f h = absurd (cc h)
 truth_row nullable (raw_boolean y) b x e f h = λ t. cond (e t) (boolean (f t)) null
@@ -35,12 +35,12 @@ at_place f rs xs i d e l = ap (λ ys. get_or ys i d) e ∙ get_or-map f rs i raw
 as_many : {X : Type 0} (f : Raw → X) (rs : List Raw) (xs : List X) → xs ≡ map f rs → length xs ≡ length rs
 as_many f rs xs e = ap length e ∙ length-map rs f
 
-pub plain_truths : (n : Nullability) (rs : List Raw) (v : Valid) (bits : List Bool) → bits ≡ map truth_or_false rs → MarksNulls n rs v → IsPlain (boolean_type n) rs (bools bits v)
-plain_truths n rs v bits e p = record {
-  sound = subst (HasLength v) (sym (as_many truth_or_false rs bits e)) p.fits;
-  len = as_many truth_or_false rs bits e;
+pub plain_booleans : (n : Nullability) (rs : List Raw) (v : Valid) (bits : List Bool) → bits ≡ map boolean_or_false rs → MarksNulls n rs v → IsPlain (boolean_type n) rs (bools bits v)
+plain_booleans n rs v bits e p = record {
+  sound = subst (HasLength v) (sym (as_many boolean_or_false rs bits e)) p.fits;
+  len = as_many boolean_or_false rs bits e;
   kind = ap boolean_type p.nullability;
-  content = λ i l h. truth_row n (get_or rs i raw_null) (is_valid v i) (get_or bits i false) (p.bits i l) (at_place truth_or_false rs bits i false e l) h;
+  content = λ i l h. truth_row n (get_or rs i raw_null) (is_valid v i) (get_or bits i false) (p.bits i l) (at_place boolean_or_false rs bits i false e l) h;
 }
 
 pub plain_numbers : (k : IntKind) (n : Nullability) (rs : List Raw) (v : Valid) (zs : List ℤ) → All (InRange k) zs → zs ≡ map whole_or_zero rs → MarksNulls n rs v → IsPlain (integer_type k n) rs (numbers k zs v)
@@ -100,7 +100,7 @@ no_number r e = refl
 
 pub ruleset whole_numbers = (number_there, no_number)
 
-pub truth_there : (r : Raw) → unwrap_or (boolean_in r) false ≡ truth_or_false r
+pub truth_there : (r : Raw) → unwrap_or (boolean_in r) false ≡ boolean_or_false r
 truth_there (raw_boolean b) = refl
 truth_there r = refl
 

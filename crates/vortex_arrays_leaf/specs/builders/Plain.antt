@@ -11,9 +11,9 @@ is_held k raw_null = true
 is_held k r = valid k r
 
 -- What stands where the value is of another form is no row's content.
-abbrev pub truth_or_false : Raw → Bool
-truth_or_false (raw_boolean b) = b
-truth_or_false r = false
+abbrev pub boolean_or_false : Raw → Bool
+boolean_or_false (raw_boolean b) = b
+boolean_or_false r = false
 
 abbrev pub whole_or_zero : Raw → ℤ
 whole_or_zero (raw_number j z) = z

@@ -8,7 +8,7 @@ ghost use Rattle.vortex_scalar_value.specs.Numbers.{holds_number};
 ghost use Rattle.vortex_scalar_value.specs.View.{raw_at};
 ghost use Rattle.vortex_arrays_core.specs.LayoutOf.{valid_of};
 ghost use Rattle.vortex_arrays_buffer.specs.PrimitiveBuffers.{kind_of_numbers, integers_of};
-ghost use Rattle.vortex_arrays_leaf.specs.builders.Plain.{is_held, is_there, truth_or_false, whole_or_zero, MarksNulls, IsPlain};
+ghost use Rattle.vortex_arrays_leaf.specs.builders.Plain.{is_held, is_there, boolean_or_false, whole_or_zero, MarksNulls, IsPlain};
 
 use std::alloc::{AllocError, Global};
 use vortex_arrays_buffer::bit_buffer::BitBuffer;
@@ -57,7 +57,7 @@ fn is_present(value: Option<&ScalarValue>) -> bool
 }
 
 /// Truth values.
-#[tactic(auto, using(crate::proofs::builders::PlainLemmas::plain_truths))]
+#[tactic(auto, using(crate::proofs::builders::PlainLemmas::plain_booleans))]
 pub fn of_booleans(
     alloc: Global,
     nullability: Nullability,
@@ -68,7 +68,7 @@ pub fn of_booleans(
 {
     let mut bits = Vec::with_capacity(alloc, values.len())?;
     for value in values {
-        bits.push(truth_or_false(*value))?;
+        bits.push(boolean_or_false(*value))?;
     }
     let validity = nulls_of(alloc, nullability, values)?;
     let bits = BitBuffer::from_bools(alloc, bits.as_slice())?;
@@ -78,8 +78,8 @@ pub fn of_booleans(
 
 /// The truth value, and false where there is none.
 #[tactic(auto, using(crate::proofs::builders::PlainLemmas::truths))]
-fn truth_or_false(value: Option<&ScalarValue>) -> bool
-    ensures { result ≡ truth_or_false (raw_at value.entry) }
+fn boolean_or_false(value: Option<&ScalarValue>) -> bool
+    ensures { result ≡ boolean_or_false (raw_at value.entry) }
 {
     match value {
         Some(value) => value.as_bool().unwrap_or(false),

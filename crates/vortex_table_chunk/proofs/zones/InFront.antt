@@ -14,7 +14,7 @@ use Rattle.vortex_scalar_value.specs.declared.scalar_value.ScalarValue.{ScalarVa
 use Rattle.vortex_scalar_value.proofs.Nulls.{is_null-raw_of}
 use Rattle.vortex_table_chunk.specs.declared.zones.bounds.ColumnBounds.{ColumnBounds}
 use Rattle.vortex_table_chunk.specs.declared.zones.min_max.MinMax.{MinMax}
-use Rattle.vortex_table_chunk.specs.zones.Bounds.{said_behind, lesser, greater, in_front, DoCompare, IsMinMaxOf, bound_in, low_at, high_by, high_at, IsBoundsOf}
+use Rattle.vortex_table_chunk.specs.zones.Bounds.{borrowed_content, lesser, greater, in_front, DoCompare, IsMinMaxOf, bound_in, low_at, high_by, high_at, IsBoundsOf}
 
 least_step : (c : Content) (o : Option Content) → Some (in_front lesser c o) ≡ Some (elim o [ None ↦ c | Some d ↦ (if is_at_most c d then c else d) ])
 least_step c None = refl
@@ -42,11 +42,11 @@ no_null_in_front c cs e =
     omega (arith, split)
 
 pub with_value : (v : Bor ScalarValue) (o : Option (Bor ScalarValue)) (e new : MinMax) → o ≡ Some v →
-    option_map said_behind new.least ≡ Some (in_front lesser (said_behind v) (option_map said_behind e.least)) →
-    option_map said_behind new.greatest ≡ Some (in_front greater (said_behind v) (option_map said_behind e.greatest)) →
+    option_map borrowed_content new.least ≡ Some (in_front lesser (borrowed_content v) (option_map borrowed_content e.least)) →
+    option_map borrowed_content new.greatest ≡ Some (in_front greater (borrowed_content v) (option_map borrowed_content e.greatest)) →
     new.null_count ≡ e.null_count → (cs : List Content) → IsMinMaxOf e cs → IsMinMaxOf new (content_at o ∷ cs)
 with_value v o e new is least greatest nulls cs h =
-    let c = said_behind v in
+    let c = borrowed_content v in
     let there = is_null-raw_of v.now in
     subst (λ p. IsMinMaxOf new (content_at p ∷ cs)) (sym is) (record {
       least = λ compare.
@@ -59,8 +59,8 @@ with_value v o e new is least greatest nulls cs h =
     })
 
 -- null in front is counted, and changes neither
-pub with_null : (o : Option (Bor ScalarValue)) (e new : MinMax) → o ≡ None → option_map said_behind new.least ≡ option_map said_behind e.least →
-    option_map said_behind new.greatest ≡ option_map said_behind e.greatest → new.null_count ≡ e.null_count + 1 → (cs : List Content) → IsMinMaxOf e cs → IsMinMaxOf new (content_at o ∷ cs)
+pub with_null : (o : Option (Bor ScalarValue)) (e new : MinMax) → o ≡ None → option_map borrowed_content new.least ≡ option_map borrowed_content e.least →
+    option_map borrowed_content new.greatest ≡ option_map borrowed_content e.greatest → new.null_count ≡ e.null_count + 1 → (cs : List Content) → IsMinMaxOf e cs → IsMinMaxOf new (content_at o ∷ cs)
 with_null o e new is least greatest nulls cs h =
     let counts = h.nulls in
     let split : null_count_of (null ∷ cs) ≡ (0 + 1) + null_count_of cs = sum_by-append (λ x. if is_null x then 1 else 0) (null ∷ []) cs in
@@ -72,8 +72,8 @@ with_null o e new is least greatest nulls cs h =
 
 pub none_seen : (new : MinMax) → new.least ≡ None → new.greatest ≡ None → new.null_count ≡ 0 → IsMinMaxOf new []
 none_seen new least greatest nulls = record {
-  least = λ compare. ap (option_map said_behind) least;
-  greatest = λ compare. ap (option_map said_behind) greatest;
+  least = λ compare. ap (option_map borrowed_content) least;
+  greatest = λ compare. ap (option_map borrowed_content) greatest;
   nulls = nulls;
 }
 
@@ -91,8 +91,8 @@ high_step : (L : ℕ) (o : Option Content) → high_at L o ≡ elim o [ None ↦
 high_step L None = refl
 high_step L (Some v) = high_by_step L v (high L v)
 
-pub bounds_kept : (L : ℕ) (e : MinMax) (b : ColumnBounds) (cs : List Content) → bound_in b.low ≡ low_at L (option_map said_behind e.least) →
-    bound_in b.high ≡ high_at L (option_map said_behind e.greatest) → b.null_count ≡ e.null_count → IsMinMaxOf e cs → IsBoundsOf L b cs
+pub bounds_kept : (L : ℕ) (e : MinMax) (b : ColumnBounds) (cs : List Content) → bound_in b.low ≡ low_at L (option_map borrowed_content e.least) →
+    bound_in b.high ≡ high_at L (option_map borrowed_content e.greatest) → b.null_count ≡ e.null_count → IsMinMaxOf e cs → IsBoundsOf L b cs
 bounds_kept L e b cs lowest highest nulls h = record {
   low = λ compare. lowest ∙ ap (low_at L) (h.least compare) ∙ low_step L (least_value (non_null cs));
   high = λ compare. highest ∙ ap (high_at L) (h.greatest compare) ∙ high_step L (greatest_value (non_null cs));

@@ -13,8 +13,8 @@ use Rattle.vortex_table_chunk.specs.declared.zones.bounds.ColumnBounds.{ColumnBo
 use Rattle.vortex_table_chunk.specs.declared.zones.min_max.MinMax.{MinMax}
 
 -- what a value behind a `&` says
-abbrev pub said_behind : Bor ScalarValue → Content
-said_behind v = content_of (raw_of v.now)
+abbrev pub borrowed_content : Bor ScalarValue → Content
+borrowed_content v = content_of (raw_of v.now)
 
 -- the lesser and the greater of two values that compare
 abbrev pub lesser : Content → Content → Content
@@ -34,18 +34,18 @@ DoCompare cs = AllCompare (non_null cs)
 
 -- the least and the greatest of values that compare, and how many are null
 pub record IsMinMaxOf (e : MinMax) (cs : List Content) : Type 0 where
-  pub least : DoCompare cs → option_map said_behind e.least ≡ least_value (non_null cs)
-  pub greatest : DoCompare cs → option_map said_behind e.greatest ≡ greatest_value (non_null cs)
+  pub least : DoCompare cs → option_map borrowed_content e.least ≡ least_value (non_null cs)
+  pub greatest : DoCompare cs → option_map borrowed_content e.greatest ≡ greatest_value (non_null cs)
   pub nulls : e.null_count ≡ null_count_of cs
 
 -- what a bound says
-abbrev pub said_in : Bound → Content
-said_in b = content_of (raw_of b.value)
+abbrev pub bound_content : Bound → Content
+bound_content b = content_of (raw_of b.value)
 
 -- exact where it wasn't shortened
 abbrev pub bound_in : Option Bound → Precision Content
 bound_in None = absent
-bound_in (Some b) = bound_of b.shortened (said_in b)
+bound_in (Some b) = bound_of b.shortened (bound_content b)
 
 -- the bounds of a least and of a greatest value
 abbrev pub low_at : ℕ → Option Content → Precision Content

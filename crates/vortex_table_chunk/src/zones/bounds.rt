@@ -1,7 +1,7 @@
 //! The statistics of a leaf column that a chunk keeps.
 ghost use Rattle.std.specs.Prelude.{◌≡◌, List, IfOk, option_map};
 ghost use Rattle.vortex_model.specs.Content.{Content};
-ghost use Rattle.vortex_table_chunk.specs.zones.Bounds.{said_behind, bound_in, low_at, high_at, IsMinMaxOf, IsBoundsOf};
+ghost use Rattle.vortex_table_chunk.specs.zones.Bounds.{borrowed_content, bound_in, low_at, high_at, IsMinMaxOf, IsBoundsOf};
 
 use crate::zones::min_max::MinMax;
 use crate::zones::shortened::{lower_bound_of, upper_bound_of};
@@ -32,7 +32,7 @@ pub struct ColumnBounds {
 
 fn lower_bound(least: Option<&ScalarValue>, max_length: usize) -> Result<Option<Bound>, AllocError>
     ensures { IfOk result
-        (λ low. bound_in low ≡ low_at max_length (option_map said_behind least.entry)) }
+        (λ low. bound_in low ≡ low_at max_length (option_map borrowed_content least.entry)) }
 {
     match least {
         Some(least) => {
@@ -49,7 +49,7 @@ fn upper_bound(
     max_length: usize,
 ) -> Result<Option<Bound>, AllocError>
     ensures { IfOk result
-        (λ high. bound_in high ≡ high_at max_length (option_map said_behind greatest.entry)) }
+        (λ high. bound_in high ≡ high_at max_length (option_map borrowed_content greatest.entry)) }
 {
     match greatest {
         Some(greatest) => {

@@ -2,7 +2,7 @@
 ghost use Rattle.std.specs.Prelude.{◌≡◌, ◌<◌, ◌-◌, ◌^◌, [], ◌∷◌, List, option_map};
 ghost use Rattle.vortex_model.specs.Content.{Content};
 ghost use Rattle.vortex_scalar_value.specs.View.{content_at};
-ghost use Rattle.vortex_table_chunk.specs.zones.Bounds.{said_behind, lesser, greater, in_front, IsMinMaxOf};
+ghost use Rattle.vortex_table_chunk.specs.zones.Bounds.{borrowed_content, lesser, greater, in_front, IsMinMaxOf};
 
 use crate::zones::order::is_at_most;
 use vortex_scalar_value::scalar_value::ScalarValue;
@@ -19,20 +19,20 @@ pub struct MinMax<'a> {
 }
 
 fn lesser_of<'a>(left: &'a ScalarValue, right: &'a ScalarValue) -> &'a ScalarValue
-    ensures { said_behind result ≡ lesser (said_behind left.entry) (said_behind right.entry) }
+    ensures { borrowed_content result ≡ lesser (borrowed_content left.entry) (borrowed_content right.entry) }
 {
     if is_at_most(left, right) { left } else { right }
 }
 
 fn greater_of<'a>(left: &'a ScalarValue, right: &'a ScalarValue) -> &'a ScalarValue
-    ensures { said_behind result ≡ greater (said_behind left.entry) (said_behind right.entry) }
+    ensures { borrowed_content result ≡ greater (borrowed_content left.entry) (borrowed_content right.entry) }
 {
     if is_at_most(left, right) { right } else { left }
 }
 
 fn least_with<'a>(value: &'a ScalarValue, least: Option<&'a ScalarValue>) -> &'a ScalarValue
-    ensures { said_behind result ≡ in_front lesser (said_behind value.entry)
-        (option_map said_behind least.entry) }
+    ensures { borrowed_content result ≡ in_front lesser (borrowed_content value.entry)
+        (option_map borrowed_content least.entry) }
 {
     match least {
         Some(least) => lesser_of(value, least),
@@ -41,8 +41,8 @@ fn least_with<'a>(value: &'a ScalarValue, least: Option<&'a ScalarValue>) -> &'a
 }
 
 fn greatest_with<'a>(value: &'a ScalarValue, greatest: Option<&'a ScalarValue>) -> &'a ScalarValue
-    ensures { said_behind result ≡ in_front greater (said_behind value.entry)
-        (option_map said_behind greatest.entry) }
+    ensures { borrowed_content result ≡ in_front greater (borrowed_content value.entry)
+        (option_map borrowed_content greatest.entry) }
 {
     match greatest {
         Some(greatest) => greater_of(value, greatest),

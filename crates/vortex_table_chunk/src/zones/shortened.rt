@@ -4,7 +4,7 @@ ghost use Rattle.vortex_model.specs.Content.{content_of, text, byte_string};
 ghost use Rattle.vortex_model.specs.Bounds.{low, high, is_longer};
 ghost use Rattle.vortex_model.specs.Valid.{AreBytes};
 ghost use Rattle.vortex_scalar_value.specs.View.{raw_of};
-ghost use Rattle.vortex_table_chunk.specs.zones.Bounds.{said_in};
+ghost use Rattle.vortex_table_chunk.specs.zones.Bounds.{bound_content};
 
 use crate::zones::bounds::Bound;
 use std::alloc::{AllocError, Global};
@@ -24,7 +24,7 @@ fn are_bytes(bytes: &[u8])
 {}
 
 fn lower_bound_of_text(value: &BufferString, max_length: usize) -> Result<Bound, AllocError>
-    ensures value { IfOk result (λ bound. said_in bound ≡ low max_length (text value.now)) }
+    ensures value { IfOk result (λ bound. bound_content bound ≡ low max_length (text value.now)) }
     ensures shortened { IfOk result (λ bound. bound.shortened
         ≡ is_longer max_length (text value.now)) }
 {
@@ -37,7 +37,7 @@ fn lower_bound_of_text(value: &BufferString, max_length: usize) -> Result<Bound,
 }
 
 fn lower_bound_of_bytes(value: &ByteBuffer, max_length: usize) -> Result<Bound, AllocError>
-    ensures value { IfOk result (λ bound. said_in bound ≡ low max_length (byte_string value.now)) }
+    ensures value { IfOk result (λ bound. bound_content bound ≡ low max_length (byte_string value.now)) }
     ensures shortened { IfOk result (λ bound. bound.shortened
         ≡ is_longer max_length (byte_string value.now)) }
 {
@@ -50,7 +50,7 @@ fn lower_bound_of_bytes(value: &ByteBuffer, max_length: usize) -> Result<Bound, 
 }
 
 fn exact_bound(value: &ScalarValue) -> Result<Bound, AllocError>
-    ensures value { IfOk result (λ bound. said_in bound ≡ content_of (raw_of value.now)) }
+    ensures value { IfOk result (λ bound. bound_content bound ≡ content_of (raw_of value.now)) }
     ensures shortened { IfOk result (λ bound. bound.shortened ≡ false) }
 {
     let value = value.clone()?;
@@ -63,7 +63,7 @@ fn exact_bound(value: &ScalarValue) -> Result<Bound, AllocError>
 /// A value of at most `max_length` bytes that is not above the value.
 pub(crate) fn lower_bound_of(value: &ScalarValue, max_length: usize) -> Result<Bound, AllocError>
     ensures value { IfOk result
-        (λ bound. said_in bound ≡ low max_length (content_of (raw_of value.now))) }
+        (λ bound. bound_content bound ≡ low max_length (content_of (raw_of value.now))) }
     ensures shortened { IfOk result (λ bound. bound.shortened
         ≡ is_longer max_length (content_of (raw_of value.now))) }
 {
@@ -82,7 +82,7 @@ fn upper_bound_of_text(
     value: &BufferString,
     max_length: usize,
 ) -> Result<Option<Bound>, AllocError>
-    ensures value { IfOk result (λ bound. option_map said_in bound
+    ensures value { IfOk result (λ bound. option_map bound_content bound
         ≡ high max_length (text value.now)) }
     ensures shortened { IfOk result
         (λ bound. IfSome bound (λ b. b.shortened ≡ is_longer max_length (text value.now))) }
@@ -102,7 +102,7 @@ fn upper_bound_of_bytes(
     value: &ByteBuffer,
     max_length: usize,
 ) -> Result<Option<Bound>, AllocError>
-    ensures value { IfOk result (λ bound. option_map said_in bound
+    ensures value { IfOk result (λ bound. option_map bound_content bound
         ≡ high max_length (byte_string value.now)) }
     ensures shortened { IfOk result
         (λ bound. IfSome bound (λ b. b.shortened ≡ is_longer max_length (byte_string value.now))) }
@@ -118,7 +118,7 @@ fn upper_bound_of_bytes(
 }
 
 fn exact_upper_bound(value: &ScalarValue) -> Result<Option<Bound>, AllocError>
-    ensures value { IfOk result (λ bound. option_map said_in bound
+    ensures value { IfOk result (λ bound. option_map bound_content bound
         ≡ Some (content_of (raw_of value.now))) }
     ensures shortened { IfOk result (λ bound. IfSome bound (λ b. b.shortened ≡ false)) }
 {
@@ -133,7 +133,7 @@ pub(crate) fn upper_bound_of(
     value: &ScalarValue,
     max_length: usize,
 ) -> Result<Option<Bound>, AllocError>
-    ensures value { IfOk result (λ bound. option_map said_in bound
+    ensures value { IfOk result (λ bound. option_map bound_content bound
         ≡ high max_length (content_of (raw_of value.now))) }
     ensures shortened { IfOk result
         (λ bound.

@@ -3,7 +3,7 @@ use Rattle.std.proofs.Common.{◌≡◌, ℕ, Result, Ok, Err, OnOk, zero, suc, 
 use Rattle.json.specs.Token.{string}
 use Rattle.json.specs.Print.{print, print_from, quoted}
 use Rattle.vortex_model.specs.LogicalType.{LogicalType}
-use Rattle.vortex_dtype_core.specs.View.{type_of, fields_of, field_of, NamedKind}
+use Rattle.vortex_dtype_core.specs.View.{type_of, fields_of, field_of, NamedType}
 use Rattle.vortex_dtype_core.proofs.Views.{field_of-parts}
 use Rattle.vortex_dtype_core.specs.declared.struct_fields.StructField.{StructField}
 use Rattle.vortex_table_response.specs.type_texts.Text.{comma, type_text, children_text, names_text}
@@ -31,7 +31,7 @@ pub fixed_list_pieces : (old s t u v w x y a b new : List ℕ) → a ≡ old ++ 
 fixed_list_pieces old s t u v w x y a b new e f g = rw (g, f, e) (simp append_assoc)
 
 pub kind_of_field : (f g : StructField) → f ≡ g → (field_of g).1 ≡ type_of f.dtype
-kind_of_field f g e = ap (λ (p : NamedKind). p.1) (field_of-parts g) ∙ ap (λ (h : StructField). type_of h.dtype) (sym e)
+kind_of_field f g e = ap (λ (p : NamedType). p.1) (field_of-parts g) ∙ ap (λ (h : StructField). type_of h.dtype) (sym e)
 
 -- the children from one on
 children_from : (later : Bool) (fs : List StructField) (i : ℕ) (f : StructField) → i < length fs → f ≡ get_or fs i f
@@ -54,7 +54,7 @@ one_more_child a b d x later fs i f h e p q r =
     ∙ ap (λ (s : List ℕ). a ++ s) rest ∙ r
 
 name_of_field : (f g : StructField) → f ≡ g → (field_of g).0 ≡ f.name
-name_of_field f g e = ap (λ (p : NamedKind). p.0) (field_of-parts g) ∙ ap (λ (h : StructField). h.name) (sym e)
+name_of_field f g e = ap (λ (p : NamedType). p.0) (field_of-parts g) ∙ ap (λ (h : StructField). h.name) (sym e)
 
 -- the names from one on
 names_from : (later : Bool) (fs : List StructField) (i : ℕ) (f : StructField) → i < length fs → f ≡ get_or fs i f

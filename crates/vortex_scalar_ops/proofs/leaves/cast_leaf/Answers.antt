@@ -3,20 +3,20 @@ use Rattle.std.proofs.Common.{arith}
 use Rattle.vortex_scalar_value.proofs.Views.{one_level}
 use Rattle.vortex_scalar_ops.proofs.leaves.cast_leaf.Goals as goal
 
-pub returns-then-not-converts_truth-clause-converts : goal.returns-then-not-converts_truth-clause-converts
-returns-then-not-converts_truth-clause-converts c = grind (arith, one_level)
+pub returns-then-not-converts_boolean-clause-converts : goal.returns-then-not-converts_boolean-clause-converts
+returns-then-not-converts_boolean-clause-converts c = grind (arith, one_level)
 
-pub returns-then-not-converts_truth-clause-content : goal.returns-then-not-converts_truth-clause-content
-returns-then-not-converts_truth-clause-content c = grind (arith, one_level)
+pub returns-then-not-converts_boolean-clause-content : goal.returns-then-not-converts_boolean-clause-content
+returns-then-not-converts_boolean-clause-content c = grind (arith, one_level)
 
-pub returns-then-not-converts_truth-clause-valid : goal.returns-then-not-converts_truth-clause-valid
-returns-then-not-converts_truth-clause-valid c = grind (arith, one_level)
+pub returns-then-not-converts_boolean-clause-valid : goal.returns-then-not-converts_boolean-clause-valid
+returns-then-not-converts_boolean-clause-valid c = grind (arith, one_level)
 
-pub returns-then-not-converts_truth-clause-refused : goal.returns-then-not-converts_truth-clause-refused
-returns-then-not-converts_truth-clause-refused c = grind (arith, one_level)
+pub returns-then-not-converts_boolean-clause-refused : goal.returns-then-not-converts_boolean-clause-refused
+returns-then-not-converts_boolean-clause-refused c = grind (arith, one_level)
 
-pub returns-then-not-converts_truth-clause-invalid : goal.returns-then-not-converts_truth-clause-invalid
-returns-then-not-converts_truth-clause-invalid c = grind (arith, one_level)
+pub returns-then-not-converts_boolean-clause-invalid : goal.returns-then-not-converts_boolean-clause-invalid
+returns-then-not-converts_boolean-clause-invalid c = grind (arith, one_level)
 
 pub returns-in_err-number-in-Primitive-clause-converts : goal.returns-in_err-number-in-Primitive-clause-converts
 returns-in_err-number-in-Primitive-clause-converts c = grind (arith, (as_err c.from_residual.ensures.0).1)
@@ -93,20 +93,20 @@ returns-in_err-bytes-in-Binary-clause-refused c = grind (arith, (as_err c.from_r
 pub returns-in_err-bytes-in-Binary-clause-invalid : goal.returns-in_err-bytes-in-Binary-clause-invalid
 returns-in_err-bytes-in-Binary-clause-invalid c = grind (arith, (as_err c.from_residual-in_err-bytes-in-Binary.ensures.0).1)
 
-pub returns-else-not-converts_truth-clause-converts : goal.returns-else-not-converts_truth-clause-converts
-returns-else-not-converts_truth-clause-converts c = grind (arith, one_level)
+pub returns-else-not-converts_boolean-clause-converts : goal.returns-else-not-converts_boolean-clause-converts
+returns-else-not-converts_boolean-clause-converts c = grind (arith, one_level)
 
-pub returns-else-not-converts_truth-clause-content : goal.returns-else-not-converts_truth-clause-content
-returns-else-not-converts_truth-clause-content c = grind (arith, one_level)
+pub returns-else-not-converts_boolean-clause-content : goal.returns-else-not-converts_boolean-clause-content
+returns-else-not-converts_boolean-clause-content c = grind (arith, one_level)
 
-pub returns-else-not-converts_truth-clause-valid : goal.returns-else-not-converts_truth-clause-valid
-returns-else-not-converts_truth-clause-valid c = grind (arith, one_level)
+pub returns-else-not-converts_boolean-clause-valid : goal.returns-else-not-converts_boolean-clause-valid
+returns-else-not-converts_boolean-clause-valid c = grind (arith, one_level)
 
-pub returns-else-not-converts_truth-clause-refused : goal.returns-else-not-converts_truth-clause-refused
-returns-else-not-converts_truth-clause-refused c = grind (arith, one_level)
+pub returns-else-not-converts_boolean-clause-refused : goal.returns-else-not-converts_boolean-clause-refused
+returns-else-not-converts_boolean-clause-refused c = grind (arith, one_level)
 
-pub returns-else-not-converts_truth-clause-invalid : goal.returns-else-not-converts_truth-clause-invalid
-returns-else-not-converts_truth-clause-invalid c = grind (arith, one_level)
+pub returns-else-not-converts_boolean-clause-invalid : goal.returns-else-not-converts_boolean-clause-invalid
+returns-else-not-converts_boolean-clause-invalid c = grind (arith, one_level)
 
 pub returns-in_ok-number-in-Primitive-clause-converts : goal.returns-in_ok-number-in-Primitive-clause-converts
 returns-in_ok-number-in-Primitive-clause-converts c = grind (arith, one_level)

@@ -19,12 +19,12 @@ pub returns-in_ok-right-in-And : goal.returns-in_ok-right-in-And
 returns-in_ok-right-in-And t c =
     rw (← c.e.view_is, c.in-And.is, ← c.deref-in-And.ensures, ← c.deref-in-And-2.ensures)
     (both_checked (type_of c.args.dtype.now) c.deref-in-And.result.now c.deref-in-And-2.result.now
-    c.in_ok-left-in-And.left c.in_ok-right-in-And.right c.check_truths.result
-    c.in_ok-left-in-And.ensures c.in_ok-right-in-And.ensures c.check_truths.ensures)
+    c.in_ok-left-in-And.left c.in_ok-right-in-And.right c.check_booleans.result
+    c.in_ok-left-in-And.ensures c.in_ok-right-in-And.ensures c.check_booleans.ensures)
 
 pub returns-in_ok-right-in-Or : goal.returns-in_ok-right-in-Or
 returns-in_ok-right-in-Or t c =
     rw (← c.e.view_is, c.in-Or.is, ← c.deref-in-Or.ensures, ← c.deref-in-Or-2.ensures)
     (either_checked (type_of c.args.dtype.now) c.deref-in-Or.result.now c.deref-in-Or-2.result.now
-    c.in_ok-left-in-Or.left c.in_ok-right-in-Or.right c.check_truths-in-Or.result
-    c.in_ok-left-in-Or.ensures c.in_ok-right-in-Or.ensures c.check_truths-in-Or.ensures)
+    c.in_ok-left-in-Or.left c.in_ok-right-in-Or.right c.check_booleans-in-Or.result
+    c.in_ok-left-in-Or.ensures c.in_ok-right-in-Or.ensures c.check_booleans-in-Or.ensures)

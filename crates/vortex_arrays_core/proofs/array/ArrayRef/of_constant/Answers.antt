@@ -1,6 +1,6 @@
 use Rattle.std.below.core.proofs.iter.Serving.{as_err}
 use Rattle.std.proofs.Common.{arith}
-use Rattle.vortex_arrays_core.proofs.Makers.{valid_so}
+use Rattle.vortex_arrays_core.proofs.Constructors.{valid_so}
 use borrow.Author.Rules.{get_or_read}
 use Rattle.vortex_arrays_core.proofs.array.ArrayRef.of_constant.Goals as goal
 

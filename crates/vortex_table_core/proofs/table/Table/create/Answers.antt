@@ -4,7 +4,7 @@ use Rattle.vortex_dtype_core.specs.View.{type_of}
 use Rattle.vortex_table_chunk.specs.Chunk.{row_count}
 use Rattle.vortex_table_schema.specs.Leaves.{leaf_positions}
 use Rattle.vortex_table_core.specs.Table.{is_formed}
-use Rattle.vortex_table_core.proofs.SameLeaves.{leaves_same}
+use Rattle.vortex_table_core.proofs.EqualLeaves.{leaves_same}
 use Rattle.vortex_table_core.proofs.table.Table.create.Goals as goal
 
 pub invariant_of-result : goal.invariant_of-result

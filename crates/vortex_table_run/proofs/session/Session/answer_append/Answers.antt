@@ -6,7 +6,7 @@ use Rattle.vortex_model.specs.Reply.{refused}
 use Rattle.vortex_dtype_core.specs.View.{type_of}
 use Rattle.vortex_scalar_value.specs.View.{raw_in}
 use Rattle.vortex_table_core.specs.TableView.{table_of}
-use Rattle.vortex_table_run.specs.Said.{error_answer}
+use Rattle.vortex_table_run.specs.CommandAnswers.{error_answer}
 use Rattle.vortex_table_run.specs.State.{table_in}
 use Rattle.vortex_table_run.proofs.Responding.{without_table, append_refused}
 use Rattle.vortex_table_run.proofs.session.Session.answer_append.Goals as goal

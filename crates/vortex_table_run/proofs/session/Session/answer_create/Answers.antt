@@ -1,5 +1,5 @@
 use Rattle.vortex_dtype_core.specs.View.{type_of}
-use Rattle.vortex_table_run.specs.Said.{error_answer}
+use Rattle.vortex_table_run.specs.CommandAnswers.{error_answer}
 use Rattle.vortex_table_run.specs.State.{table_in}
 use Rattle.vortex_table_run.proofs.Responding.{create_refused}
 use Rattle.vortex_table_run.proofs.session.Session.answer_create.Goals as goal

@@ -6,7 +6,7 @@ use Rattle.vortex_model.specs.Reply.{refused, found}
 use Rattle.vortex_dtype_path.specs.View.{steps_of}
 use Rattle.vortex_table_schema.specs.Answer.{answer_of}
 use Rattle.vortex_table_core.specs.TableView.{table_of}
-use Rattle.vortex_table_run.specs.Said.{error_answer}
+use Rattle.vortex_table_run.specs.CommandAnswers.{error_answer}
 use Rattle.vortex_table_run.specs.State.{table_in}
 use Rattle.vortex_table_run.proofs.Responding.{without_table, scan_refused, scan_found}
 use Rattle.vortex_table_run.proofs.session.Session.answer_scan.Goals as goal

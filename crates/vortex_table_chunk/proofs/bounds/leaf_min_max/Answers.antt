@@ -2,10 +2,10 @@ use Rattle.std.proofs.Common.{◌<◌, ◌^◌, ◌∙◌, ◌∷◌, sym, lengt
 use Rattle.vortex_table_chunk.specs.zones.Bounds.{IsMinMaxOf}
 use Rattle.vortex_table_chunk.specs.Bounds.{column_at}
 use Rattle.vortex_table_chunk.proofs.InColumn.{column_before, few_nulls}
-use Rattle.vortex_table_chunk.proofs.bounds.leaf_extremes.Goals as goal
+use Rattle.vortex_table_chunk.proofs.bounds.leaf_min_max.Goals as goal
 
-pub with-extremes-requires : goal.with-extremes-requires
-with-extremes-requires c =
+pub with-min_max-requires : goal.with-min_max-requires
+with-min_max-requires c =
     let few : length c.args.rows.now < 2 ^ 64 = omega arith in
     let nulls = few_nulls c.args.leaf.now c.args.rows.now c.loop-index.index c.loop-index-test.true c.loop-index.auto.index few in
     let held = c.loop-index.invariant.nulls in
@@ -15,7 +15,7 @@ pub loop-index-preserved : goal.loop-index-preserved
 loop-index-preserved c =
     let leaf = c.args.leaf.now in
     let behind = column_at leaf (drop c.loop-index.index c.args.rows.now) in
-    subst (IsMinMaxOf c.with-extremes.result)
+    subst (IsMinMaxOf c.with-min_max.result)
     ((λ j. c.part_at.ensures j ∷ behind)
     ∙ sym (column_before leaf c.args.rows.now c.loop-index.index c.loop-index-test.true c.loop-index.auto.index c.index-rows-index.result c.index-rows-index.is))
-    (c.with-extremes.ensures behind c.loop-index.invariant)
+    (c.with-min_max.ensures behind c.loop-index.invariant)

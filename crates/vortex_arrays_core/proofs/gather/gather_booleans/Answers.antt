@@ -3,7 +3,7 @@ use Rattle.std.proofs.lemmas.Result.{IfOk-weaker}
 use Rattle.vortex_arrays_model.specs.Layout.{by_array}
 use Rattle.vortex_arrays_model.specs.Picks.{PicksValid}
 use Rattle.vortex_arrays_core.proofs.Gathered.{truths_at}
-use Rattle.vortex_arrays_core.proofs.gather.gather_truths.Goals as goal
+use Rattle.vortex_arrays_core.proofs.gather.gather_booleans.Goals as goal
 
 pub returns : goal.returns
 returns c = IfOk-weaker c.of_bools.result _ _ (λ r is. subst (λ x. PicksValid (by_array c.args.array.now) (by_array x) (length c.args.positions.now) (λ i. get_or c.args.positions.now i 0)) (sym is)

@@ -2,7 +2,7 @@ use Rattle.std.proofs.Common.{arith}
 use Rattle.std.proofs.lemmas.Grind.{common_steps}
 use Rattle.vortex_dtype_fields.proofs.Choices.{at_places}
 use borrow.Author.Differences.{ints}
-use Rattle.vortex_dtype_fields.proofs.union_variants_ext.place_of_tag.Goals as goal
+use Rattle.vortex_dtype_fields.proofs.union_variants_ext.index_of_tag.Goals as goal
 
 pub loop-place-init : goal.loop-place-init
 loop-place-init c = grind (ints, arith, at_places)

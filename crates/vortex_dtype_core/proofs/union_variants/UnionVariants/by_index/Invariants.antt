@@ -2,7 +2,7 @@ use Rattle.std.proofs.Common.{◌≡◌, ◌+◌, ◌++◌, drop, length, map}
 use Rattle.std.specs.List.{zip}
 use Rattle.std.specs.Vec.Iter.{into_iter_items}
 use Rattle.vortex_dtype_core.specs.View.{type_of, variant_of}
-use Rattle.vortex_dtype_core.proofs.union_variants.UnionVariants.place_by_place.Given as goal
+use Rattle.vortex_dtype_core.proofs.union_variants.UnionVariants.by_index.Given as goal
 
 abbrev pub invariant-loop-dtype : goal.invariant-loop-dtype
 invariant-loop-dtype l = record {

@@ -14,15 +14,15 @@ use Rattle.vortex_table_io.specs.declared.line_handler.Response.{Response}
 use Rattle.vortex_table_io.specs.declared.line_handler.Response.TheVariants.{Written, Short, Done, NoMemory}
 
 -- this answer was said, where the buffer holds this
-abbrev pub IsSaid : Answer → Response → List ℕ → Type 0
-IsSaid a Written out = out ≡ with_lf (text_of a)
-IsSaid a (Short text) out = text ≡ text_of a
-IsSaid a Done out = a ≡ accepted
-IsSaid a NoMemory out = a ≡ out_of_memory
+abbrev pub IsWrittenAs : Answer → Response → List ℕ → Type 0
+IsWrittenAs a Written out = out ≡ with_lf (text_of a)
+IsWrittenAs a (Short text) out = text ≡ text_of a
+IsWrittenAs a Done out = a ≡ accepted
+IsWrittenAs a NoMemory out = a ≡ out_of_memory
 
 -- an answer to the command was said
 abbrev pub Responds : Option Table → Command → Response → List ℕ → Option Table → Type 0
-Responds old c response out new = (a : Answer) × RespondsTo old c a new × IsSaid a response out
+Responds old c response out new = (a : Answer) × RespondsTo old c a new × IsWrittenAs a response out
 
 -- the answer that an error is
 abbrev pub error_answer : TableError → Answer

@@ -122,14 +122,14 @@ module _ (b : ColumnBounds) (k : LogicalType) (L rows : ℕ) (cs : List Content)
   abbrev as_told : Aggregate → Option ZoneMap → Content
   as_told a z = told z rows a
 
-  pub said_rightly : (a : Aggregate) → stat_value b rows a ≡ known zones rows (column xs) a
-  said_rightly min =
+  pub stat_values_are_right : (a : Aggregate) → stat_value b rows a ≡ known zones rows (column xs) a
+  stat_values_are_right min =
       ap (λ p. leaf_or_null (shown p)) (honest.low (leaves_compare k cs leaf of_type))
       ∙ plain_low L (least_value (non_null cs)) (least_leaf (non_null cs) (leaves_said k cs leaf of_type)) ∙ ap (as_told min) (sym is)
-  said_rightly max =
+  stat_values_are_right max =
       ap (λ p. leaf_or_null (shown p)) (honest.high (leaves_compare k cs leaf of_type))
       ∙ plain_high L (greatest_value (non_null cs)) (greatest_leaf (non_null cs) (leaves_said k cs leaf of_type)) ∙ ap (as_told max) (sym is)
-  said_rightly null_count = ap (λ n. integer (pos n)) honest.nulls ∙ ap (as_told null_count) (sym is)
-  said_rightly all_null = ap (λ n. boolean (n == rows)) honest.nulls ∙ ap (as_told all_null) (sym is)
-  said_rightly all_non_null = ap (λ n. boolean (n == 0)) honest.nulls ∙ ap (as_told all_non_null) (sym is)
-  said_rightly a = ap (as_told a) (sym is)
+  stat_values_are_right null_count = ap (λ n. integer (pos n)) honest.nulls ∙ ap (as_told null_count) (sym is)
+  stat_values_are_right all_null = ap (λ n. boolean (n == rows)) honest.nulls ∙ ap (as_told all_null) (sym is)
+  stat_values_are_right all_non_null = ap (λ n. boolean (n == 0)) honest.nulls ∙ ap (as_told all_non_null) (sym is)
+  stat_values_are_right a = ap (as_told a) (sym is)

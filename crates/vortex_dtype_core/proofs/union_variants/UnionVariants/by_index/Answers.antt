@@ -6,7 +6,7 @@ use Rattle.vortex_dtype_core.specs.declared.dtype.DType.{DType}
 use Rattle.vortex_dtype_core.specs.declared.union_variants.UnionVariant.{UnionVariant}
 use Rattle.vortex_dtype_core.proofs.Loops.{one_more_made, one_more_choice}
 use Rattle.vortex_dtype_core.proofs.Views.{built}
-use Rattle.vortex_dtype_core.proofs.union_variants.UnionVariants.place_by_place.Goals as goal
+use Rattle.vortex_dtype_core.proofs.union_variants.UnionVariants.by_index.Goals as goal
 
 pub loop-dtype-init : goal.loop-dtype-init
 loop-dtype-init c = grind (arith, built)

@@ -1,5 +1,0 @@
-use Rattle.vortex_scalar_ops.proofs.Sameness.{eq_equiv}
-use Rattle.vortex_scalar_ops.proofs.laws.sameness_is_an_equivalence.Goals as goal
-
-pub returns : goal.returns
-returns c = eq_equiv
