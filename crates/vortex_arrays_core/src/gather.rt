@@ -41,7 +41,7 @@ impl ArrayRef {
                 let codes = codes.gather(alloc, positions)?;
                 ArrayRef::of_dict(alloc, codes, values.clone()?, false)
             }
-            ArrayLayout::FixedSizeList(_, _, _, _) => self.named_at(alloc, positions),
+            ArrayLayout::FixedSizeList(_, _, _, _) => self.dictionary_at(alloc, positions),
             ArrayLayout::ListView(elements, offsets, sizes, _, validity) => {
                 let validity = validity.gather(alloc, positions, offsets.len())?;
                 let offsets = offsets.gather(alloc, positions)?;
@@ -57,7 +57,7 @@ impl ArrayRef {
     }
 
     /// A dictionary whose codes are the positions and whose values are this array.
-    fn named_at(&self, alloc: Global, positions: &[usize]) -> Result<ArrayRef, AllocError>
+    fn dictionary_at(&self, alloc: Global, positions: &[usize]) -> Result<ArrayRef, AllocError>
         requires { All (λ i. i < len_of self.now) positions.now }
         ensures { IfOk result
             (λ r. Picks self.now r (length positions.now) (λ i. slice_index_or positions.now i 0)) }

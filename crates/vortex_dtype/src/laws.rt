@@ -1,8 +1,8 @@
 //! Laws of types. Those over definitions are functions without arguments, whose clauses are the
 //! laws. The others make the calls that the law speaks of, and answer what each of them gave.
 pub use vortex_dtype_fields::laws::{
-    equal_types_are_fed_alike, equality_ignoring_nullability_is_an_equivalence,
-    fitting_is_reflexive, fitting_is_transitive, projections_have_the_names, tags_lead_back,
+    equal_types_hash_alike, equality_ignoring_nullability_is_an_equivalence, fitting_is_reflexive,
+    fitting_is_transitive, projections_have_the_names, tags_lead_back,
 };
 pub use vortex_dtype_path::laws::{
     beginnings_exist, coverage_tells_iteration, coverage_tells_outermost, equal_paths_pass,

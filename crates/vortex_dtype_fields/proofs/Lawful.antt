@@ -6,13 +6,13 @@ use Rattle.vortex_dtype_core.specs.Equal.{eq_type_equiv}
 use Rattle.vortex_dtype_fields.specs.Hashing.{type_writes}
 use Rattle.vortex_dtype_fields.specs.Records.{names_of, projected, type_named}
 use Rattle.vortex_dtype_fields.specs.Widths.{FitsInto}
-use Rattle.vortex_dtype_fields.proofs.Fed.{bare_writes}
+use Rattle.vortex_dtype_fields.proofs.Hashed.{bare_writes}
 
 pub equal_equiv : IsEquivalence equal_ignoring_nullability
 equal_equiv = on_equiv bare eq_type_equiv
 
-pub fed_alike : (k l : LogicalType) → EqualIgnoringNullability k l → type_writes k ≡ type_writes l
-fed_alike k l e = sym (bare_writes k) ∙ ap type_writes e ∙ bare_writes l
+pub hash_alike : (k l : LogicalType) → EqualIgnoringNullability k l → type_writes k ≡ type_writes l
+hash_alike k l e = sym (bare_writes k) ∙ ap type_writes e ∙ bare_writes l
 
 pub fits_itself : (k : LogicalType) → FitsInto k k
 fits_itself k = (refl, λ h. h)

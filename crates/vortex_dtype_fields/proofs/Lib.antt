@@ -1,7 +1,7 @@
 pub mod Choices
 pub mod Counted
 pub mod Digits
-pub mod Fed
+pub mod Hashed
 pub mod Fits
 pub mod Lawful
 pub mod Pieces

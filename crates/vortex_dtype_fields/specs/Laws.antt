@@ -11,8 +11,8 @@ abbrev pub EqualityIgnoringNullabilityIsAnEquivalence : Type 0
 EqualityIgnoringNullabilityIsAnEquivalence = IsEquivalence equal_ignoring_nullability
 
 -- types so equal feed a hasher equally
-abbrev pub EqualTypesAreFedAlike : Type 0
-EqualTypesAreFedAlike = (k l : LogicalType) → EqualIgnoringNullability k l → type_writes k ≡ type_writes l
+abbrev pub EqualTypesHashAlike : Type 0
+EqualTypesHashAlike = (k l : LogicalType) → EqualIgnoringNullability k l → type_writes k ≡ type_writes l
 
 -- a type fits into itself, and into what a type that it fits into fits into
 abbrev pub FittingIsReflexive : Type 0

@@ -11,8 +11,8 @@ use vortex_dtype_core::struct_fields::StructField;
 use vortex_dtype_core::union_variants::UnionVariant;
 use vortex_dtype_ptype::ptype::PType;
 
-#[cycle(feed)]
-#[tactic(auto, using(crate::proofs::Fed::writes))]
+#[cycle(hash)]
+#[tactic(auto, using(crate::proofs::Hashed::writes))]
 pub(crate) fn hash_type<H: Hasher>(dtype: &DType, state: &mut H)
     ensures { state.new ≡ fold H.write state.old (type_writes (type_of dtype.now)) }
 {
@@ -67,8 +67,8 @@ pub(crate) fn hash_type<H: Hasher>(dtype: &DType, state: &mut H)
     }
 }
 
-#[cycle(feed)]
-#[tactic(auto, using(crate::proofs::Fed::writes))]
+#[cycle(hash)]
+#[tactic(auto, using(crate::proofs::Hashed::writes))]
 fn hash_fields<H: Hasher>(fields: &[StructField], state: &mut H)
     ensures { state.new ≡ fold H.write state.old (fields_writes (fields_of fields.now)) }
 {
@@ -78,8 +78,8 @@ fn hash_fields<H: Hasher>(fields: &[StructField], state: &mut H)
     }
 }
 
-#[cycle(feed)]
-#[tactic(auto, using(crate::proofs::Fed::writes))]
+#[cycle(hash)]
+#[tactic(auto, using(crate::proofs::Hashed::writes))]
 fn hash_variants<H: Hasher>(variants: &[UnionVariant], state: &mut H)
     ensures { state.new ≡ fold H.write state.old (variants_writes (variants_of variants.now)) }
 {

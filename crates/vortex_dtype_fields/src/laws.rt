@@ -1,7 +1,7 @@
 //! Laws over the definitions alone. Each function's clause is a law.
 ghost use Rattle.vortex_dtype_fields.specs.Laws.{
   EqualityIgnoringNullabilityIsAnEquivalence,
-  EqualTypesAreFedAlike,
+  EqualTypesHashAlike,
   FittingIsReflexive,
   FittingIsTransitive,
   ProjectionsHaveTheNames,
@@ -14,8 +14,8 @@ pub fn equality_ignoring_nullability_is_an_equivalence()
 {}
 
 /// Types that are equal up to nullability feed a hasher equally.
-pub fn equal_types_are_fed_alike()
-    ensures { EqualTypesAreFedAlike }
+pub fn equal_types_hash_alike()
+    ensures { EqualTypesHashAlike }
 {}
 
 /// A type fits into itself.

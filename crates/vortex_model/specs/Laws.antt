@@ -31,8 +31,8 @@ abbrev pub ValidValuesAreContents : Type 0
 ValidValuesAreContents = (k : LogicalType) (r : Raw) → IsValid k r → IsContent k (content_of r)
 
 -- Each content of a type is what some valid raw value says.
-abbrev pub ContentsAreSaid : Type 0
-ContentsAreSaid = (k : LogicalType) (c : Content) → IsContent k c → (r : Raw) × IsValid k r × (content_of r ≡ c)
+abbrev pub ContentsHaveRawValues : Type 0
+ContentsHaveRawValues = (k : LogicalType) (c : Content) → IsContent k c → (r : Raw) × IsValid k r × (content_of r ≡ c)
 
 abbrev pub truth_value : Bool → Expression
 truth_value b = literal (boolean_type non_nullable) (boolean b)

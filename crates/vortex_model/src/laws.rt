@@ -5,7 +5,7 @@ ghost use Rattle.vortex_model.specs.Laws.{
   HighsOfBytes,
   ConversionsAreValid,
   ValidValuesAreContents,
-  ContentsAreSaid,
+  ContentsHaveRawValues,
   TrueSelectsAll,
   FalseSelectsNone,
   FalseSkipsAll,
@@ -63,8 +63,8 @@ pub fn valid_values_are_contents()
 {}
 
 /// Each content of a type is what some valid raw value says.
-pub fn contents_are_said()
-    ensures { ContentsAreSaid }
+pub fn contents_have_raw_values()
+    ensures { ContentsHaveRawValues }
 {}
 
 /// A scan by literal true answers every row.

@@ -13,8 +13,8 @@ pub use vortex_scalar_convert::laws::{
     tied_values_are_equal, values_cast_to_their_type,
 };
 pub use vortex_scalar_ops::laws::{
-    eq_values_are_fed_alike, eq_values_compare_alike, equality_is_an_equivalence,
-    order_is_transitive, order_turns, plain_types_have_plain_values, values_of_a_type_compare,
+    eq_values_compare_alike, eq_values_hash_alike, equality_is_an_equivalence, order_is_transitive,
+    order_turns, plain_types_have_plain_values, values_of_a_type_compare,
     values_that_tie_are_equal,
 };
 pub use vortex_scalar_truncation::laws::{

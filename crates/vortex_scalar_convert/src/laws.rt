@@ -14,7 +14,7 @@ ghost use Rattle.vortex_scalar_convert.specs.Laws.{
 };
 
 use vortex_model::laws::{
-    contents_are_said, conversions_are_valid, conversions_compose, valid_values_are_contents,
+    contents_have_raw_values, conversions_are_valid, conversions_compose, valid_values_are_contents,
 };
 
 /// Of the values of a type each has a content of its own.
@@ -33,7 +33,7 @@ pub fn casts_exist()
 {
     valid_values_are_contents();
     conversions_are_valid();
-    contents_are_said();
+    contents_have_raw_values();
 }
 
 /// A cast there and back gives the value again.

@@ -2,7 +2,7 @@
 ghost use Rattle.std.specs.Prelude.{◌≡◌};
 ghost use Rattle.std.specs.Cmp.{partial_equiv_from_equiv};
 ghost use Rattle.vortex_model.specs.Order.{scalar_cmp};
-ghost use Rattle.vortex_scalar_core.specs.Equality.{eq_scalar, eq_scalar_equiv, scalar_writes, eq_scalars_are_fed_alike};
+ghost use Rattle.vortex_scalar_core.specs.Equality.{eq_scalar, eq_scalar_equiv, scalar_writes, eq_scalars_hash_alike};
 
 use crate::scalar::Scalar;
 use std::cmp::Ordering;
@@ -54,7 +54,7 @@ impl Eq for Scalar {
 impl Hash for Scalar {
     ghost hash_input = { scalar_writes };
 
-    ghost respects_eq = { eq_scalars_are_fed_alike };
+    ghost respects_eq = { eq_scalars_hash_alike };
 
     fn hash<H: Hasher>(&self, state: &mut H) {
         self.dtype().hash_ignore_nullability(state);

@@ -1,6 +1,6 @@
 pub mod Casts
 pub mod Compared
-pub mod Fed
+pub mod Hashed
 pub mod Forms
 pub mod Items
 pub mod KeptValues

@@ -15,8 +15,8 @@ abbrev pub EqualityIsAnEquivalence : Type 0
 EqualityIsAnEquivalence = IsEquivalence eq_content
 
 -- values that are the same feed a hasher equally
-abbrev pub EqualValuesAreFedAlike : Type 0
-EqualValuesAreFedAlike = (c d : Content) → eq_content c d ≡ true → content_writes c ≡ content_writes d
+abbrev pub EqualValuesHashAlike : Type 0
+EqualValuesHashAlike = (c d : Content) → eq_content c d ≡ true → content_writes c ≡ content_writes d
 
 -- Values without a variant's in them compare as equal exactly where they are the same. Those of a type without Variant anywhere are such values.
 abbrev pub TiedValuesAreTheSame : Type 0

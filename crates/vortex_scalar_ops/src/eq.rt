@@ -11,7 +11,7 @@ use vortex_scalar_value::variant_value::VariantValue;
 /// Whether the values are equal, nullability aside in the types of variants' values. `None` is
 /// null. Numbers are equal as whole numbers, whatever their kinds. It takes time linear in the
 /// values.
-#[cycle(same)]
+#[cycle(eq)]
 #[tactic(auto, using(crate::proofs::Forms::apart))]
 pub fn eq_values(left: Option<&ScalarValue>, right: Option<&ScalarValue>) -> bool
     ensures { result ≡ eq_content (content_at left.entry) (content_at right.entry) }
@@ -24,7 +24,7 @@ pub fn eq_values(left: Option<&ScalarValue>, right: Option<&ScalarValue>) -> boo
     }
 }
 
-#[cycle(same)]
+#[cycle(eq)]
 #[tactic(auto, using(crate::proofs::Forms::tests))]
 fn eq_present(left: &ScalarValue, right: &ScalarValue) -> bool
     ensures { result ≡ eq_content (content_of (raw_of left.now)) (content_of (raw_of right.now)) }
@@ -61,7 +61,7 @@ fn eq_present(left: &ScalarValue, right: &ScalarValue) -> bool
     }
 }
 
-#[cycle(same)]
+#[cycle(eq)]
 fn eq_items(left: &[Option<ScalarValue>], right: &[Option<ScalarValue>]) -> bool
     ensures { result ≡ eq_contents (contents_of (raws_in left.now))
         (contents_of (raws_in right.now)) }
@@ -77,7 +77,7 @@ fn eq_items(left: &[Option<ScalarValue>], right: &[Option<ScalarValue>]) -> bool
     true
 }
 
-#[cycle(same)]
+#[cycle(eq)]
 #[tactic(auto, using(crate::proofs::Forms::tests))]
 fn eq_unions(left: &UnionValue, right: &UnionValue) -> bool
     ensures { result ≡ eq_content (content_of (raw_of_union left.now))
@@ -86,7 +86,7 @@ fn eq_unions(left: &UnionValue, right: &UnionValue) -> bool
     left.type_id() == right.type_id() && eq_values(left.child_value(), right.child_value())
 }
 
-#[cycle(same)]
+#[cycle(eq)]
 #[tactic(auto, using(crate::proofs::Forms::tests))]
 fn eq_variants(left: &VariantValue, right: &VariantValue) -> bool
     ensures { result ≡ eq_content (content_of (raw_of_variant left.now))

@@ -13,8 +13,8 @@ use vortex_scalar_value::variant_value::VariantValue;
 
 /// Feeds a hasher. `None` is null. Values that are the same feed it equally. It takes time linear
 /// in the value.
-#[cycle(feed)]
-#[tactic(auto, using(crate::proofs::Fed::writes))]
+#[cycle(hash)]
+#[tactic(auto, using(crate::proofs::Hashed::writes))]
 pub fn hash_value<H: Hasher>(value: Option<&ScalarValue>, state: &mut H)
     ensures { state.new ≡ fold H.write state.old (content_writes (content_at value.entry)) }
 {
@@ -24,8 +24,8 @@ pub fn hash_value<H: Hasher>(value: Option<&ScalarValue>, state: &mut H)
     }
 }
 
-#[cycle(feed)]
-#[tactic(auto, using(crate::proofs::Fed::writes))]
+#[cycle(hash)]
+#[tactic(auto, using(crate::proofs::Hashed::writes))]
 fn hash_present<H: Hasher>(value: &ScalarValue, state: &mut H)
     ensures { state.new ≡ fold H.write state.old (content_writes (content_of (raw_of value.now))) }
 {
@@ -57,8 +57,8 @@ fn hash_present<H: Hasher>(value: &ScalarValue, state: &mut H)
     }
 }
 
-#[cycle(feed)]
-#[tactic(auto, using(crate::proofs::Fed::writes))]
+#[cycle(hash)]
+#[tactic(auto, using(crate::proofs::Hashed::writes))]
 fn hash_items<H: Hasher>(items: &[Option<ScalarValue>], state: &mut H)
     ensures { state.new
         ≡ fold H.write state.old (contents_writes (contents_of (raws_in items.now))) }
@@ -68,8 +68,8 @@ fn hash_items<H: Hasher>(items: &[Option<ScalarValue>], state: &mut H)
     }
 }
 
-#[cycle(feed)]
-#[tactic(auto, using(crate::proofs::Fed::writes))]
+#[cycle(hash)]
+#[tactic(auto, using(crate::proofs::Hashed::writes))]
 fn hash_union<H: Hasher>(union: &UnionValue, state: &mut H)
     ensures { state.new
         ≡ fold H.write state.old (content_writes (content_of (raw_of_union union.now))) }
@@ -79,8 +79,8 @@ fn hash_union<H: Hasher>(union: &UnionValue, state: &mut H)
     hash_value(union.child_value(), state);
 }
 
-#[cycle(feed)]
-#[tactic(auto, using(crate::proofs::Fed::writes))]
+#[cycle(hash)]
+#[tactic(auto, using(crate::proofs::Hashed::writes))]
 fn hash_variant<H: Hasher>(variant: &VariantValue, state: &mut H)
     ensures { state.new
         ≡ fold H.write state.old (content_writes (content_of (raw_of_variant variant.now))) }

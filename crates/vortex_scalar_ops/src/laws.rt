@@ -3,7 +3,7 @@ ghost use Rattle.vortex_scalar_ops.specs.Laws.{
   OrderIsTransitive,
   OrderTurns,
   PlainTypesHavePlainValues,
-  EqualValuesAreFedAlike,
+  EqualValuesHashAlike,
   EqualValuesCompareAlike,
   EqualityIsAnEquivalence,
   TiedValuesAreTheSame,
@@ -26,8 +26,8 @@ pub fn order_turns()
 {}
 
 /// Values that are the same feed a hasher equally.
-pub fn eq_values_are_fed_alike()
-    ensures { EqualValuesAreFedAlike }
+pub fn eq_values_hash_alike()
+    ensures { EqualValuesHashAlike }
 {}
 
 /// What is below chains, and what is not above.

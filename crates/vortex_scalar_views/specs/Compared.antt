@@ -9,7 +9,7 @@ use Rattle.vortex_model.specs.Content.{Content, content_of}
 use Rattle.vortex_model.specs.Order.{scalar_cmp}
 use Rattle.vortex_dtype_core.specs.Equal.{eq_type_equiv}
 use Rattle.vortex_scalar_ops.specs.Hashing.{content_writes}
-use Rattle.vortex_scalar_ops.proofs.Fed.{eq_fed}
+use Rattle.vortex_scalar_ops.proofs.Hashed.{eq_fed}
 use Rattle.vortex_scalar_ops.proofs.EqualityLemmas.{eq_equiv}
 use Rattle.vortex_scalar_core.specs.Equality.{eq_typed}
 use Rattle.vortex_scalar_views.specs.Forms.{Typed}

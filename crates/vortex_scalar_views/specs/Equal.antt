@@ -12,8 +12,8 @@ use Rattle.vortex_scalar_views.specs.declared.primitive_scalar.PrimitiveScalar.{
 use Rattle.vortex_scalar_views.specs.declared.utf8_scalar.Utf8Scalar.{Utf8Scalar}
 use Rattle.vortex_scalar_views.specs.declared.binary_scalar.BinaryScalar.{BinaryScalar}
 
-abbrev pub boolean_of_view : BoolScalar → Option Bool
-boolean_of_view v = boolean_in (typed_bool v).1
+abbrev pub bool_of_view : BoolScalar → Option Bool
+bool_of_view v = boolean_in (typed_bool v).1
 
 abbrev pub numbers_type : PrimitiveScalar → LogicalType
 numbers_type v = (typed_primitive v).0
@@ -29,7 +29,7 @@ bytes_of_view v = byte_string_in (typed_binary v).1
 
 -- the two are both null, or both the same
 abbrev pub eq_booleans : BoolScalar → BoolScalar → Bool
-eq_booleans = on boolean_of_view (option_eq beq)
+eq_booleans = on bool_of_view (option_eq beq)
 
 abbrev pub eq_texts : Utf8Scalar → Utf8Scalar → Bool
 eq_texts = on text_of_view (option_eq (pointwise nat_eq))

@@ -11,7 +11,7 @@ use Rattle.std.specs.Hash as fed
 use Rattle.std.proofs.Math.Bool.{beq}
 use Rattle.vortex_model.specs.LogicalType.{bare, equal_ignoring_nullability}
 use Rattle.vortex_dtype_core.specs.Equal.{eq_type_equiv}
-use Rattle.vortex_scalar_views.specs.Equal.{boolean_of_view, numbers_type, number_of_view, text_of_view, bytes_of_view, eq_booleans, eq_texts, eq_bytes, eq_numbers}
+use Rattle.vortex_scalar_views.specs.Equal.{bool_of_view, numbers_type, number_of_view, text_of_view, bytes_of_view, eq_booleans, eq_texts, eq_bytes, eq_numbers}
 use Rattle.vortex_scalar_views.specs.Ordered.{booleans_cmp, texts_cmp, bytes_cmp, numbers_cmp, boolean_writes, number_writes, text_writes, bytes_writes}
 use Rattle.vortex_scalar_views.specs.declared.bool_scalar.BoolScalar.{BoolScalar}
 use Rattle.vortex_scalar_views.specs.declared.primitive_scalar.PrimitiveScalar.{PrimitiveScalar}
@@ -43,10 +43,10 @@ bools_tie false true = refl
 bools_tie false false = refl
 
 pub booleans_total : IsTotalOrder booleans_cmp
-booleans_total = on_total boolean_of_view (options_total bool_cmp_total)
+booleans_total = on_total bool_of_view (options_total bool_cmp_total)
 
 pub booleans_ties : (v w : BoolScalar) → eq_booleans v w ≡ eq_by_cmp booleans_cmp v w
-booleans_ties v w = options_ties bool_cmp bools_tie (boolean_of_view v) (boolean_of_view w)
+booleans_ties v w = options_ties bool_cmp bools_tie (bool_of_view v) (bool_of_view w)
 
 pub booleans_po : IsPartialOrder eq_booleans (as_partial_cmp booleans_cmp)
 booleans_po = po booleans_total booleans_ties
@@ -116,7 +116,7 @@ options_alike {K} {E} {F} a = record { fed = both } where
   both (Some x) (Some y) h = ap (λ ws. fed.isize (pos 1) ++ ws) (a.fed x y h)
 
 pub booleans_alike : (v w : BoolScalar) → eq_booleans v w ≡ true → boolean_writes v ≡ boolean_writes w
-booleans_alike = (on_Alike boolean_of_view (options_alike (same_Alike fed.bool booleans_Decides))).fed
+booleans_alike = (on_Alike bool_of_view (options_alike (same_Alike fed.bool booleans_Decides))).fed
 
 pub numbers_alike : (v w : PrimitiveScalar) → eq_numbers v w ≡ true → number_writes v ≡ number_writes w
 numbers_alike = (second_alike (on numbers_type equal_ignoring_nullability) (on_Alike number_of_view (options_alike (same_Alike fed.i128 signed_Decides)))).fed

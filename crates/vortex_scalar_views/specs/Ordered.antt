@@ -6,7 +6,7 @@ use Rattle.std.specs.Ordering.{on, nat_cmp, int_cmp, bool_cmp}
 use Rattle.std.specs.Cmp.Lexicographic.{slice_cmp}
 use Rattle.std.specs.Hash as fed
 use Rattle.vortex_model.specs.LogicalType.{equal_ignoring_nullability}
-use Rattle.vortex_scalar_views.specs.Equal.{boolean_of_view, numbers_type, number_of_view, text_of_view, bytes_of_view}
+use Rattle.vortex_scalar_views.specs.Equal.{bool_of_view, numbers_type, number_of_view, text_of_view, bytes_of_view}
 use Rattle.vortex_scalar_views.specs.declared.bool_scalar.BoolScalar.{BoolScalar}
 use Rattle.vortex_scalar_views.specs.declared.primitive_scalar.PrimitiveScalar.{PrimitiveScalar}
 use Rattle.vortex_scalar_views.specs.declared.utf8_scalar.Utf8Scalar.{Utf8Scalar}
@@ -14,7 +14,7 @@ use Rattle.vortex_scalar_views.specs.declared.binary_scalar.BinaryScalar.{Binary
 
 -- false is below true
 abbrev pub booleans_cmp : BoolScalar → BoolScalar → Ordering
-booleans_cmp = on boolean_of_view (option_cmp bool_cmp)
+booleans_cmp = on bool_of_view (option_cmp bool_cmp)
 
 -- byte by byte, and then by length
 abbrev pub texts_cmp : Utf8Scalar → Utf8Scalar → Ordering
@@ -29,7 +29,7 @@ numbers_cmp v w = if equal_ignoring_nullability (numbers_type v) (numbers_type w
 
 -- types aren't told
 abbrev pub boolean_writes : BoolScalar → List (List ℕ)
-boolean_writes v = fed.option fed.bool (boolean_of_view v)
+boolean_writes v = fed.option fed.bool (bool_of_view v)
 
 abbrev pub number_writes : PrimitiveScalar → List (List ℕ)
 number_writes v = fed.option fed.i128 (number_of_view v)

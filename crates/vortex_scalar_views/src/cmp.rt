@@ -2,7 +2,7 @@
 //! of truth values, of texts and of bytes differ in nullability alone.
 ghost use Rattle.std.specs.Cmp.{bool_eq_equiv, on_equiv, partial_equiv_from_equiv};
 ghost use Rattle.std.specs.Cmp.Lexicographic.{options_equiv, nat_list_eq_equiv};
-ghost use Rattle.vortex_scalar_views.specs.Equal.{boolean_of_view, text_of_view, bytes_of_view, eq_booleans, eq_numbers, eq_texts, eq_bytes};
+ghost use Rattle.vortex_scalar_views.specs.Equal.{bool_of_view, text_of_view, bytes_of_view, eq_booleans, eq_numbers, eq_texts, eq_bytes};
 ghost use Rattle.vortex_scalar_views.specs.Laws.{numbers_equiv};
 
 use crate::binary_scalar::BinaryScalar;
@@ -13,7 +13,7 @@ use crate::utf8_scalar::Utf8Scalar;
 impl PartialEq for BoolScalar<'_> {
     ghost eq = { eq_booleans };
 
-    ghost laws = { partial_equiv_from_equiv (on_equiv boolean_of_view (options_equiv bool_eq_equiv)) };
+    ghost laws = { partial_equiv_from_equiv (on_equiv bool_of_view (options_equiv bool_eq_equiv)) };
 
     fn eq(&self, other: &BoolScalar<'_>) -> bool {
         self.value() == other.value()
@@ -21,7 +21,7 @@ impl PartialEq for BoolScalar<'_> {
 }
 
 impl Eq for BoolScalar<'_> {
-    ghost laws = { on_equiv boolean_of_view (options_equiv bool_eq_equiv) };
+    ghost laws = { on_equiv bool_of_view (options_equiv bool_eq_equiv) };
 }
 
 /// Numbers are equal as whole numbers.

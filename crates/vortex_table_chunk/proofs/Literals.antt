@@ -2,6 +2,8 @@
 use Rattle.std.proofs.Common.{◌≡◌, refl, ◌∙◌, ℤ, true, ◌&&◌}
 use Rattle.vortex_model.specs.LogicalType.{IntKind, u8, u16, u32, u64, i8, i16, i32, i64, eq_int_kind}
 use Rattle.vortex_model.specs.Valid.{in_range}
+use Rattle.vortex_dtype_core.proofs.Views as types
+use Rattle.vortex_scalar_value.proofs.Views as values
 
 eq_itself : (i : IntKind) → eq_int_kind i i ≡ true
 eq_itself u8 = refl
@@ -17,4 +19,4 @@ eq_itself i64 = refl
 pub own_kind : (i j : IntKind) (z : ℤ) → j ≡ i → in_range i z ≡ true → eq_int_kind i j && in_range j z ≡ true
 own_kind i j z e h = (λ t. eq_int_kind i (e t) && in_range (e t) z) ∙ (λ t. eq_itself i t && h t)
 
-pub ruleset numbers = (own_kind)
+pub ruleset numbers = (types.one_level, values.one_level, own_kind)

@@ -31,7 +31,7 @@ fn boolean(value: bool) -> Expression
     lit(Scalar::bool(value, Nullability::NonNullable))
 }
 
-#[tactic(auto, using(vortex_dtype_core::proofs::Views::one_level, vortex_scalar_value::proofs::Views::one_level, crate::proofs::Literals::numbers))]
+#[tactic(auto, using(crate::proofs::Literals::numbers))]
 fn number(value: PValue) -> Expression
     ensures { IsAnswer (Some result) (integer (integer_of value)) }
 {

@@ -43,8 +43,8 @@ array::ArrayRef::gather-returns-in_err-clone-in-Dict t c = grind (arith, (as_err
 pub array::ArrayRef::gather-same-of_dict : goal.array::ArrayRef::gather-same-of_dict
 array::ArrayRef::gather-same-of_dict t c = grind (arith, common_steps)
 
-pub array::ArrayRef::gather-named_at-requires : goal.array::ArrayRef::gather-named_at-requires
-array::ArrayRef::gather-named_at-requires t c κs = grind (arith, common_steps)
+pub array::ArrayRef::gather-dictionary_at-requires : goal.array::ArrayRef::gather-dictionary_at-requires
+array::ArrayRef::gather-dictionary_at-requires t c κs = grind (arith, common_steps)
 
 pub array::ArrayRef::gather-gather-requires-in-ListView-clause-within : goal.array::ArrayRef::gather-gather-requires-in-ListView-clause-within
 array::ArrayRef::gather-gather-requires-in-ListView-clause-within t c κs = grind (arith, common_steps)

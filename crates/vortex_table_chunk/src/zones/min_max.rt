@@ -19,13 +19,15 @@ pub struct MinMax<'a> {
 }
 
 fn lesser_of<'a>(left: &'a ScalarValue, right: &'a ScalarValue) -> &'a ScalarValue
-    ensures { borrowed_content result ≡ lesser (borrowed_content left.entry) (borrowed_content right.entry) }
+    ensures { borrowed_content result
+        ≡ lesser (borrowed_content left.entry) (borrowed_content right.entry) }
 {
     if is_at_most(left, right) { left } else { right }
 }
 
 fn greater_of<'a>(left: &'a ScalarValue, right: &'a ScalarValue) -> &'a ScalarValue
-    ensures { borrowed_content result ≡ greater (borrowed_content left.entry) (borrowed_content right.entry) }
+    ensures { borrowed_content result
+        ≡ greater (borrowed_content left.entry) (borrowed_content right.entry) }
 {
     if is_at_most(left, right) { right } else { left }
 }

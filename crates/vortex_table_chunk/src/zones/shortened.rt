@@ -23,7 +23,7 @@ fn are_bytes(bytes: &[u8])
     ensures { AreBytes bytes.now }
 {}
 
-fn lower_bound_of_text(value: &BufferString, max_length: usize) -> Result<Bound, AllocError>
+fn lower_of_text(value: &BufferString, max_length: usize) -> Result<Bound, AllocError>
     ensures value { IfOk result (λ bound. bound_content bound ≡ low max_length (text value.now)) }
     ensures shortened { IfOk result (λ bound. bound.shortened
         ≡ is_longer max_length (text value.now)) }
@@ -36,7 +36,7 @@ fn lower_bound_of_text(value: &BufferString, max_length: usize) -> Result<Bound,
     })
 }
 
-fn lower_bound_of_bytes(value: &ByteBuffer, max_length: usize) -> Result<Bound, AllocError>
+fn lower_of_bytes(value: &ByteBuffer, max_length: usize) -> Result<Bound, AllocError>
     ensures value { IfOk result (λ bound. bound_content bound ≡ low max_length (byte_string value.now)) }
     ensures shortened { IfOk result (λ bound. bound.shortened
         ≡ is_longer max_length (byte_string value.now)) }
@@ -68,8 +68,8 @@ pub(crate) fn lower_bound_of(value: &ScalarValue, max_length: usize) -> Result<B
         ≡ is_longer max_length (content_of (raw_of value.now))) }
 {
     match value {
-        ScalarValue::Utf8(text) => lower_bound_of_text(text, max_length),
-        ScalarValue::Binary(bytes) => lower_bound_of_bytes(bytes, max_length),
+        ScalarValue::Utf8(text) => lower_of_text(text, max_length),
+        ScalarValue::Binary(bytes) => lower_of_bytes(bytes, max_length),
         ScalarValue::Bool(_) | ScalarValue::Primitive(_) | ScalarValue::Tuple(_) => exact_bound(
             value,
         ),
@@ -77,7 +77,7 @@ pub(crate) fn lower_bound_of(value: &ScalarValue, max_length: usize) -> Result<B
     }
 }
 
-fn upper_bound_of_text(
+fn upper_of_text(
     alloc: Global,
     value: &BufferString,
     max_length: usize,
@@ -97,7 +97,7 @@ fn upper_bound_of_text(
     }
 }
 
-fn upper_bound_of_bytes(
+fn upper_of_bytes(
     alloc: Global,
     value: &ByteBuffer,
     max_length: usize,
@@ -140,8 +140,8 @@ pub(crate) fn upper_bound_of(
         IfSome bound (λ b. b.shortened ≡ is_longer max_length (content_of (raw_of value.now)))) }
 {
     match value {
-        ScalarValue::Utf8(text) => upper_bound_of_text(alloc, text, max_length),
-        ScalarValue::Binary(bytes) => upper_bound_of_bytes(alloc, bytes, max_length),
+        ScalarValue::Utf8(text) => upper_of_text(alloc, text, max_length),
+        ScalarValue::Binary(bytes) => upper_of_bytes(alloc, bytes, max_length),
         ScalarValue::Bool(_) | ScalarValue::Primitive(_) | ScalarValue::Tuple(_) =>
             exact_upper_bound(value),
         ScalarValue::Union(_) | ScalarValue::Variant(_) => exact_upper_bound(value),

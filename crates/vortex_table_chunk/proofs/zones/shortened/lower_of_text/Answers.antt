@@ -1,6 +1,6 @@
 use Rattle.std.proofs.Common.{subst, IsUtf8}
 use Rattle.vortex_table_chunk.proofs.zones.ValueBounds.{low_of_a_text}
-use Rattle.vortex_table_chunk.proofs.zones.shortened.lower_bound_of_text.Goals as goal
+use Rattle.vortex_table_chunk.proofs.zones.shortened.lower_of_text.Goals as goal
 
 pub returns-clause-value : goal.returns-clause-value
 returns-clause-value c =

@@ -7,7 +7,7 @@ use Rattle.vortex_model.specs.LogicalType.{bare}
 use Rattle.vortex_model.proofs.Tests.{kind_so}
 use Rattle.vortex_model.specs.Content.{Content, null, boolean, integer, text, byte_string, tuple, tagged, scalar, Contents, nothing, first, count}
 use Rattle.vortex_model.proofs.ContentOrder.{true_left, true_right}
-use Rattle.vortex_dtype_fields.proofs.Lawful.{fed_alike}
+use Rattle.vortex_dtype_fields.proofs.Lawful.{hash_alike}
 use Rattle.vortex_scalar_value.proofs.Views.{one_level}
 use Rattle.vortex_scalar_ops.specs.Hashing.{content_writes, contents_writes}
 use Rattle.vortex_scalar_ops.specs.Equality.{eq_content, eq_contents}
@@ -30,7 +30,7 @@ mutual
   eq_fed (tuple cs) (tuple ds) h = λ i. fed.u8 5 ++ fed.usize (as_many cs ds h i) ++ all_fed cs ds h i
   eq_fed (tagged t c) (tagged u d) h = λ i. fed.u8 6 ++ fed.i8 (int_alike t u (true_left _ _ h) i) ++ eq_fed c d (true_right _ (eq_content c d) h) i
   eq_fed (scalar k c) (scalar l d) h =
-      λ i. fed.u8 7 ++ fed_alike k l (kind_so (bare k) (bare l) (true_left _ _ h)) i ++ eq_fed c d (true_right _ (eq_content c d) h) i
+      λ i. fed.u8 7 ++ hash_alike k l (kind_so (bare k) (bare l) (true_left _ _ h)) i ++ eq_fed c d (true_right _ (eq_content c d) h) i
   eq_fed c d h = absurd (cc (h))
 
   all_fed : (cs ds : Contents) → eq_contents cs ds ≡ true → contents_writes cs ≡ contents_writes ds

@@ -4,7 +4,7 @@ use Rattle.std.proofs.lemmas.Result.{IfOk-weaker}
 use Rattle.vortex_arrays_model.specs.Layout.{dictionary}
 use Rattle.vortex_arrays_model.specs.Picks.{Picks}
 use Rattle.vortex_arrays_core.proofs.Gathered.{names_positions}
-use Rattle.vortex_arrays_core.proofs.array.ArrayRef.named_at.Goals as goal
+use Rattle.vortex_arrays_core.proofs.array.ArrayRef.dictionary_at.Goals as goal
 
 pub of_dict-requires : goal.of_dict-requires
 of_dict-requires c =

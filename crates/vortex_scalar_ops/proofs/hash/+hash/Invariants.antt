@@ -5,7 +5,7 @@ use Rattle.vortex_scalar_value.specs.Parts.{child_in}
 use Rattle.vortex_scalar_value.specs.View.{raw_of, raw_of_union, raw_of_variant, raw_at, raws_in}
 use Rattle.vortex_scalar_value.proofs.Sizes.{raw_size, raws_size}
 use Rattle.vortex_scalar_ops.specs.Hashing.{contents_writes}
-use Rattle.vortex_scalar_ops.proofs.hash.+feed.Given as goal
+use Rattle.vortex_scalar_ops.proofs.hash.+hash.Given as goal
 
 abbrev pub decreases-hash_items : goal.decreases-hash_items
 decreases-hash_items g l = 2 * raws_size (raws_in l.items.now) + 2

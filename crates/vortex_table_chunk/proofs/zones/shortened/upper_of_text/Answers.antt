@@ -1,6 +1,6 @@
 use Rattle.std.proofs.Common.{subst, IsUtf8}
 use Rattle.vortex_table_chunk.proofs.zones.ValueBounds.{high_of_a_text}
-use Rattle.vortex_table_chunk.proofs.zones.shortened.upper_bound_of_text.Goals as goal
+use Rattle.vortex_table_chunk.proofs.zones.shortened.upper_of_text.Goals as goal
 
 pub returns-in-Some-clause-value : goal.returns-in-Some-clause-value
 returns-in-Some-clause-value c =

@@ -1,7 +1,7 @@
 use Rattle.std.proofs.Common.{subst}
 use Rattle.vortex_model.specs.Valid.{AreBytes}
 use Rattle.vortex_table_chunk.proofs.zones.ValueBounds.{low_of_some_bytes}
-use Rattle.vortex_table_chunk.proofs.zones.shortened.lower_bound_of_bytes.Goals as goal
+use Rattle.vortex_table_chunk.proofs.zones.shortened.lower_of_bytes.Goals as goal
 
 pub returns-clause-value : goal.returns-clause-value
 returns-clause-value c =

@@ -2,9 +2,9 @@ use Rattle.std.proofs.Common.{◌≡◌, ◌<◌, ◌∙◌, ap, arith, rules}
 use Rattle.std.specs.List.{fold}
 use Rattle.std.specs.Hash as fed
 use Rattle.vortex_dtype_core.specs.View.{type_of, fields_of, variants_of}
-use Rattle.vortex_dtype_fields.proofs.Fed.{field_fed, choice_fed}
+use Rattle.vortex_dtype_fields.proofs.Hashed.{field_fed, choice_fed}
 use Rattle.vortex_dtype_core.proofs.Sizes.{type_size, fields_size, variants_size, field_smaller, choice_smaller}
-use Rattle.vortex_dtype_fields.proofs.hash.+feed.Goals as goal
+use Rattle.vortex_dtype_fields.proofs.hash.+hash.Goals as goal
 
 pub hash_fields-hash_type-requires : goal.hash_fields-hash_type-requires
 hash_fields-hash_type-requires g t c κs within =

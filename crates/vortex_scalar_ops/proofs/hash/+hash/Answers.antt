@@ -2,9 +2,9 @@ use Rattle.std.proofs.lemmas.Grind.{common_steps}
 use Rattle.std.proofs.Common.{◌≡◌, ◌<◌, ◌+◌, ◌*◌, arith}
 use Rattle.vortex_scalar_value.specs.View.{raw_at, raws_in}
 use Rattle.vortex_scalar_value.proofs.Sizes.{raw_size, raws_size, item_smaller}
-use Rattle.vortex_scalar_ops.proofs.Fed.{writes}
+use Rattle.vortex_scalar_ops.proofs.Hashed.{writes}
 use borrow.Author.Rules.{get_or_read}
-use Rattle.vortex_scalar_ops.proofs.hash.+feed.Goals as goal
+use Rattle.vortex_scalar_ops.proofs.hash.+hash.Goals as goal
 
 pub hash_items-hash_value-requires : goal.hash_items-hash_value-requires
 hash_items-hash_value-requires g t c κs within =

@@ -3,7 +3,7 @@ use Rattle.vortex_scalar_value.specs.Parts.{child_in}
 use Rattle.vortex_scalar_value.specs.View.{raw_of, raw_of_union, raw_of_variant, raw_at, raws_in}
 use Rattle.vortex_scalar_value.proofs.Sizes.{raw_size, raws_size}
 use Rattle.vortex_scalar_ops.proofs.Items.{items_same}
-use Rattle.vortex_scalar_ops.proofs.eq.+same.Given as goal
+use Rattle.vortex_scalar_ops.proofs.eq.+eq.Given as goal
 
 abbrev pub decreases-eq_items : goal.decreases-eq_items
 decreases-eq_items l = 2 * raws_size (raws_in l.left.now) + 2

@@ -6,7 +6,7 @@ use Rattle.vortex_scalar_ops.proofs.Items.{unequal}
 use Rattle.vortex_scalar_ops.proofs.Forms.{tests, apart}
 use borrow.Author.Rules.{get_or_read}
 use borrow.Author.Differences.{ints}
-use Rattle.vortex_scalar_ops.proofs.eq.+same.Goals as goal
+use Rattle.vortex_scalar_ops.proofs.eq.+eq.Goals as goal
 
 pub eq_items-returns-then-left-right : goal.eq_items-returns-then-left-right
 eq_items-returns-then-left-right t c = sym (unequal c.args.left.now c.args.right.now c.if-left-right.true)

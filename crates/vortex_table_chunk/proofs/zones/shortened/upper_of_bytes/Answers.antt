@@ -1,7 +1,7 @@
 use Rattle.std.proofs.Common.{subst}
 use Rattle.vortex_model.specs.Valid.{AreBytes}
 use Rattle.vortex_table_chunk.proofs.zones.ValueBounds.{high_of_some_bytes}
-use Rattle.vortex_table_chunk.proofs.zones.shortened.upper_bound_of_bytes.Goals as goal
+use Rattle.vortex_table_chunk.proofs.zones.shortened.upper_of_bytes.Goals as goal
 
 pub returns-in-Some-clause-value : goal.returns-in-Some-clause-value
 returns-in-Some-clause-value c =

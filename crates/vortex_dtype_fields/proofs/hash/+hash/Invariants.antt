@@ -3,7 +3,7 @@ use Rattle.std.specs.List.{fold}
 use Rattle.vortex_dtype_core.specs.View.{type_of, fields_of, variants_of}
 use Rattle.vortex_dtype_fields.specs.Hashing.{fields_writes, variants_writes}
 use Rattle.vortex_dtype_core.proofs.Sizes.{type_size, fields_size, variants_size}
-use Rattle.vortex_dtype_fields.proofs.hash.+feed.Given as goal
+use Rattle.vortex_dtype_fields.proofs.hash.+hash.Given as goal
 
 abbrev pub decreases-hash_type : goal.decreases-hash_type
 decreases-hash_type g l = type_size (type_of l.dtype.now)
