@@ -10,5 +10,6 @@ pub use vortex_dtype_path::laws::{
     overlaps_are_shared, resolving_goes_on,
 };
 pub use vortex_dtype_proto::laws::{
-    read_types_are_read_again, written_trees_read_alike, written_types_are_read,
+    decimals_are_shaped, maps_are_shaped, read_types_are_read_again, read_types_are_shaped,
+    unions_are_shaped, written_trees_read_alike, written_types_are_read,
 };

@@ -1,26 +1,30 @@
--- The types that can be said: those that calls make.
-use Rattle.std.specs.Prelude.{◌≡◌, IsTrue}
-use Rattle.vortex_model.specs.LogicalType.{LogicalType, decimal, list, fixed_list, mapping, struct, Fields, no_fields, field, union, Variants, no_variants, choice, extension, nullability_of, non_nullable}
+-- The types that calls make.
+use Rattle.std.specs.Prelude.{Bool, true, not, ◌&&◌, List, [], ◌∷◌}
+use Rattle.vortex_model.specs.LogicalType.{LogicalType, decimal, list, fixed_list, mapping, struct, Fields, no_fields, field, union, Variants, no_variants, choice, extension, nullability_of, is_nullable}
 use Rattle.vortex_dtype_ptype.specs.Numbers.{is_decimal_shape}
 use Rattle.vortex_dtype_core.specs.Parts.{is_distinct}
 use Rattle.vortex_dtype_proto.specs.Messages.{are_tags, variant_tags}
 
 -- decimals of a shape, maps whose keys aren't nullable, and unions of distinct tags that are signed bytes, at every depth
 abbrev mutual
-  pub IsShaped : LogicalType → Type 0
-  IsShaped (decimal p s n) = IsTrue (is_decimal_shape p s)
-  IsShaped (list k n) = IsShaped k
-  IsShaped (fixed_list k m n) = IsShaped k
-  IsShaped (mapping k v sorted n) = (nullability_of k ≡ non_nullable) × IsShaped k × IsShaped v
-  IsShaped (struct fs n) = FieldsShaped fs
-  IsShaped (union vs n) = IsTrue (are_tags (variant_tags vs)) × IsTrue (is_distinct (variant_tags vs)) × VariantsShaped vs
-  IsShaped (extension id meta k) = IsShaped k
-  IsShaped k = Unit {0}
+  pub is_shaped : LogicalType → Bool
+  is_shaped (decimal p s n) = is_decimal_shape p s
+  is_shaped (list k n) = is_shaped k
+  is_shaped (fixed_list k m n) = is_shaped k
+  is_shaped (mapping k v sorted n) = not (is_nullable (nullability_of k)) && is_shaped k && is_shaped v
+  is_shaped (struct fs n) = are_fields_shaped fs
+  is_shaped (union vs n) = are_tags (variant_tags vs) && is_distinct (variant_tags vs) && are_variants_shaped vs
+  is_shaped (extension id meta k) = is_shaped k
+  is_shaped k = true
 
-  pub FieldsShaped : Fields → Type 0
-  FieldsShaped no_fields = Unit {0}
-  FieldsShaped (field x k fs) = IsShaped k × FieldsShaped fs
+  pub are_fields_shaped : Fields → Bool
+  are_fields_shaped no_fields = true
+  are_fields_shaped (field x k fs) = is_shaped k && are_fields_shaped fs
 
-  pub VariantsShaped : Variants → Type 0
-  VariantsShaped no_variants = Unit {0}
-  VariantsShaped (choice x t k vs) = IsShaped k × VariantsShaped vs
+  pub are_variants_shaped : Variants → Bool
+  are_variants_shaped no_variants = true
+  are_variants_shaped (choice x t k vs) = is_shaped k && are_variants_shaped vs
+
+abbrev pub are_shaped : List LogicalType → Bool
+are_shaped [] = true
+are_shaped (k ∷ ks) = is_shaped k && are_shaped ks

@@ -1,12 +1,15 @@
 //! Laws of messages and the types that they mean. Each function makes the calls that its law speaks
 //! of, and answers what each of them gave.
-ghost use Rattle.std.specs.Prelude.{◌≡◌, IfOk, IfErr};
-ghost use Rattle.vortex_dtype_ptype.specs.declared.error.DTypeError.TheVariants.{Memory};
-ghost use Rattle.vortex_dtype_core.specs.View.{type_of};
-ghost use Rattle.vortex_dtype_proto.specs.Laws.{WrittenTreesReadAlike};
-ghost use Rattle.vortex_dtype_proto.specs.Messages.{read, reading, written};
+ghost use Rattle.std.specs.Prelude.{◌≡◌, ◌≢◌, ◌&&◌, map, true, false, IfOk, OnOk, IfErr, IsTrue};
+ghost use Rattle.std.specs.List.{zip};
+ghost use Rattle.vortex_model.specs.LogicalType.{decimal, mapping, union};
+ghost use Rattle.vortex_dtype_ptype.specs.View.{nullability_of_flag};
+ghost use Rattle.vortex_dtype_ptype.specs.declared.error.DTypeError.TheVariants.{Memory, Malformed};
+ghost use Rattle.vortex_dtype_core.specs.View.{type_of, variants_from};
+ghost use Rattle.vortex_dtype_proto.specs.Laws.{ReadTypesAreShaped, WrittenTreesReadAlike};
+ghost use Rattle.vortex_dtype_proto.specs.Messages.{are_tags, read, reading, written};
 ghost use Rattle.vortex_dtype_proto.specs.Sessions.{no_plugins, session_of};
-ghost use Rattle.vortex_dtype_proto.specs.Shapes.{IsShaped};
+ghost use Rattle.vortex_dtype_proto.specs.Shapes.{is_shaped, are_shaped};
 ghost use Rattle.vortex_dtype_proto.specs.View.{tree_of, Gives};
 
 use crate::message::Message;
@@ -15,26 +18,86 @@ use crate::session::DTypeSession;
 use crate::write::to_proto;
 use std::alloc::Global;
 use vortex_dtype_core::dtype::DType;
+use vortex_dtype_core::map_dtype::MapDType;
+use vortex_dtype_core::union_variants::UnionVariants;
+use vortex_dtype_ptype::decimal::DecimalDType;
 use vortex_dtype_ptype::error::DTypeError;
+use vortex_dtype_ptype::field_names::FieldNames;
+use vortex_dtype_ptype::nullability::Nullability;
 
-/// The tree that is written for a type means that type.
+/// The tree that is written for a type means that type, where the type is shaped: each decimal has
+/// a shape, no key of a map may be null and no union repeats a tag. Elsewhere it means nothing.
 pub fn written_trees_read_alike()
     ensures { WrittenTreesReadAlike }
 {}
 
+/// What any session reads is a shaped type.
+pub fn read_types_are_shaped()
+    ensures { ReadTypesAreShaped }
+{}
+
 /// What `to_proto` writes, and the type that `from_proto` reads from it in a session without
-/// plugins: the same type. Want of memory is the only refusal.
+/// plugins: the same type. `Malformed` where the type isn't shaped, which no type is that calls
+/// make: `decimals_are_shaped`, `maps_are_shaped` and `unions_are_shaped` say so of the three kinds
+/// that have a condition of their own.
 pub fn written_types_are_read(alloc: Global, dtype: &DType) -> Result<(Message, DType), DTypeError>
     ensures written { IfOk result (λ both. tree_of both.0 ≡ written (type_of dtype.now)) }
     ensures read { IfOk result
         (λ both. reading no_plugins (tree_of both.0) ≡ read (type_of both.1)) }
-    ensures alike { IfOk result
-        (λ both. IsShaped (type_of dtype.now) → type_of both.1 ≡ type_of dtype.now) }
-    ensures refused { IfErr result (λ e. IsShaped (type_of dtype.now) → e ≡ Memory) }
+    ensures alike { IfOk result (λ both. type_of both.1 ≡ type_of dtype.now) }
+    ensures shaped { OnOk result (IsTrue (is_shaped (type_of dtype.now))) }
+    ensures refused { IfErr result (λ e. e ≢ Memory
+        → (e ≡ Malformed) × (is_shaped (type_of dtype.now) ≡ false)) }
 {
     let message = to_proto(alloc, dtype)?;
     let again = read_without_plugins(alloc, &message)?;
     Ok((message, again))
+}
+
+/// The type of these decimals, which is shaped.
+pub fn decimals_are_shaped(shape: DecimalDType, nullability: Nullability) -> DType
+    ensures made { type_of result
+        ≡ decimal shape.precision shape.scale (nullability_of_flag nullability) }
+    ensures shaped { IsTrue (is_shaped (type_of result)) }
+{
+    DType::Decimal(shape, nullability)
+}
+
+/// The map type that `MapDType::try_new` makes, which is shaped where the types of its keys and its
+/// values are. The refusals are those of the call.
+pub fn maps_are_shaped(
+    alloc: Global,
+    key: DType,
+    value: DType,
+    keys_sorted: bool,
+    nullability: Nullability,
+) -> Result<DType, DTypeError>
+    ensures made { IfOk result (λ dtype. type_of dtype
+        ≡ mapping (type_of key) (type_of value) keys_sorted (nullability_of_flag nullability)) }
+    ensures shaped { IfOk result (λ dtype. is_shaped (type_of dtype)
+        ≡ (is_shaped (type_of key) && is_shaped (type_of value))) }
+{
+    let entries = MapDType::try_new(alloc, key, value, keys_sorted)?;
+    Ok(DType::Map(entries, nullability))
+}
+
+/// The union type that `UnionVariants::try_new` makes, which is shaped where the types of its
+/// choices are. The refusals are those of the call.
+pub fn unions_are_shaped(
+    names: FieldNames,
+    dtypes: Vec<DType>,
+    tags: Vec<i8>,
+    nullability: Nullability,
+) -> Result<DType, DTypeError>
+    ensures made { IfOk result (λ dtype. type_of dtype
+        ≡ union (variants_from (zip names (zip tags.items (map type_of dtypes.items))))
+        (nullability_of_flag nullability)) }
+    ensures shaped { IfOk result (λ dtype. is_shaped (type_of dtype)
+        ≡ are_shaped (map type_of dtypes.items)) }
+{
+    have_byte_tags(&tags);
+    let variants = UnionVariants::try_new(names, dtypes, tags)?;
+    Ok(DType::Union(variants, nullability))
 }
 
 /// The type that the session reads from a message, the message that is written for that type, and
@@ -63,4 +126,13 @@ fn read_without_plugins(alloc: Global, message: &Message) -> Result<DType, DType
 {
     let session = DTypeSession::empty(alloc);
     from_proto(alloc, message, &session)
+}
+
+// Each of these tags is a signed byte, as the type says.
+fn have_byte_tags(tags: &[i8])
+    ensures { IsTrue (are_tags tags.now) }
+{
+    for tag in tags {
+        let _tag = *tag;
+    }
 }

@@ -5,11 +5,14 @@ use crate::make::{choices, each_kind, fields, list, names, number, path, record,
 use crate::trees::{extended, leaf, leaf_or_null, node};
 use std::alloc::Global;
 use vortex_dtype::{
-    DType, DTypeError, DTypeExt, DTypeSession, FieldPath, FieldPathSet, MessageKind, Nullability,
-    PType, StructFieldsExt, UnionVariantsExt, from_proto,
+    DType, DTypeError, DTypeExt, DTypeSession, DecimalDType, FieldPath, FieldPathSet, MessageKind,
+    Nullability, PType, StructFieldsExt, UnionVariantsExt, from_proto,
 };
 use vortex_dtype_path::laws::{coverage_tells_iteration, field_path_is_of_its_names};
-use vortex_dtype_proto::laws::{read_types_are_read_again, written_types_are_read};
+use vortex_dtype_proto::laws::{
+    decimals_are_shaped, maps_are_shaped, read_types_are_read_again, unions_are_shaped,
+    written_types_are_read,
+};
 
 /// Calls that laws are about.
 pub fn run(alloc: Global, checks: &mut Checks<'_>) -> Result<(), DTypeError> {
@@ -17,6 +20,7 @@ pub fn run(alloc: Global, checks: &mut Checks<'_>) -> Result<(), DTypeError> {
     coverage(alloc, checks)?;
     resolving(alloc, checks)?;
     messages(alloc, checks)?;
+    shapes(alloc, checks)?;
     equality(alloc, checks)?;
     fitting(alloc, checks)?;
     parts(alloc, checks)?;
@@ -173,6 +177,33 @@ fn messages(alloc: Global, checks: &mut Checks<'_>) -> Result<(), DTypeError> {
         "law: the written message is read alike",
         from_proto(alloc, &written, &session)? == read,
     );
+    Ok(())
+}
+
+fn is_read_again(alloc: Global, dtype: &DType) -> Result<bool, DTypeError> {
+    let (_, again) = written_types_are_read(alloc, dtype)?;
+    Ok(again == *dtype)
+}
+
+fn shapes(alloc: Global, checks: &mut Checks<'_>) -> Result<(), DTypeError> {
+    let nullability = Nullability::Nullable;
+    let decimals = decimals_are_shaped(DecimalDType::new(76, -76), nullability);
+    checks.holds("law: decimals are shaped", is_read_again(alloc, &decimals)?);
+    let (key, value) = (text(), decimals.clone()?);
+    let maps = maps_are_shaped(alloc, key, value, true, nullability)?;
+    checks.holds("law: maps are shaped", is_read_again(alloc, &maps)?);
+    let (key, value) = (decimals.clone()?, text());
+    checks.holds(
+        "law: a key that may be null is refused",
+        matches!(
+            maps_are_shaped(alloc, key, value, true, nullability),
+            Err(DTypeError::MapShape | DTypeError::Memory)
+        ),
+    );
+    let dtypes = vec![in alloc; decimals, maps]?;
+    let tags = vec![in alloc; -128i8, 127i8]?;
+    let unions = unions_are_shaped(names(alloc, &["a", "a"])?, dtypes, tags, nullability)?;
+    checks.holds("law: unions are shaped", is_read_again(alloc, &unions)?);
     Ok(())
 }
 
