@@ -11,7 +11,7 @@ ghost use Rattle.vortex_dtype_path.specs.Tree.{IsTree, nodes_of, kept_paths};
 ghost use Rattle.vortex_dtype_path.specs.declared.path.FieldPath.{FieldPath};
 
 use crate::path::FieldPath;
-use crate::path_tree::{PathNode, insert_in, is_kept, outermost_of};
+use crate::path_tree::{PathNode, copy_nodes, insert_in, is_kept, outermost_of};
 use std::alloc::{AllocError, Global};
 use std::vec::IntoIter;
 
@@ -152,6 +152,21 @@ impl FieldPathSet {
     {
         let outermost = outermost_of(*self.nodes.allocator(), self.nodes.as_slice())?;
         Ok(outermost.into_iter())
+    }
+}
+
+/// The clone holds the same paths. It takes memory for each node of the tree.
+impl Clone for FieldPathSet {
+    ghost use Rattle.vortex_dtype_path.specs.Sets.{is_inserted};
+
+    ghost is_clone = { λ old new. (q : List Step) → is_inserted new q ≡ is_inserted old q };
+
+    fn clone(&self) -> Result<FieldPathSet, AllocError> {
+        let nodes = copy_nodes(&self.nodes)?;
+        Ok(FieldPathSet {
+            nodes,
+            count: self.count,
+        })
     }
 }
 

@@ -277,3 +277,49 @@ pub(crate) fn insert_in(nodes: &mut Vec<PathNode>, path: FieldPath) -> Result<bo
     keep(nodes, at, path);
     Ok(true)
 }
+
+impl Clone for StepEdge {
+    ghost is_clone = { λ old new. edge_of new ≡ edge_of old };
+
+    fn clone(&self) -> Result<StepEdge, AllocError> {
+        let step = self.step.clone()?;
+        Ok(StepEdge {
+            step,
+            node: self.node,
+        })
+    }
+}
+
+fn copy_edges(edges: &Vec<StepEdge>) -> Result<Vec<StepEdge>, AllocError>
+    ensures { IfOk result (λ copy. map edge_of copy.items ≡ map edge_of edges.now.items) }
+{
+    let mut copy = Vec::with_capacity(*edges.allocator(), edges.len())?;
+    for edge in edges {
+        copy.push(edge.clone()?)?;
+    }
+    Ok(copy)
+}
+
+impl Clone for PathNode {
+    ghost is_clone = { λ old new. node_of new ≡ node_of old };
+
+    fn clone(&self) -> Result<PathNode, AllocError> {
+        let edges = copy_edges(&self.edges)?;
+        let path = match &self.path {
+            Some(path) => Some(path.clone()?),
+            None => None,
+        };
+        Ok(PathNode { path, edges })
+    }
+}
+
+// The same nodes once more.
+pub(crate) fn copy_nodes(nodes: &Vec<PathNode>) -> Result<Vec<PathNode>, AllocError>
+    ensures { IfOk result (λ copy. nodes_of copy.items ≡ nodes_of nodes.now.items) }
+{
+    let mut copy = Vec::with_capacity(*nodes.allocator(), nodes.len())?;
+    for node in nodes {
+        copy.push(node.clone()?)?;
+    }
+    Ok(copy)
+}

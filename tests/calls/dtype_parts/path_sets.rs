@@ -11,6 +11,7 @@ pub fn run(alloc: Global, checks: &mut Checks<'_>) -> Result<(), DTypeError> {
     empty(alloc, checks)?;
     inserted(alloc, checks)?;
     extended(alloc, checks)?;
+    copied(alloc, checks)?;
     gone_over(alloc, checks)?;
     outermost(alloc, checks)?;
     branching(alloc, checks)?;
@@ -131,6 +132,25 @@ fn has_each_once(alloc: Global, list: &[FieldPath], paths: &[&[&str]]) -> Result
         }
     }
     Ok(list.len() == paths.len())
+}
+
+fn copied(alloc: Global, checks: &mut Checks<'_>) -> Result<(), DTypeError> {
+    let set = set_of(alloc, &[&["a", "b"], &[], &["*"]])?;
+    let mut copy = set.clone()?;
+    checks.holds(
+        "clone: the same paths",
+        copy.len() == 3
+            && copy.contains(&path(alloc, &["a", "b"])?)
+            && copy.contains(&path(alloc, &[])?)
+            && copy.contains(&path(alloc, &["*"])?)
+            && !copy.contains(&path(alloc, &["a"])?),
+    );
+    copy.insert(path(alloc, &["a"])?)?;
+    checks.holds(
+        "clone: the set stays where the clone grows",
+        set.len() == 3 && !set.contains(&path(alloc, &["a"])?),
+    );
+    Ok(())
 }
 
 fn gone_over(alloc: Global, checks: &mut Checks<'_>) -> Result<(), DTypeError> {
