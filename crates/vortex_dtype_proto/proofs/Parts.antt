@@ -9,6 +9,7 @@ use Rattle.vortex_dtype_proto.specs.Messages.{node, tree, field_names, variant_n
 use Rattle.vortex_dtype_proto.specs.View.{form_of, tree_of, trees_from, trees_of}
 use Rattle.vortex_dtype_proto.specs.declared.message.Message as message
 use Rattle.vortex_dtype_proto.specs.declared.message.Message.{Message}
+use Rattle.vortex_dtype_proto.specs.declared.message.MessageKind.{MessageKind}
 
 pub tree_of-parts : (m : Message) → tree_of m ≡ node (form_of (message.out-Message m).kind) (message.out-Message m).nullable (trees_of (message.out-Message m).children.items)
 tree_of-parts m = search (rules, message.the_lemmas)
@@ -46,6 +47,11 @@ all_taken f [] zero h = refl
 all_taken f [] (suc i) h = refl
 all_taken f (x ∷ xs) zero h = absurd (omega arith)
 all_taken f (x ∷ xs) (suc i) h = ap (λ l. f x ∷ l) (all_taken f xs i (omega arith))
+
+-- a node of an equal kind over equal children
+pub copied : (m : Message) (kind : MessageKind) (children : List Message) → form_of kind ≡ form_of (message.out-Message m).kind → map tree_of children ≡ map tree_of (message.out-Message m).children.items →
+    node (form_of kind) (message.out-Message m).nullable (trees_of children) ≡ tree_of m
+copied m kind children kinds trees = (λ i. node (kinds i) (message.out-Message m).nullable (trees_from (trees i))) ∙ sym (tree_of-parts m)
 
 -- the trees that parts are written as
 abbrev pub written_field : StructField → Tree

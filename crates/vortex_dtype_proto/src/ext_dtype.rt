@@ -6,7 +6,7 @@ ghost use Rattle.vortex_dtype_ptype.specs.declared.error.DTypeError.TheVariants.
 ghost use Rattle.vortex_dtype_core.specs.View.{type_of, extension_type};
 ghost use Rattle.vortex_dtype_core.specs.Parts.{id_of, metadata_of, storage_of, can_be_nonnullable};
 
-use crate::vtable::ExtVTable;
+use crate::vtable::{CloneExtVTable, ExtVTable};
 use std::alloc::{AllocError, Global};
 use vortex_dtype_core::dtype::DType;
 use vortex_dtype_core::extension::ExtDTypeRef;
@@ -109,6 +109,23 @@ impl<V: ExtVTable> ExtDType<V> {
         Ok(ExtDType {
             vtable: self.vtable,
             metadata: self.metadata,
+            storage,
+        })
+    }
+}
+
+/// The clone has an equal meaning, equal metadata and an equal storage.
+impl<V: CloneExtVTable> Clone for ExtDType<V> {
+    ghost is_clone = { λ old new. (new.vtable ≡ old.vtable) × (new.metadata ≡ old.metadata)
+        × (type_of new.storage ≡ type_of old.storage) };
+
+    fn clone(&self) -> Result<ExtDType<V>, AllocError> {
+        let vtable = self.vtable.clone_vtable()?;
+        let metadata = self.vtable.clone_metadata(&self.metadata)?;
+        let storage = self.storage.clone()?;
+        Ok(ExtDType {
+            vtable,
+            metadata,
             storage,
         })
     }

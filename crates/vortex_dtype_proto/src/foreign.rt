@@ -3,7 +3,7 @@ ghost use Rattle.std.specs.Prelude.{◌≡◌, Some, true, refl, IfOk};
 ghost use Rattle.vortex_model.specs.LogicalType.{extension};
 ghost use Rattle.vortex_dtype_core.specs.View.{type_of, extension_type};
 
-use crate::vtable::ExtVTable;
+use crate::vtable::{CloneExtVTable, ExtVTable};
 use std::alloc::{AllocError, Global};
 use std::marker::Model;
 use vortex_dtype_core::dtype::DType;
@@ -42,6 +42,15 @@ impl ForeignExtMetadata {
     }
 }
 
+impl Clone for ForeignExtMetadata {
+    ghost is_clone = { λ old new. new ≡ old };
+
+    fn clone(&self) -> Result<ForeignExtMetadata, AllocError> {
+        let bytes = self.bytes.clone()?;
+        Ok(ForeignExtMetadata { bytes })
+    }
+}
+
 /// What the extensions are of an id that the program doesn't know: any metadata, over any storage.
 /// As Vortex's `ForeignExtDType`.
 #[derive(Drop)]
@@ -69,6 +78,15 @@ impl ForeignExtDType {
     {
         let made = ExtDTypeRef::new(alloc, id, metadata, storage)?;
         Ok(made)
+    }
+}
+
+impl Clone for ForeignExtDType {
+    ghost is_clone = { λ old new. new ≡ old };
+
+    fn clone(&self) -> Result<ForeignExtDType, AllocError> {
+        let id = self.id.clone()?;
+        Ok(ForeignExtDType { id })
     }
 }
 
@@ -111,5 +129,18 @@ impl ExtVTable for ForeignExtDType {
 
     fn fits(&self, _metadata: &ForeignExtMetadata, _storage: &DType) -> bool {
         true
+    }
+}
+
+impl CloneExtVTable for ForeignExtDType {
+    fn clone_vtable(&self) -> Result<ForeignExtDType, AllocError> {
+        self.clone()
+    }
+
+    fn clone_metadata(
+        &self,
+        metadata: &ForeignExtMetadata,
+    ) -> Result<ForeignExtMetadata, AllocError> {
+        metadata.clone()
     }
 }

@@ -1,4 +1,9 @@
 //! Message trees.
+ghost use Rattle.std.specs.Prelude.{◌≡◌, IfOk};
+ghost use Rattle.vortex_dtype_proto.specs.Messages.{extended, node, unions};
+ghost use Rattle.vortex_dtype_proto.specs.View.{form_of, tree_of, trees_of};
+
+use std::alloc::AllocError;
 use vortex_dtype_core::{BufferString, ByteBuffer};
 use vortex_dtype_ptype::field_names::FieldNames;
 use vortex_dtype_ptype::ptype::PType;
@@ -96,5 +101,87 @@ impl Drop for MessageKind {
                 metadata: _metadata,
             } => {}
         }
+    }
+}
+
+impl Clone for MessageKind {
+    ghost is_clone = { λ old new. form_of new ≡ form_of old };
+
+    fn clone(&self) -> Result<MessageKind, AllocError> {
+        match self {
+            MessageKind::Null => Ok(MessageKind::Null),
+            MessageKind::Bool => Ok(MessageKind::Bool),
+            MessageKind::Utf8 => Ok(MessageKind::Utf8),
+            MessageKind::Binary => Ok(MessageKind::Binary),
+            MessageKind::Variant => Ok(MessageKind::Variant),
+            MessageKind::Primitive(ptype) => Ok(MessageKind::Primitive(*ptype)),
+            MessageKind::Decimal { precision, scale } => Ok(MessageKind::Decimal {
+                precision: *precision,
+                scale: *scale,
+            }),
+            MessageKind::List => Ok(MessageKind::List),
+            MessageKind::FixedSizeList { size } => Ok(MessageKind::FixedSizeList { size: *size }),
+            MessageKind::Map { sorted } => Ok(MessageKind::Map { sorted: *sorted }),
+            MessageKind::Struct { names } => Ok(MessageKind::Struct {
+                names: names.clone()?,
+            }),
+            MessageKind::Union { names, tags } => copy_union(names, tags),
+            MessageKind::Extension { id, metadata } => copy_extension(id, metadata),
+        }
+    }
+}
+
+fn copy_union(names: &FieldNames, tags: &Vec<i64>) -> Result<MessageKind, AllocError>
+    ensures { IfOk result (λ copy. form_of copy ≡ unions names.now tags.now.items) }
+{
+    let names = names.clone()?;
+    let tags = tags.to_vec(*tags.allocator())?;
+    Ok(MessageKind::Union { names, tags })
+}
+
+fn copy_extension(
+    id: &BufferString,
+    metadata: &Option<ByteBuffer>,
+) -> Result<MessageKind, AllocError>
+    ensures { IfOk result (λ copy. form_of copy ≡ extended id.now metadata.now) }
+{
+    let id = id.clone()?;
+    let metadata = match metadata {
+        Some(bytes) => Some(bytes.clone()?),
+        None => None,
+    };
+    Ok(MessageKind::Extension { id, metadata })
+}
+
+impl Clone for Message {
+    ghost is_clone = { λ old new. tree_of new ≡ tree_of old };
+
+    fn clone(&self) -> Result<Message, AllocError> {
+        copy_message(self)
+    }
+}
+
+#[tactic(auto, using(crate::proofs::Parts::one_level))]
+fn copy_message(message: &Message) -> Result<Message, AllocError>
+    ensures { IfOk result (λ copy. tree_of copy ≡ tree_of message.now) }
+{
+    let alloc = *message.children.allocator();
+    let mut children = Vec::with_capacity(alloc, message.children.len())?;
+    for child in &message.children {
+        let copy = copy_message(child)?;
+        children.push(copy)?;
+    }
+    let kind = message.kind.clone()?;
+    Ok(node(kind, message.nullable, children))
+}
+
+#[tactic(auto, using(crate::proofs::Parts::one_level))]
+fn node(kind: MessageKind, nullable: bool, children: Vec<Message>) -> Message
+    ensures { tree_of result ≡ node (form_of kind) nullable (trees_of children.items) }
+{
+    Message {
+        kind,
+        nullable,
+        children,
     }
 }

@@ -55,3 +55,15 @@ pub trait ExtVTable: Drop {
     ghost outer_aside: { (v : Self) (m : Self.Metadata) (k : LogicalType) (n : Nullability) →
         fits v m (with_nullability n k) ≡ fits v m k };
 }
+
+/// An `ExtVTable` of which copies can be made, with their metadata: extension types of its meaning
+/// are `Clone`.
+pub trait CloneExtVTable: ExtVTable {
+    /// An equal meaning.
+    fn clone_vtable(&self) -> Result<Self, AllocError>
+        ensures { IfOk result (λ copy. copy ≡ self.now) };
+
+    /// Equal metadata.
+    fn clone_metadata(&self, metadata: &Self::Metadata) -> Result<Self::Metadata, AllocError>
+        ensures { IfOk result (λ copy. copy ≡ metadata.now) };
+}

@@ -45,7 +45,7 @@ pub mod dtype {
     pub use vortex_dtype_proto::plugin::ExtDTypePlugin;
     pub use vortex_dtype_proto::read::from_proto;
     pub use vortex_dtype_proto::session::DTypeSession;
-    pub use vortex_dtype_proto::vtable::ExtVTable;
+    pub use vortex_dtype_proto::vtable::{CloneExtVTable, ExtVTable};
     pub use vortex_dtype_proto::write::to_proto;
     pub use vortex_dtype_ptype::decimal::{DecimalDType, MAX_PRECISION, MAX_SCALE};
     pub use vortex_dtype_ptype::error::DTypeError;

@@ -341,10 +341,20 @@ fn foreign(alloc: Global, checks: &mut Checks<'_>) -> Result<(), DTypeError> {
         "ForeignExtDType::from_parts",
         made == extension(alloc, "unknown", b"any", text())?,
     );
+    checks.holds(
+        "ForeignExtDType, ForeignExtMetadata: clone",
+        meaning.clone()?.id() == "unknown"
+            && metadata.clone()?.as_slice() == b"any".as_slice(),
+    );
     let made = ExtDType::try_with_vtable(meaning, metadata, DType::Null)?;
     checks.holds(
         "an ExtDType without meaning",
         made.erased(alloc)? == extension(alloc, "unknown", b"any", DType::Null)?,
+    );
+    let copy = made.clone()?;
+    checks.holds(
+        "ExtDType: clone",
+        copy.erased(alloc)? == made.erased(alloc)?,
     );
     Ok(())
 }

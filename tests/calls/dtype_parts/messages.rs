@@ -44,6 +44,7 @@ fn says(
     checks.holds(name, is_read);
     let written = to_proto(alloc, dtype)?;
     checks.holds(name, is_same(&written, message));
+    checks.holds(name, is_same(&message.clone()?, message));
     checks.holds(name, read_plainly(alloc, &written)? == *dtype);
     Ok(())
 }
