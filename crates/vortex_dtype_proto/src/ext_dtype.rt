@@ -1,10 +1,10 @@
 //! Extension types with a meaning that the program knows.
-ghost use Rattle.std.specs.Prelude.{◌≡◌, ◌≢◌, Some, None, IfSome, true, false, IfOk, OnOk, IfErr, IsTrue};
+ghost use Rattle.std.specs.Prelude.{◌≡◌, true, false, IfOk, OnOk, IfErr, IsTrue};
 ghost use Rattle.vortex_model.specs.LogicalType.{extension, with_nullability, non_nullable};
 ghost use Rattle.vortex_dtype_ptype.specs.View.{nullability_of_flag};
-ghost use Rattle.vortex_dtype_ptype.specs.declared.error.DTypeError.TheVariants.{Memory, Plugin};
+ghost use Rattle.vortex_dtype_ptype.specs.declared.error.DTypeError.TheVariants.{Plugin};
 ghost use Rattle.vortex_dtype_core.specs.View.{type_of, extension_type};
-ghost use Rattle.vortex_dtype_core.specs.Parts.{id_of, metadata_of, storage_of, can_be_nonnullable};
+ghost use Rattle.vortex_dtype_core.specs.Parts.{can_be_nonnullable};
 
 use crate::vtable::{CloneExtVTable, ExtVTable};
 use std::alloc::{AllocError, Global};
@@ -143,39 +143,4 @@ impl<V: ExtVTable + Default> ExtDType<V> {
         let made = ExtDType::try_with_vtable(V::default(), metadata, storage)?;
         Ok(made)
     }
-}
-
-/// The extension with the meaning that `vtable` gives it, and `None` where it has another id, or
-/// metadata or a storage that the meaning doesn't have.
-pub fn try_downcast<V: ExtVTable>(
-    alloc: Global,
-    extension: &ExtDTypeRef,
-    vtable: V,
-) -> Result<Option<ExtDType<V>>, AllocError>
-    ensures made { IfOk result (λ found. IfSome found (λ made. (made.vtable ≡ vtable)
-        × (V.name vtable ≡ id_of (extension_type extension.now))
-        × (V.reads vtable (metadata_of (extension_type extension.now)) ≡ Some made.metadata)
-        × (type_of made.storage ≡ storage_of (extension_type extension.now)))) }
-    ensures none { IfOk result (λ found. found ≡ None → (m : V.Metadata)
-        → V.name vtable ≡ id_of (extension_type extension.now)
-        → V.reads vtable (metadata_of (extension_type extension.now)) ≡ Some m
-        → V.fits vtable m (storage_of (extension_type extension.now)) ≡ false) }
-{
-    if vtable.id() != extension.id().as_str() {
-        return Ok(None);
-    }
-    let metadata = match vtable.deserialize_metadata(alloc, extension.serialize_metadata()) {
-        Ok(metadata) => metadata,
-        Err(DTypeError::Memory) => return Err(AllocError),
-        Err(_) => return Ok(None),
-    };
-    let storage = extension.storage_dtype().clone()?;
-    if !vtable.fits(&metadata, &storage) {
-        return Ok(None);
-    }
-    Ok(Some(ExtDType {
-        vtable,
-        metadata,
-        storage,
-    }))
 }

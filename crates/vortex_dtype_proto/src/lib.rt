@@ -3,6 +3,7 @@
 #![tactic(auto)]
 
 pub mod ext_dtype;
+pub mod ext_dtype_ref_ext;
 pub mod foreign;
 pub mod laws;
 pub mod message;

@@ -39,7 +39,8 @@ pub mod dtype {
     pub use vortex_dtype_path::mask::FieldMask;
     pub use vortex_dtype_path::path::FieldPath;
     pub use vortex_dtype_path::path_set::{FieldPathSet, FieldPathSetIter};
-    pub use vortex_dtype_proto::ext_dtype::{ExtDType, try_downcast};
+    pub use vortex_dtype_proto::ext_dtype::ExtDType;
+    pub use vortex_dtype_proto::ext_dtype_ref_ext::ExtDTypeRefExt;
     pub use vortex_dtype_proto::foreign::{ForeignExtDType, ForeignExtMetadata};
     pub use vortex_dtype_proto::message::{Message, MessageKind};
     pub use vortex_dtype_proto::plugin::ExtDTypePlugin;

@@ -5,8 +5,8 @@ use crate::checks::Checks;
 use crate::make::{extension, number, number_or_null, text};
 use std::alloc::{AllocError, Global};
 use vortex_dtype::{
-    BufferString, ByteBuffer, DType, DTypeError, ExtDType, ExtDTypeRef, ExtVTable, ForeignExtDType,
-    ForeignExtMetadata, Nullability, PType, try_downcast,
+    BufferString, ByteBuffer, DType, DTypeError, ExtDType, ExtDTypeRef, ExtDTypeRefExt, ExtVTable,
+    ForeignExtDType, ForeignExtMetadata, Nullability, PType,
 };
 
 const THERE: Nullability = Nullability::NonNullable;
@@ -246,7 +246,7 @@ fn erased(alloc: Global, checks: &mut Checks<'_>) -> Result<(), DTypeError> {
     let made = ExtDType::try_with_vtable(Clock, Step::Second, number_or_null(PType::I64))?;
     let wanted = extension(alloc, "clock", b"s", number_or_null(PType::I64))?;
     checks.holds("ExtDType::erased", made.erased(alloc)? == wanted);
-    let is_back = match try_downcast(alloc, &made.erased(alloc)?, Clock)? {
+    let is_back = match made.erased(alloc)?.try_downcast(alloc, Clock)? {
         Some(again) => *again.metadata() == Step::Second
             && again.storage_dtype() == made.storage_dtype(),
         None => false,
@@ -276,7 +276,7 @@ fn nullabilities(_alloc: Global, checks: &mut Checks<'_>) -> Result<(), DTypeErr
 
 fn downcast(alloc: Global, checks: &mut Checks<'_>) -> Result<(), DTypeError> {
     let days = extension(alloc, "clock", b"d", number_or_null(PType::I32))?;
-    match try_downcast(alloc, &days, Clock)? {
+    match days.try_downcast(alloc, Clock)? {
         Some(found) => {
             checks.holds("try_downcast: metadata", *found.metadata() == Step::Day);
             checks.holds(
@@ -291,7 +291,7 @@ fn downcast(alloc: Global, checks: &mut Checks<'_>) -> Result<(), DTypeError> {
 }
 
 fn is_not_downcast(alloc: Global, made: &ExtDTypeRef) -> Result<bool, DTypeError> {
-    Ok(try_downcast(alloc, made, Clock)?.is_none())
+    Ok(made.try_downcast(alloc, Clock)?.is_none())
 }
 
 fn not_downcast(alloc: Global, checks: &mut Checks<'_>) -> Result<(), DTypeError> {
@@ -312,7 +312,7 @@ fn not_downcast(alloc: Global, checks: &mut Checks<'_>) -> Result<(), DTypeError
     let made = extension(alloc, "clock", b"e", number(PType::I64))?;
     checks.holds(
         "try_downcast: want of memory is passed on",
-        try_downcast(alloc, &made, Clock).is_err(),
+        made.try_downcast(alloc, Clock).is_err(),
     );
     Ok(())
 }
@@ -362,7 +362,7 @@ fn foreign(alloc: Global, checks: &mut Checks<'_>) -> Result<(), DTypeError> {
 fn foreign_downcast(alloc: Global, checks: &mut Checks<'_>) -> Result<(), DTypeError> {
     let made = extension(alloc, "clock", b"x", text())?;
     let meaning = ForeignExtDType::new(BufferString::copy_from_str(alloc, "clock")?);
-    let is_so = match try_downcast(alloc, &made, meaning)? {
+    let is_so = match made.try_downcast(alloc, meaning)? {
         Some(found) => found.metadata().as_slice() == b"x".as_slice()
             && found.erased(alloc)? == made,
         None => false,
@@ -374,7 +374,7 @@ fn foreign_downcast(alloc: Global, checks: &mut Checks<'_>) -> Result<(), DTypeE
     let meaning = ForeignExtDType::new(BufferString::copy_from_str(alloc, "time")?);
     checks.holds(
         "try_downcast: without meaning the id counts",
-        try_downcast(alloc, &made, meaning)?.is_none(),
+        made.try_downcast(alloc, meaning)?.is_none(),
     );
     Ok(())
 }
