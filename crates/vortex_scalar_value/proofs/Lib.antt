@@ -1,4 +1,5 @@
 pub mod Nulls
+pub mod Items
 pub mod Sizes
 pub mod Views
 pub mod Widths

@@ -1,8 +1,8 @@
 //! What stands in a value of one form, and `None` where it is of another.
 ghost use Rattle.std.specs.Prelude.{◌≡◌, option_map, option_copied};
 ghost use Rattle.vortex_scalar_value.specs.Numbers.{raw_of_number};
-ghost use Rattle.vortex_scalar_value.specs.Parts.{boolean_in, as_number, text_in, byte_string_in, items_in, as_tagged, as_scalar};
-ghost use Rattle.vortex_scalar_value.specs.View.{raw_of, raw_of_union, raw_of_variant, raws_in};
+ghost use Rattle.vortex_scalar_value.specs.Parts.{boolean_in, as_number, text_in, byte_string_in, items_in, as_tagged, as_scalar, raw_nth, raw_part};
+ghost use Rattle.vortex_scalar_value.specs.View.{raw_of, raw_of_union, raw_of_variant, raw_at, raws_in};
 
 use crate::pvalue::PValue;
 use crate::scalar_value::ScalarValue;
@@ -81,6 +81,15 @@ impl ScalarValue {
         }
     }
 
+    /// What a list, a map or a record has at an index. `None` is null, and stands also past the end
+    /// and of a value without parts.
+    #[tactic(auto, using(crate::proofs::Items::parts))]
+    pub fn child_at(&self, index: usize) -> Option<&ScalarValue>
+        ensures { raw_at result ≡ raw_part (raw_of self.now) index }
+    {
+        item_at(self.as_list()?, index)
+    }
+
     /// A union's value.
     pub fn as_union(&self) -> Option<&UnionValue>
         ensures { option_map (λ union. raw_of_union union.now) result
@@ -103,5 +112,15 @@ impl ScalarValue {
             ScalarValue::Bool(_) | ScalarValue::Primitive(_) | ScalarValue::Utf8(_) => None,
             ScalarValue::Binary(_) | ScalarValue::Tuple(_) | ScalarValue::Union(_) => None,
         }
+    }
+}
+
+/// The value at an index. `None` is null, and stands also past the end.
+pub fn item_at(items: &[Option<ScalarValue>], index: usize) -> Option<&ScalarValue>
+    ensures { raw_at result ≡ raw_nth (raws_in items.now) index }
+{
+    match items.get(index) {
+        Some(item) => item.as_ref(),
+        None => None,
     }
 }

@@ -1,9 +1,9 @@
 //! Predicates whose columns are resolved to positions, and their truth at a row.
 ghost use Rattle.std.specs.Prelude.{◌≡◌, IfOk};
-ghost use Rattle.vortex_model.specs.Content.{content_of, contents_of, nth};
+ghost use Rattle.vortex_model.specs.Content.{content_of};
 ghost use Rattle.vortex_model.specs.Path.{at, part_of};
 ghost use Rattle.vortex_model.specs.Truth.{is_true};
-ghost use Rattle.vortex_scalar_value.specs.View.{raw_of, raws_in, content_at};
+ghost use Rattle.vortex_scalar_value.specs.View.{raw_of, content_at};
 ghost use Rattle.vortex_stats_expr.specs.Bound.{test, each, some, bound_value};
 ghost use Rattle.vortex_stats_expr.specs.OperandValue.{operand_value};
 ghost use Rattle.vortex_stats_expr.specs.Tree.{comparison_of};
@@ -144,14 +144,5 @@ pub fn part_at<'a>(row: &'a ScalarValue, path: &[usize]) -> Option<&'a ScalarVal
 fn member<'a>(value: Option<&'a ScalarValue>, index: usize) -> Option<&'a ScalarValue>
     ensures { content_at result ≡ part_of (content_at value.entry) index }
 {
-    item_at(value?.as_list()?, index)
-}
-
-fn item_at(items: &[Option<ScalarValue>], index: usize) -> Option<&ScalarValue>
-    ensures { content_at result ≡ nth (contents_of (raws_in items.now)) index }
-{
-    match items.get(index) {
-        Some(item) => item.as_ref(),
-        None => None,
-    }
+    value?.child_at(index)
 }

@@ -1,14 +1,12 @@
 -- One level of what a cut keeps, and the values of a record.
-use Rattle.std.proofs.Common.{◌≡◌, refl, sym, ◌∙◌, ap, ℕ, zero, suc, ◌<◌, ◌≤◌, List, [], ◌∷◌, length, map, get_or, Option, Some, None, arith, rules, Vec, Global, option_copied}
-use Rattle.std.specs.Borrow.{Bor}
+use Rattle.std.proofs.Common.{◌≡◌, refl, sym, ◌∙◌, ap, List, [], ◌∷◌, map, Option, Some, None, rules, Vec, Global}
 use Rattle.vortex_model.specs.Content.{Raw, raw_null, raw_tuple, Raws, raw_first}
 use Rattle.vortex_scalar_value.specs.Parts.{items_in}
-use Rattle.vortex_scalar_value.specs.View.{raw_of, raws_in, raw_in, raw_at, raws_from}
+use Rattle.vortex_scalar_value.specs.View.{raw_of, raw_in, raws_from}
 use Rattle.vortex_scalar_value.specs.declared.scalar_value.ScalarValue as value
 use Rattle.vortex_scalar_value.specs.declared.scalar_value.ScalarValue.{ScalarValue}
 use Rattle.vortex_scalar_value.proofs.Views.{raw_of-Tuple}
 use Rattle.vortex_table_schema.specs.Cut.{Tree, whole, parts, Parts, KeptPart, parts_from, tree_of, part_of_field, parts_of, raw_cut, raws_cut, cut_part}
-use Rattle.vortex_scalar_value.specs.Parts.{raw_nth}
 use Rattle.vortex_table_schema.specs.declared.projection.Projection as projection
 use Rattle.vortex_table_schema.specs.declared.projection.ProjectedField as field
 use Rattle.vortex_table_schema.specs.declared.projection.ProjectedField.{ProjectedField}
@@ -38,23 +36,6 @@ is_tuple rs r e = absurd (cc (e))
 pub no_record : (ps : Parts) (r : Raw) → None ≡ items_in r → raw_cut (parts ps) r ≡ r
 no_record ps (raw_tuple rs) e = absurd (cc (e))
 no_record ps r e = refl
-
--- ---- the value at a position
-
-pub nth_there : (vs : List (Option ScalarValue)) (i : ℕ) (d : Option ScalarValue) → i < length vs → raw_nth (raws_in vs) i ≡ raw_in (get_or vs i d)
-nth_there [] i d h = absurd (omega (arith, h))
-nth_there (v ∷ vs) zero d h = refl
-nth_there (v ∷ vs) (suc i) d h = nth_there vs i d (omega (arith, h))
-
-pub nth_past : (vs : List (Option ScalarValue)) (i : ℕ) → length vs ≤ i → raw_nth (raws_in vs) i ≡ raw_null
-nth_past [] i h = refl
-nth_past (v ∷ vs) zero h = absurd (omega (arith, h))
-nth_past (v ∷ vs) (suc i) h = nth_past vs i (omega (arith, h))
-
--- what a reference leads to
-pub raw_copied : (o : Option (Bor ScalarValue)) → raw_at o ≡ raw_in (option_copied o)
-raw_copied None = refl
-raw_copied (Some r) = refl
 
 -- null stays null
 pub cut_null : (t : Tree) → raw_cut t raw_null ≡ raw_null

@@ -1,10 +1,10 @@
 //! The fields of a value that are kept when a row is cut.
 ghost use Rattle.std.specs.Prelude.{◌≡◌, IfOk, map};
 ghost use Rattle.vortex_table_schema.specs.Cut.{tree_of, part_of_field, cut_part, raw_cut};
-ghost use Rattle.vortex_scalar_value.specs.Parts.{raw_nth};
 ghost use Rattle.vortex_scalar_value.specs.View.{raw_of, raw_in, raw_at, raws_in};
 
 use std::alloc::{AllocError, Global};
+use vortex_scalar_value::parts::item_at;
 use vortex_scalar_value::scalar_value::ScalarValue;
 
 /// The part of a value that is kept.
@@ -25,16 +25,6 @@ pub struct ProjectedField {
     pub position: usize,
     /// The part of its value that is kept.
     pub projection: Projection,
-}
-
-// `None` is null, and stands also past the end.
-fn value_at(values: &[Option<ScalarValue>], position: usize) -> Option<&ScalarValue>
-    ensures { raw_at result ≡ raw_nth (raws_in values.now) position }
-{
-    match values.get(position) {
-        Some(value) => value.as_ref(),
-        None => None,
-    }
 }
 
 /// The part of the value that is kept, copied in time linear in what is kept.
@@ -95,7 +85,7 @@ fn cut_values(
 {
     let mut kept = Vec::with_capacity(alloc, fields.len())?;
     for field in fields {
-        let value = value_at(values, field.position);
+        let value = item_at(values, field.position);
         kept.push(cut_cell(&field.projection, alloc, value)?)?;
     }
     Ok(kept)
