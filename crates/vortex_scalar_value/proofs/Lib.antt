@@ -1,5 +1,5 @@
-pub mod Nulls
 pub mod Items
+pub mod Nulls
 pub mod Sizes
 pub mod Views
 pub mod Widths

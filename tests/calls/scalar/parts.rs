@@ -51,6 +51,12 @@ fn lent(alloc: Global, checks: &mut Checks<'_>) -> Done {
                 .is_some_and(|it| *it.dtype() == DType::Utf8(WITH)),
         };
         checks.holds("what as_ lends", is_so);
+        checks.holds(
+            "child_at: null, a value, and past the end",
+            value.child_at(0).is_none()
+                && value.child_at(1).is_some() == (form == 4)
+                && value.child_at(2).is_none(),
+        );
     }
     Ok(())
 }
