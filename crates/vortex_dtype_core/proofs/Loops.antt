@@ -128,6 +128,12 @@ no_more_fields names built left all e whole =
     ∙ sym (ap (λ (ds : List DType). map field_of built ++ zip (drop (length built) names) (map type_of ds)) e ∙ ap (λ (zs : List NamedType). map field_of built ++ zs) (zip_none (drop (length built) names)))
     ∙ whole
 
+pub no_more_choices : (names : List (List ℕ)) (tags : List ℤ) (built : List UnionVariant) (left : List DType) (all : List TaggedType) → left ≡ [] → map variant_of built ++ zip (drop (length built) names) (zip (drop (length built) tags) (map type_of left)) ≡ all → map variant_of built ≡ all
+no_more_choices names tags built left all e whole =
+    sym (append-nil (map variant_of built))
+    ∙ sym (ap (λ (ds : List DType). map variant_of built ++ zip (drop (length built) names) (zip (drop (length built) tags) (map type_of ds))) e ∙ ap (λ (zs : List (ℤ × LogicalType)). map variant_of built ++ zip (drop (length built) names) zs) (zip_none (drop (length built) tags)) ∙ ap (λ (zs : List TaggedType). map variant_of built ++ zs) (zip_none (drop (length built) names)))
+    ∙ whole
+
 one_more_choice_of : (names : List (List ℕ)) (tags : List ℤ) (built : List UnionVariant) (v : UnionVariant) (left after : List DType) (all : List TaggedType) → length built < length names → length built < length tags → v.name ≡ get_or names (length built) v.name → v.tag ≡ get_or tags (length built) v.tag → left ≡ v.dtype ∷ after → map variant_of built ++ zip (drop (length built) names) (zip (drop (length built) tags) (map type_of left)) ≡ all → map variant_of (built ++ v ∷ []) ++ zip (drop (length (built ++ v ∷ [])) names) (zip (drop (length (built ++ v ∷ [])) tags) (map type_of after)) ≡ all
 one_more_choice_of names tags built v left after all h k is at e whole =
     let rest : List TaggedType = zip (drop (length built + 1) names) (zip (drop (length built + 1) tags) (map type_of after)) in

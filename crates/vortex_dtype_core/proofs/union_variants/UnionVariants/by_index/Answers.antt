@@ -1,10 +1,14 @@
 use Rattle.std.below.core.proofs.iter.Serving.{as_err}
-use Rattle.std.proofs.Common.{◌≡◌, ◌<◌, [], ◌∷◌, ℕ, List, length, get_or, ap, ◌∙◌, arith, rules}
+use Rattle.std.proofs.Common.{◌≡◌, ◌<◌, [], ◌∷◌, ℕ, List, length, get_or, ap, ◌∙◌, map, arith, rules}
 use Rattle.std.proofs.lemmas.Grind.{common_steps}
+use Rattle.std.specs.List.{zip}
 use Rattle.std.specs.Vec.Iter.{into_iter_items}
+use Rattle.vortex_dtype_core.specs.View.{type_of, variant_of, variants_from, variants_in}
 use Rattle.vortex_dtype_core.specs.declared.dtype.DType.{DType}
+use Rattle.vortex_dtype_core.specs.declared.dtype.DType.TheViews.{roll-UnionVariants}
 use Rattle.vortex_dtype_core.specs.declared.union_variants.UnionVariant.{UnionVariant}
-use Rattle.vortex_dtype_core.proofs.Loops.{one_more_made, one_more_choice}
+use Rattle.vortex_dtype_core.specs.declared.dtype.DType.TheFolds as folds
+use Rattle.vortex_dtype_core.proofs.Loops.{one_more_made, one_more_choice, no_more_choices, none_left}
 use Rattle.vortex_dtype_core.proofs.Views.{built}
 use Rattle.vortex_dtype_core.proofs.union_variants.UnionVariants.by_index.Goals as goal
 
@@ -49,3 +53,13 @@ returns-in_err-push c = grind (arith, (as_err c.from_residual-in_err-push.ensure
 
 pub returns-in_err-variants-2 : goal.returns-in_err-variants-2
 returns-in_err-variants-2 c = grind (arith, (as_err c.from_residual-in_err-variants-2.ensures.0).1)
+
+pub returns : goal.returns
+returns c =
+    let it = c.loop-dtype.dtype-iterator in
+    let left : List DType = into_iter_items it in
+    let n : length left ≡ 0 = omega (arith, it.rest.ok.0, c.in-None.ensures.steps.0) in
+    let made = no_more_choices c.args.names c.args.tags.now c.loop-dtype.variants.items left (zip c.args.names (zip c.args.tags.now (map type_of c.args.dtypes.items))) (none_left left n) c.loop-dtype.invariant.all in
+    let is : map variant_of c.in_ok-variants-2.variants.value.items ≡ map variant_of c.loop-dtype.variants.items = rw c.in_ok-variants-2.ensures.ok in
+    let level : variants_in (roll-UnionVariants record { variants = c.in_ok-variants-2.variants }) ≡ variants_from (map variant_of c.in_ok-variants-2.variants.value.items) = search (rules, folds.the_lemmas) in
+    level ∙ ap variants_from (is ∙ made)
