@@ -25,3 +25,11 @@ module _ (leaf : Positions) (rows : List ScalarValue) (i : ℕ) (behind : 0 < i)
       let kept = length-map (drop i rows) row_content in
       let left = length-drop i rows in
       omega (arith, behind, within, few, count, said, kept, left)
+
+  -- nor are all values
+  pub few_values : length rows < 2 ^ 64 → length (column_at leaf (drop i rows)) < 2 ^ 64 - 1
+  few_values few =
+      let said = length-map (map row_content (drop i rows)) (λ row. at row leaf) in
+      let kept = length-map (drop i rows) row_content in
+      let left = length-drop i rows in
+      omega (arith, behind, within, few, said, kept, left)

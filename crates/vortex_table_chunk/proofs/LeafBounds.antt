@@ -1,11 +1,17 @@
 -- The bounds that belong to the leaves.
-use Rattle.std.proofs.Common.{◌≡◌, refl, sym, ◌∙◌, ap, subst, zero, suc, ℕ, ◌+◌, ◌<◌, List, [], ◌∷◌, ◌++◌, length, take, drop, get_or, slice_get, Bool, true, false, ◌||◌, Option, Some, None, if◌then◌else◌, add-one, arith}
+use Rattle.std.proofs.Common.{◌≡◌, refl, sym, ◌∙◌, ap, subst, zero, suc, ℕ, ◌+◌, ◌<◌, List, [], ◌∷◌, ◌++◌, length, take, drop, get_or, slice_get, Bool, true, false, ◌&&◌, ◌||◌, Option, Some, None, if◌then◌else◌, add-one, arith}
 use Rattle.std.proofs.lemmas.List.{take_more}
+use Rattle.vortex_model.specs.LogicalType.{LogicalType, IntKind}
 use Rattle.vortex_model.specs.Path.{Positions, eq_positions}
+use Rattle.vortex_model.specs.Scan.{kind_at}
+use Rattle.vortex_model.specs.Typing.{sum_kind}
+use Rattle.vortex_model.proofs.ContentOrder.{true_left, true_right}
 use Rattle.vortex_table_schema.proofs.Places.{positions_so, is_among}
 use Rattle.vortex_scalar_value.specs.declared.scalar_value.ScalarValue.{ScalarValue}
 use Rattle.vortex_table_chunk.specs.zones.Bounds.{IsBoundsOf}
-use Rattle.vortex_table_chunk.specs.Bounds.{column_at, AreBoundsOf}
+use Rattle.vortex_table_chunk.specs.zones.Sums.{int_kind_of, eq_sum_kind}
+use Rattle.vortex_table_chunk.proofs.Literals.{eq_itself}
+use Rattle.vortex_table_chunk.specs.Bounds.{column_at, AreBoundsOf, are_sums_of}
 use Rattle.vortex_table_chunk.specs.BoundStat.{bounds_at}
 use Rattle.vortex_table_chunk.specs.declared.zones.bounds.ColumnBounds.{ColumnBounds}
 
@@ -47,6 +53,27 @@ pub leaf_pushed : (L : ℕ) (leaves : List Positions) (i : ℕ) (leaf : Position
 leaf_pushed L leaves i leaf old new b rows h is made before g =
     subst (λ ls. AreBoundsOf L ls new rows) (sym (take_more leaves i leaf h ∙ ap (λ l. take i leaves ++ l ∷ []) (sym is)))
     (subst (λ bs. AreBoundsOf L (take i leaves ++ leaf ∷ []) bs rows) (sym made) (one_more_leaf L (take i leaves) old leaf b rows before g))
+
+-- the sum of one more leaf
+abbrev is_sum_of : LogicalType → Positions → ColumnBounds → Bool
+is_sum_of k is b = eq_sum_kind (int_kind_of b.sum_type) (sum_kind (kind_at k is))
+
+kind_itself : (o : Option IntKind) → eq_sum_kind o o ≡ true
+kind_itself None = refl
+kind_itself (Some i) = eq_itself i
+
+one_more_sum : (k : LogicalType) (leaves : List Positions) (bounds : List ColumnBounds) (is : Positions) (b : ColumnBounds) → are_sums_of k leaves bounds ≡ true → is_sum_of k is b ≡ true →
+    are_sums_of k (leaves ++ is ∷ []) (bounds ++ b ∷ []) ≡ true
+one_more_sum k [] [] is b h g = ap (λ t. t && true) g
+one_more_sum k (js ∷ leaves) (d ∷ bounds) is b h g =
+    (λ i. true_left (is_sum_of k js d) (are_sums_of k leaves bounds) h i && one_more_sum k leaves bounds is b (true_right (is_sum_of k js d) (are_sums_of k leaves bounds) h) g i)
+one_more_sum k leaves bounds is b h g = absurd (cc (h))
+
+pub sum_pushed : (k : LogicalType) (leaves : List Positions) (i : ℕ) (leaf : Positions) (old new : List ColumnBounds) (b : ColumnBounds) → i < length leaves → leaf ≡ get_or leaves i leaf → new ≡ old ++ b ∷ [] →
+    are_sums_of k (take i leaves) old ≡ true → int_kind_of b.sum_type ≡ sum_kind (kind_at k leaf) → are_sums_of k (take (i + 1) leaves) new ≡ true
+sum_pushed k leaves i leaf old new b h is made before g =
+    (λ j. are_sums_of k ((take_more leaves i leaf h ∙ ap (λ l. take i leaves ++ l ∷ []) (sym is)) j) (made j))
+    ∙ one_more_sum k (take i leaves) old leaf b before (ap (λ o. eq_sum_kind o (sum_kind (kind_at k leaf))) g ∙ kind_itself (sum_kind (kind_at k leaf)))
 
 -- the bounds of a leaf that is there
 pub record Found (L : ℕ) (leaves : List Positions) (bounds : List ColumnBounds) (rows : List ScalarValue) (is : Positions) : Type 0 where

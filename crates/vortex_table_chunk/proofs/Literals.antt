@@ -5,7 +5,7 @@ use Rattle.vortex_model.specs.Valid.{in_range}
 use Rattle.vortex_dtype_core.proofs.Views as types
 use Rattle.vortex_scalar_value.proofs.Views as values
 
-eq_itself : (i : IntKind) → eq_int_kind i i ≡ true
+pub eq_itself : (i : IntKind) → eq_int_kind i i ≡ true
 eq_itself u8 = refl
 eq_itself u16 = refl
 eq_itself u32 = refl

@@ -1,14 +1,18 @@
 -- Bounds of the leaves of rows.
-use Rattle.std.specs.Prelude.{ℕ, List, [], ◌∷◌, map}
-use Rattle.std.specs.Coded.{Coded-set, coded_ℕ}
+use Rattle.std.specs.Prelude.{ℕ, List, [], ◌∷◌, map, Bool, true, false, ◌&&◌}
+use Rattle.std.specs.Coded.{Coded-set, coded_ℕ, coded_ℤ, coded_bool}
 use Rattle.vortex_model.specs.Content.{Content, content_of}
 use Rattle.vortex_model.specs.Path.{Positions}
+use Rattle.vortex_model.specs.LogicalType.{LogicalType}
+use Rattle.vortex_model.specs.Scan.{kind_at}
+use Rattle.vortex_model.specs.Typing.{sum_kind}
 use Rattle.vortex_model.specs.ZoneMap.{values_at}
 use Rattle.vortex_scalar_value.specs.View.{raw_of}
 use Rattle.vortex_scalar_value.specs.declared.scalar_value.ScalarValue.{ScalarValue}
 use Rattle.vortex_table_chunk.specs.zones.Bounds.{IsBoundsOf}
 use Rattle.vortex_table_chunk.specs.declared.zones.bounds.ColumnBounds.{ColumnBounds}
-use Rattle.vortex_table_chunk.specs.BoundCode.{coded_bound}
+use Rattle.vortex_table_chunk.specs.BoundCode.{coded_bound, coded_precision}
+use Rattle.vortex_table_chunk.specs.zones.Sums.{int_kind_of, eq_sum_kind}
 
 -- what a row says
 abbrev pub row_content : ScalarValue → Content
@@ -24,11 +28,19 @@ AreBoundsOf L [] [] rows = Unit {0}
 AreBoundsOf L (is ∷ leaves) (b ∷ bounds) rows = IsBoundsOf L b (column_at is rows) × AreBoundsOf L leaves bounds rows
 AreBoundsOf L leaves bounds rows = ⊥
 
+-- one to one, the sums are of the kinds of a type's leaves at these positions
+abbrev pub are_sums_of : LogicalType → List Positions → List ColumnBounds → Bool
+are_sums_of k [] [] = true
+are_sums_of k (is ∷ leaves) (b ∷ bounds) = eq_sum_kind (int_kind_of b.sum_type) (sum_kind (kind_at k is)) && are_sums_of k leaves bounds
+are_sums_of k leaves bounds = false
+
 pub IsBoundsOf-prop : (L : ℕ) (b : ColumnBounds) (cs : List Content) → IsProp (IsBoundsOf L b cs)
 IsBoundsOf-prop L b cs = λ p q i. record {
   low = λ c. Coded-set coded_bound _ _ (p.low c) (q.low c) i;
   high = λ c. Coded-set coded_bound _ _ (p.high c) (q.high c) i;
   nulls = Coded-set coded_ℕ _ _ p.nulls q.nulls i;
+  total = Coded-set (coded_precision coded_ℤ) _ _ p.total q.total i;
+  constant = λ c. Coded-set (coded_precision coded_bool) _ _ (p.constant c) (q.constant c) i;
 }
 
 pub AreBoundsOf-prop : (L : ℕ) (leaves : List Positions) (bounds : List ColumnBounds) (rows : List ScalarValue) → IsProp (AreBoundsOf L leaves bounds rows)

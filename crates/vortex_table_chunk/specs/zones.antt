@@ -1,2 +1,4 @@
 pub mod Bounds
+pub mod Constancy
 pub mod StatValue
+pub mod Sums

@@ -1,53 +1,74 @@
 //! Statistics of all leaf columns of the rows of a chunk.
-ghost use Rattle.std.specs.Prelude.{◌≡◌, IfOk};
+ghost use Rattle.std.specs.Prelude.{◌≡◌, IfOk, IsTrue};
 ghost use Rattle.vortex_table_chunk.specs.zones.Bounds.{IsMinMaxOf, IsBoundsOf};
-ghost use Rattle.vortex_table_chunk.specs.Bounds.{column_at, AreBoundsOf};
+ghost use Rattle.vortex_table_chunk.specs.Bounds.{column_at, AreBoundsOf, are_sums_of};
+ghost use Rattle.vortex_table_chunk.specs.zones.Sums.{IsSumOf, int_kind_of};
+ghost use Rattle.vortex_model.specs.Scan.{kind_at};
+ghost use Rattle.vortex_model.specs.Typing.{sum_kind};
+ghost use Rattle.vortex_dtype_core.specs.View.{type_of};
 
 use crate::zones::bounds::ColumnBounds;
 use crate::zones::min_max::MinMax;
+use crate::zones::sum::RunningSum;
+use crate::zones::sum_type::sum_type;
 use std::alloc::{AllocError, Global};
+use vortex_dtype_core::dtype::DType;
+use vortex_dtype_ptype::ptype::PType;
 use vortex_scalar_value::scalar_value::ScalarValue;
 use vortex_stats_expr::bound::part_at;
 use vortex_table_schema::leaves::LeafPath;
 
 // `leaf` is the path of the column.
-fn leaf_min_max<'a>(rows: &'a [ScalarValue], leaf: &[usize]) -> MinMax<'a>
-    ensures { IsMinMaxOf result (column_at leaf.now rows.now) }
+fn leaf_pass<'a>(rows: &'a [ScalarValue], leaf: &[usize]) -> (MinMax<'a>, RunningSum)
+    ensures min_max { IsMinMaxOf result.0 (column_at leaf.now rows.now) }
+    ensures sum { IsSumOf result.1 (column_at leaf.now rows.now) }
 {
     // Each is added in front of those behind it.
     let mut min_max = MinMax::none();
+    let mut sum = RunningSum::none();
     for index in (0..rows.len()).rev() {
-        min_max = min_max.with(part_at(&rows[index], leaf));
+        let value = part_at(&rows[index], leaf);
+        min_max = min_max.with(value);
+        sum = sum.with(value);
     }
-    min_max
+    (min_max, sum)
 }
 
 fn leaf_bounds(
     alloc: Global,
     rows: &[ScalarValue],
     leaf: &[usize],
+    sum_type: Option<PType>,
     max_length: usize,
 ) -> Result<ColumnBounds, AllocError>
-    ensures { IfOk result (λ bounds. IsBoundsOf max_length bounds (column_at leaf.now rows.now)) }
+    ensures statistics { IfOk result
+        (λ bounds. IsBoundsOf max_length bounds (column_at leaf.now rows.now)) }
+    ensures sum_type { IfOk result (λ bounds. bounds.sum_type ≡ sum_type) }
 {
-    let bounds = leaf_min_max(rows, leaf).bounds(alloc, max_length)?;
+    let (min_max, sum) = leaf_pass(rows, leaf);
+    let bounds = min_max.bounds(alloc, sum, sum_type, max_length)?;
     Ok(bounds)
 }
 
-/// The statistics of these columns, one for each, in the same order. A bound that is a text or
-/// bytes of more than `max_length` bytes is shortened. Each value is read once, and only the bounds
-/// are copied.
+/// The statistics of these columns of rows of a type, one for each, in the same order. A bound that
+/// is a text or bytes of more than `max_length` bytes is shortened. Each value is read once, and
+/// only the bounds are copied.
 pub fn all_bounds(
     alloc: Global,
+    dtype: &DType,
     rows: &[ScalarValue],
     leaves: &[LeafPath],
     max_length: usize,
 ) -> Result<Vec<ColumnBounds>, AllocError>
-    ensures { IfOk result (λ all. AreBoundsOf max_length leaves.now all.items rows.now) }
+    ensures statistics { IfOk result (λ all. AreBoundsOf max_length leaves.now all.items rows.now) }
+    ensures sums { IfOk result
+        (λ all. IsTrue (are_sums_of (type_of dtype.now) leaves.now all.items)) }
 {
     let mut all = Vec::with_capacity(alloc, leaves.len())?;
     for leaf in leaves {
-        let bounds = leaf_bounds(alloc, rows, leaf.as_slice(), max_length)?;
+        let path = leaf.as_slice();
+        let sum_type = sum_type(dtype, path);
+        let bounds = leaf_bounds(alloc, rows, path, sum_type, max_length)?;
         all.push(bounds)?;
     }
     Ok(all)

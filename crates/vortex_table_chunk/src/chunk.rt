@@ -1,12 +1,14 @@
 //! Chunks of rows with statistics of their leaf columns.
-ghost use Rattle.std.specs.Prelude.{◌≡◌, IfOk, option_map};
-ghost use Rattle.vortex_table_chunk.specs.Bounds.{AreBoundsOf, AreBoundsOf-prop};
+ghost use Rattle.std.specs.Prelude.{◌≡◌, IfOk, IsTrue, option_map};
+ghost use Rattle.vortex_dtype_core.specs.View.{type_of};
+ghost use Rattle.vortex_table_chunk.specs.Bounds.{AreBoundsOf, AreBoundsOf-prop, are_sums_of};
 ghost use Rattle.vortex_table_chunk.specs.BoundStat.{bounds_at};
 
 use crate::bounds::all_bounds;
 use crate::zones::bounds::ColumnBounds;
 use std::alloc::{AllocError, Global};
 use std::rc::Rc;
+use vortex_dtype_core::dtype::DType;
 use vortex_scalar_value::scalar_value::ScalarValue;
 use vortex_table_schema::leaves::LeafPath;
 
@@ -23,9 +25,11 @@ pub struct Chunk {
     pub ghost honest: { AreBoundsOf bound_length leaves.value.items bounds.items rows.items } by { AreBoundsOf-prop bound_length leaves.value.items bounds.items rows.items },
 }
 
-/// A chunk of these rows. A bound that is a text or bytes is shortened to `bound_length` bytes.
+/// A chunk of these rows of a type. A bound that is a text or bytes is shortened to `bound_length`
+/// bytes.
 pub fn new_chunk(
     alloc: Global,
+    dtype: &DType,
     leaves: &Rc<Vec<LeafPath>>,
     bound_length: usize,
     rows: Vec<ScalarValue>,
@@ -33,8 +37,10 @@ pub fn new_chunk(
     ensures rows { IfOk result (λ chunk. chunk.rows.items ≡ rows.items) }
     ensures leaves { IfOk result (λ chunk. chunk.leaves.value.items ≡ leaves.now.value.items) }
     ensures bound_length { IfOk result (λ chunk. chunk.bound_length ≡ bound_length) }
+    ensures sums { IfOk result (λ chunk.
+        IsTrue (are_sums_of (type_of dtype.now) chunk.leaves.value.items chunk.bounds.items)) }
 {
-    let bounds = all_bounds(alloc, &rows, leaves, bound_length)?;
+    let bounds = all_bounds(alloc, dtype, &rows, leaves, bound_length)?;
     let leaves = leaves.clone()?;
     Ok(Chunk {
         rows,

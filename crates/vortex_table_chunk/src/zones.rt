@@ -3,3 +3,5 @@ pub mod bounds;
 pub mod min_max;
 mod order;
 mod shortened;
+pub mod sum;
+pub mod sum_type;

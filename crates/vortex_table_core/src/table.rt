@@ -132,7 +132,7 @@ impl Table {
         if rows.is_empty() {
             return Ok(());
         }
-        let chunk = new_chunk(alloc, &self.leaves, self.bound_length, rows)?;
+        let chunk = new_chunk(alloc, &self.dtype, &self.leaves, self.bound_length, rows)?;
         self.chunks.push(chunk)?;
         self.len = len;
         Ok(())

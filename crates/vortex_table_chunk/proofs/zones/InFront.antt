@@ -4,8 +4,8 @@ use Rattle.std.specs.Borrow.{Bor}
 use Rattle.std.proofs.lemmas.List.Sums.{sum_by-append}
 use Rattle.vortex_model.specs.Content.{Content, null, is_null}
 use Rattle.vortex_model.specs.Bounds.{low, high, is_longer}
-use Rattle.vortex_model.specs.ZoneMap.{bound_of}
-use Rattle.vortex_model.specs.Statistics.{absent, is_at_most, least_value, greatest_value, non_null, null_count_of}
+use Rattle.vortex_model.specs.ZoneMap.{bound_of, sum_in}
+use Rattle.vortex_model.specs.Statistics.{exact, absent, is_at_most, least_value, greatest_value, non_null, null_count_of}
 use Rattle.vortex_model.specs.ZoneLaws.{AllCompare}
 use Rattle.vortex_model.proofs.JoinOrder.{fewer_compare}
 use Rattle.vortex_model.proofs.LeafOrder.{least_in_front, greatest_in_front}
@@ -14,6 +14,10 @@ use Rattle.vortex_scalar_value.specs.declared.scalar_value.ScalarValue.{ScalarVa
 use Rattle.vortex_scalar_value.proofs.Nulls.{is_null-raw_of}
 use Rattle.vortex_table_chunk.specs.declared.zones.bounds.ColumnBounds.{ColumnBounds}
 use Rattle.vortex_table_chunk.specs.declared.zones.min_max.MinMax.{MinMax}
+use Rattle.vortex_table_chunk.specs.declared.zones.sum.RunningSum.{RunningSum}
+use Rattle.vortex_table_chunk.specs.zones.Constancy.{constant_by, known_constancy}
+use Rattle.vortex_table_chunk.specs.zones.Sums.{sum_in_parts, IsSumOf, int_kind_of, known_sum}
+use Rattle.vortex_table_chunk.proofs.zones.Constancy.{constancy}
 use Rattle.vortex_table_chunk.specs.zones.Bounds.{borrowed_content, lesser, greater, in_front, DoCompare, IsMinMaxOf, bound_in, low_at, high_by, high_at, IsBoundsOf}
 
 least_step : (c : Content) (o : Option Content) → Some (in_front lesser c o) ≡ Some (elim o [ None ↦ c | Some d ↦ (if is_at_most c d then c else d) ])
@@ -91,10 +95,15 @@ high_step : (L : ℕ) (o : Option Content) → high_at L o ≡ elim o [ None ↦
 high_step L None = refl
 high_step L (Some v) = high_by_step L v (high L v)
 
-pub bounds_kept : (L : ℕ) (e : MinMax) (b : ColumnBounds) (cs : List Content) → bound_in b.low ≡ low_at L (option_map borrowed_content e.least) →
-    bound_in b.high ≡ high_at L (option_map borrowed_content e.greatest) → b.null_count ≡ e.null_count → IsMinMaxOf e cs → IsBoundsOf L b cs
-bounds_kept L e b cs lowest highest nulls h = record {
+pub bounds_kept : (L : ℕ) (e : MinMax) (sum : RunningSum) (b : ColumnBounds) (cs : List Content) → bound_in b.low ≡ low_at L (option_map borrowed_content e.least) →
+    bound_in b.high ≡ high_at L (option_map borrowed_content e.greatest) → b.null_count ≡ e.null_count →
+    known_sum b.sum ≡ sum_in (int_kind_of b.sum_type) (sum_in_parts sum) →
+    known_constancy b.constant ≡ exact (constant_by (option_map borrowed_content e.least) (option_map borrowed_content e.greatest) e.null_count) →
+    IsMinMaxOf e cs → IsSumOf sum cs → IsBoundsOf L b cs
+bounds_kept L e sum b cs lowest highest nulls total constant h added = record {
   low = λ compare. lowest ∙ ap (low_at L) (h.least compare) ∙ low_step L (least_value (non_null cs));
   high = λ compare. highest ∙ ap (high_at L) (h.greatest compare) ∙ high_step L (greatest_value (non_null cs));
   nulls = nulls ∙ h.nulls;
+  total = total ∙ ap (sum_in (int_kind_of b.sum_type)) added.total;
+  constant = λ compare. constant ∙ (λ i. exact (constant_by (h.least compare i) (h.greatest compare i) (h.nulls i))) ∙ ap exact (sym (constancy cs compare));
 }

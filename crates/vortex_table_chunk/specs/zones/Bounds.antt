@@ -3,14 +3,16 @@ use Rattle.std.specs.Prelude.{◌≡◌, ℕ, List, Option, Some, None, option_m
 use Rattle.std.specs.Borrow.{Bor}
 use Rattle.vortex_model.specs.Content.{Content, content_of}
 use Rattle.vortex_model.specs.Bounds.{low, high, is_longer}
-use Rattle.vortex_model.specs.Statistics.{Precision, absent, is_at_most, least_value, greatest_value, non_null, null_count_of}
-use Rattle.vortex_model.specs.ZoneMap.{bound_of, low_of_values, high_of_values}
+use Rattle.vortex_model.specs.Statistics.{Precision, exact, absent, is_at_most, least_value, greatest_value, non_null, null_count_of, sum_of, is_constant}
+use Rattle.vortex_model.specs.ZoneMap.{bound_of, low_of_values, high_of_values, sum_in}
 use Rattle.vortex_model.specs.ZoneLaws.{AllCompare}
 use Rattle.vortex_scalar_value.specs.View.{raw_of}
 use Rattle.vortex_scalar_value.specs.declared.scalar_value.ScalarValue.{ScalarValue}
 use Rattle.vortex_table_chunk.specs.declared.zones.bounds.Bound.{Bound}
 use Rattle.vortex_table_chunk.specs.declared.zones.bounds.ColumnBounds.{ColumnBounds}
 use Rattle.vortex_table_chunk.specs.declared.zones.min_max.MinMax.{MinMax}
+use Rattle.vortex_table_chunk.specs.zones.Sums.{int_kind_of, known_sum}
+use Rattle.vortex_table_chunk.specs.zones.Constancy.{known_constancy}
 
 -- what a value behind a `&` says
 abbrev pub borrowed_content : Bor ScalarValue → Content
@@ -60,8 +62,10 @@ abbrev pub high_at : ℕ → Option Content → Precision Content
 high_at L None = absent
 high_at L (Some v) = high_by L v (high L v)
 
--- the bounds are those of the zone map of values that compare, at this bound length
+-- the bounds, the sum and the constancy are those of the zone map of values that compare, at this bound length
 pub record IsBoundsOf (L : ℕ) (b : ColumnBounds) (cs : List Content) : Type 0 where
   pub low : DoCompare cs → bound_in b.low ≡ low_of_values L cs
   pub high : DoCompare cs → bound_in b.high ≡ high_of_values L cs
   pub nulls : b.null_count ≡ null_count_of cs
+  pub total : known_sum b.sum ≡ sum_in (int_kind_of b.sum_type) (sum_of cs)
+  pub constant : DoCompare cs → known_constancy b.constant ≡ exact (is_constant cs)
