@@ -1,6 +1,8 @@
 //! Types as compact JSON.
+mod quoted;
 mod tokens;
 mod types;
 
+pub use quoted::push_quoted;
 pub use tokens::{push_comma, push_flag, push_number};
-pub use types::{push_dtype, push_quoted};
+pub use types::push_dtype;

@@ -1,16 +1,11 @@
 -- Texts that are written piece by piece.
 use Rattle.std.proofs.Common.{◌≡◌, ℕ, Result, Ok, Err, OnOk, zero, suc, ◌+◌, ◌<◌, Bool, true, List, [], ◌∷◌, ◌++◌, length, drop, get_or, sym, ap, ◌∙◌, append-nil, append_assoc, arith}
-use Rattle.json.specs.Token.{string}
-use Rattle.json.specs.Print.{print, print_from, quoted}
+use Rattle.json.specs.Print.{quoted}
 use Rattle.vortex_model.specs.LogicalType.{LogicalType}
 use Rattle.vortex_dtype_core.specs.View.{type_of, fields_of, field_of, NamedType}
 use Rattle.vortex_dtype_core.proofs.Views.{field_of-parts}
 use Rattle.vortex_dtype_core.specs.declared.struct_fields.StructField.{StructField}
 use Rattle.vortex_table_response.specs.type_texts.Text.{comma, type_text, children_text, names_text}
-
-pub print_one : (t : List ℕ) → print (string t ∷ []) ≡ quoted t
-unfolding print_from
-print_one t = append-nil (quoted t)
 
 -- what a last call wrote, as what all calls wrote
 pub ended_as : {E : Type 0} (old mid t u new : List ℕ) (r : Result (Unit {0}) E) → (new ≡ mid ++ t → new ≡ old ++ u) → OnOk r (new ≡ mid ++ t) → OnOk r (new ≡ old ++ u)

@@ -1,10 +1,14 @@
 -- The texts of types: compact JSON, with the keys of an object in byte order.
-use Rattle.std.specs.Prelude.{ℕ, List, [], ◌∷◌, ◌++◌, Bool, true, false, if◌then◌else◌, codes, decimal}
+use Rattle.std.specs.Prelude.{ℕ, List, [], ◌∷◌, ◌++◌, Bool, true, false, not, ◌&&◌, ◌==◌, nat_le, if◌then◌else◌, codes, decimal}
 use Rattle.json.specs.Print.{quoted}
 use Rattle.vortex_model.specs.LogicalType.{Nullability, is_nullable, IntKind, u8, u16, u32, u64, i8, i16, i32, i64, LogicalType, boolean_type, integer_type, utf8, binary, list, fixed_list, struct, Fields, no_fields, field}
 
 abbrev pub flag_text : Bool → List ℕ
 flag_text b = if b then codes "true" else codes "false"
+
+-- a byte that stands for itself between quotes: no control character, no quote and no backslash
+abbrev pub is_unescaped : ℕ → Bool
+is_unescaped x = nat_le 32 x && (not (x == 34) && not (x == 92))
 
 -- before what is not first
 abbrev pub comma : Bool → List ℕ

@@ -1,16 +1,14 @@
 //! Types as text.
 ghost use Rattle.std.specs.Prelude.{◌≡◌, ◌++◌, OnOk, false};
-ghost use Rattle.json.specs.Print.{quoted};
 ghost use Rattle.vortex_model.specs.LogicalType.{is_nullable};
 ghost use Rattle.vortex_dtype_ptype.specs.Numbers.{type_of_numbers};
 ghost use Rattle.vortex_dtype_ptype.specs.View.{nullability_of_flag, number_kind_of};
 ghost use Rattle.vortex_dtype_core.specs.View.{type_of, fields_of};
 ghost use Rattle.vortex_table_response.specs.type_texts.Text.{flag_text, plain_text, names_text, type_text, children_text, list_end_text, fixed_list_end_text, struct_end_text};
 
+use crate::type_texts::quoted::push_quoted;
 use crate::type_texts::tokens::{push_comma, push_flag, push_number};
-use json::Writer;
 use std::alloc::{AllocError, Global};
-use std::mem;
 use vortex_dtype_core::dtype::DType;
 use vortex_dtype_core::struct_fields::StructField;
 use vortex_dtype_ptype::nullability::Nullability;
@@ -51,17 +49,6 @@ fn push_numbers(out: &mut Vec<u8>, ptype: PType, nullability: Nullability) -> Re
         }
         PType::F16 | PType::F32 | PType::F64 => Ok(()),
     }
-}
-
-/// Writes a text with its quotes and escapes. An `Err` leaves nothing.
-#[tactic(auto, using(crate::proofs::type_texts::Pieces::print_one))]
-pub fn push_quoted(alloc: Global, out: &mut Vec<u8>, text: &str) -> Result<(), AllocError>
-    ensures { OnOk result (out.new.items ≡ out.old.items ++ quoted text.now) }
-{
-    let mut writer = Writer::new(mem::replace(out, Vec::new(alloc)));
-    writer.string(text)?;
-    *out = writer.into_inner();
-    Ok(())
 }
 
 /// Writes the names of fields with commas between.
