@@ -22,7 +22,9 @@ pub struct Chunk {
     pub bound_length: usize,
     /// The statistics of each leaf column, in the order of `leaves`.
     pub bounds: Vec<ColumnBounds>,
-    pub ghost honest: { AreBoundsOf bound_length leaves.value.items bounds.items rows.items } by { AreBoundsOf-prop bound_length leaves.value.items bounds.items rows.items },
+    pub ghost honest: { AreBoundsOf bound_length leaves.value.items bounds.items
+        rows.items } by { AreBoundsOf-prop bound_length leaves.value.items bounds.items
+            rows.items },
 }
 
 /// A chunk of these rows of a type. A bound that is a text or bytes is shortened to `bound_length`

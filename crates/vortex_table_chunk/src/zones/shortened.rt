@@ -37,7 +37,8 @@ fn lower_of_text(value: &BufferString, max_length: usize) -> Result<Bound, Alloc
 }
 
 fn lower_of_bytes(value: &ByteBuffer, max_length: usize) -> Result<Bound, AllocError>
-    ensures value { IfOk result (λ bound. bound_content bound ≡ low max_length (byte_string value.now)) }
+    ensures value { IfOk result (λ bound. bound_content bound
+        ≡ low max_length (byte_string value.now)) }
     ensures shortened { IfOk result (λ bound. bound.shortened
         ≡ is_longer max_length (byte_string value.now)) }
 {
