@@ -3,3 +3,5 @@ pub mod Laws
 pub mod Order
 pub mod Precision
 pub mod ScalarOrder
+pub mod Typed
+pub mod ValueOrder

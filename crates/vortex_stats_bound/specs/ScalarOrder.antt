@@ -47,7 +47,7 @@ tie_is (Some Less) h = absurd (cc h)
 tie_is (Some Equal) h = refl
 tie_is (Some Greater) h = absurd (cc h)
 
-tie_decides : (o : Option Ordering) → Decides (is_some_and is_eq o) (o ≡ Some Equal)
+pub tie_decides : (o : Option Ordering) → Decides (is_some_and is_eq o) (o ≡ Some Equal)
 tie_decides o = (λ h. tie_is o h, λ e. ap (is_some_and is_eq) e)
 
 -- ---- the laws

@@ -4,9 +4,12 @@ ghost use Rattle.std.specs.Ordering.{nat_cmp, int_cmp, bool_cmp, as_partial_cmp}
 ghost use Rattle.std.specs.Cmp.{po, nat_cmp_total, int_cmp_total, bool_cmp_total};
 ghost use Rattle.vortex_stats_bound.specs.Order.{Comparison, IsLawful};
 ghost use Rattle.vortex_stats_bound.specs.ScalarOrder.{scalar_order, scalar_order_lawful};
+ghost use Rattle.vortex_stats_bound.specs.ValueOrder.{value_order, value_order_lawful};
 
 use std::cmp::Ordering;
 use vortex_scalar_core::scalar::Scalar;
+use vortex_scalar_ops::compare::compare_values;
+use vortex_scalar_value::scalar_value::ScalarValue;
 
 /// Values that bounds are made of. Unlike `PartialOrd` it asks no `PartialEq`, so that values which
 /// are equal and do not compare, as those of variants, have it too.
@@ -119,5 +122,17 @@ impl BoundOrd for Scalar {
 
     fn bound_cmp(&self, other: &Scalar) -> Option<Ordering> {
         self.partial_cmp(other)
+    }
+}
+
+/// Values without their type stand as what they say. Those of two forms don't compare, nor do those
+/// of variants.
+impl BoundOrd for ScalarValue {
+    ghost order = { value_order };
+
+    ghost lawful = { value_order_lawful };
+
+    fn bound_cmp(&self, other: &ScalarValue) -> Option<Ordering> {
+        compare_values(Some(self), Some(other))
     }
 }

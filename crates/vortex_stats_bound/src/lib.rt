@@ -5,6 +5,7 @@
 pub mod bound;
 pub mod bound_ord;
 pub mod intersection;
+pub mod into_scalar;
 pub mod laws;
 pub mod precision;
 pub mod stat_bound;

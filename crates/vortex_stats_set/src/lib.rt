@@ -2,3 +2,4 @@
 #![tactic(auto)]
 
 pub mod stats_set;
+mod valid;

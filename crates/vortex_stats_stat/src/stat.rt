@@ -187,8 +187,9 @@ fn bound_dtype(data_type: &DType) -> Result<Option<DType>, StatsError>
     }
 }
 
+/// The type of the sum of such a column, where it has one. It takes no memory.
 #[tactic(auto, using(vortex_dtype_core::proofs::Views::one_level))]
-fn sum_dtype(data_type: &DType) -> Option<DType>
+pub fn sum_dtype(data_type: &DType) -> Option<DType>
     ensures { option_map type_of result ≡ type_of_sum (type_of data_type.now) }
 {
     match data_type {
@@ -215,7 +216,8 @@ fn sum_ptype(ptype: PType) -> PType
     }
 }
 
-fn count_dtype() -> DType
+/// The type of a number of rows or of bytes.
+pub fn count_dtype() -> DType
     ensures { type_of result ≡ integer_type u64 non_nullable }
 {
     DType::Primitive(PType::U64, Nullability::NonNullable)

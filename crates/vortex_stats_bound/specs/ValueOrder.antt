@@ -1,0 +1,28 @@
+-- The order of values without their type, and that it is lawful.
+use Rattle.std.specs.Prelude.{◌≡◌, Option, Some}
+use Rattle.std.specs.declared.cmp.Ordering.TheVariants.{Equal}
+use Rattle.std.proofs.Common.{ap}
+use Rattle.vortex_model.specs.Content.{Content, content_of}
+use Rattle.vortex_model.specs.Order.{content_cmp}
+use Rattle.vortex_model.proofs.Chains.{tied}
+use Rattle.vortex_scalar_ops.proofs.Ordered.{reversed, chains}
+use Rattle.vortex_scalar_value.specs.View.{raw_of}
+use Rattle.vortex_scalar_value.specs.declared.scalar_value.ScalarValue.{ScalarValue}
+use Rattle.vortex_stats_bound.specs.Order.{Comparison, IsLawful}
+use Rattle.vortex_stats_bound.specs.ScalarOrder.{tie_is, tie_decides}
+
+-- what the value says
+abbrev pub said_by : ScalarValue → Content
+said_by v = content_of (raw_of v)
+
+abbrev pub value_order : Comparison ScalarValue
+value_order v w = content_cmp (said_by v) (said_by w)
+
+pub value_order_lawful : IsLawful value_order
+value_order_lawful = record {
+  antisymm = λ v w. reversed (said_by w) (said_by v);
+  trans = λ u v w h g. (chains (said_by u) (said_by v) (said_by w)).0 h g;
+  matches_eq = λ v w. tie_decides (value_order v w);
+  congr = λ u v w h. ap (λ c. content_cmp c (said_by w))
+      (tied (said_by u) (said_by v) (tie_is (value_order u v) h));
+}

@@ -1,0 +1,46 @@
+//! What is known of a value without its type, as known of one of a type.
+ghost use Rattle.std.specs.Prelude.{◌≡◌, is_ok, IfOk, IfErr};
+ghost use Rattle.vortex_model.specs.Valid.{valid};
+ghost use Rattle.vortex_dtype_core.specs.View.{type_of};
+ghost use Rattle.vortex_scalar_value.specs.View.{raw_of};
+ghost use Rattle.vortex_scalar_core.specs.Scalar.{scalar_type, scalar_raw};
+ghost use Rattle.vortex_stats_stat.specs.declared.error.StatsError.TheVariants.{InvalidStat};
+ghost use Rattle.vortex_stats_bound.specs.Precision.{precision_of, precision_map};
+ghost use Rattle.vortex_stats_bound.specs.Typed.{is_precision_of, AreOfType};
+
+use crate::precision::Precision;
+use vortex_dtype_core::dtype::DType;
+use vortex_scalar_core::scalar::Scalar;
+use vortex_scalar_value::scalar_value::ScalarValue;
+use vortex_stats_stat::error::StatsError;
+
+fn typed(dtype: DType, value: ScalarValue) -> Result<Scalar, StatsError>
+    ensures when { is_ok result ≡ valid (type_of dtype) (raw_of value) }
+    ensures dtype { IfOk result (λ scalar. scalar_type scalar ≡ type_of dtype) }
+    ensures value { IfOk result (λ scalar. scalar_raw scalar ≡ raw_of value) }
+    ensures refused { IfErr result (λ e. e ≡ InvalidStat) }
+{
+    match Scalar::try_new(dtype, Some(value)) {
+        Ok(scalar) => Ok(scalar),
+        Err(_) => Err(StatsError::InvalidStat),
+    }
+}
+
+impl Precision<ScalarValue> {
+    /// The value as one of the type, as precise. It is refused by `InvalidStat` where the type does
+    /// not have it, and by nothing else.
+    pub fn into_scalar(self, dtype: DType) -> Result<Precision<Scalar>, StatsError>
+        ensures when { is_ok result ≡ is_precision_of (type_of dtype)
+            (precision_map raw_of (precision_of self)) }
+        ensures dtype { IfOk result (λ scalar. AreOfType (type_of dtype) (precision_of scalar)) }
+        ensures value { IfOk result (λ scalar. precision_map scalar_raw (precision_of scalar)
+            ≡ precision_map raw_of (precision_of self)) }
+        ensures refused { IfErr result (λ e. e ≡ InvalidStat) }
+    {
+        match self {
+            Precision::Exact(value) => Ok(Precision::Exact(typed(dtype, value)?)),
+            Precision::Inexact(value) => Ok(Precision::Inexact(typed(dtype, value)?)),
+            Precision::Absent => Ok(Precision::Absent),
+        }
+    }
+}
