@@ -46,14 +46,19 @@ impl PrimitiveBuffer {
     pub fn from_buffer<T: Element>(items: Buffer<T>) -> PrimitiveBuffer
         ensures kind { kind_of_numbers result ≡ T.kind }
         ensures numbers { integers_of result ≡ map T.integer items }
+        ensures held { All (InRange (kind_of_numbers result)) (integers_of result) }
     {
-        T::into_numbers(items)
+        let numbers = T::into_numbers(items);
+        numbers.is_in_range();
+        numbers
     }
 
-    /// The kind.
+    /// The kind, which holds each of the numbers.
     pub fn ptype(&self) -> PType
-        ensures { number_kind_of result ≡ integral (kind_of_numbers self.now) }
+        ensures kind { number_kind_of result ≡ integral (kind_of_numbers self.now) }
+        ensures held { All (InRange (kind_of_numbers self.now)) (integers_of self.now) }
     {
+        self.is_in_range();
         match self {
             PrimitiveBuffer::U8(_) => PType::U8,
             PrimitiveBuffer::U16(_) => PType::U16,
@@ -66,10 +71,12 @@ impl PrimitiveBuffer {
         }
     }
 
-    /// How many numbers there are.
+    /// How many numbers there are, each of which the kind holds.
     pub fn len(&self) -> usize
-        ensures { result ≡ length (integers_of self.now) }
+        ensures count { result ≡ length (integers_of self.now) }
+        ensures held { All (InRange (kind_of_numbers self.now)) (integers_of self.now) }
     {
+        self.is_in_range();
         match self {
             PrimitiveBuffer::U8(items) => items.len(),
             PrimitiveBuffer::U16(items) => items.len(),
@@ -134,8 +141,8 @@ impl PrimitiveBuffer {
         T::items_of(self)
     }
 
-    /// The kind holds each of the numbers. It reads none: what calls it is told so.
-    pub fn is_in_range(&self)
+    // The kind holds each of the numbers. It reads none: what calls it is told so.
+    fn is_in_range(&self)
         ensures { All (InRange (kind_of_numbers self.now)) (integers_of self.now) }
     {
         match self {

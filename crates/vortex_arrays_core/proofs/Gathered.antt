@@ -2,6 +2,7 @@
 use Rattle.std.proofs.Common.{◌≡◌, ◌<◌, ℕ, ℤ, pos, Bool, false, List, [], length, get_or, map, Some, refl, sym, ap, subst, ◌∙◌, arith}
 use Rattle.std.specs.List.{All, slice_get}
 use Rattle.std.proofs.lemmas.List.{get_or-map, length-map}
+use Rattle.std.proofs.lemmas.List.Elements.{All-map}
 use Rattle.vortex_model.specs.LogicalType.{LogicalType, IntKind, u64}
 use Rattle.vortex_model.specs.Content.{integer, Raw}
 use Rattle.vortex_model.specs.Valid.{InRange, IsValid}
@@ -20,9 +21,11 @@ at_place ps i = get_or ps i 0
 pub gathers_bools : (xs ys : List Bool) (v w : Valid) (ps : List ℕ) → ys ≡ map (λ i. get_or xs i false) ps → PicksValid v w (length ps) (λ i. get_or ps i 0) → Picks (bools xs v) (bools ys w) (length ps) (λ i. get_or ps i 0)
 gathers_bools xs ys v w ps e p = picks_bools xs ys v w (length ps) (at_place ps) (ap length e ∙ length-map ps (λ i. get_or xs i false)) (λ i l. ap (λ zs. get_or zs i false) e ∙ get_or-map (λ j. get_or xs j false) ps i 0 false l) p
 
-pub gathers_numbers : (k j : IntKind) (xs ys : List ℤ) (v w : Valid) (ps : List ℕ) → j ≡ k → ys ≡ map (λ i. get_or xs i (pos 0)) ps → All (InRange j) ys → PicksValid v w (length ps) (λ i. get_or ps i 0) → Picks (numbers k xs v) (numbers j ys w) (length ps) (λ i. get_or ps i 0)
-gathers_numbers k j xs ys v w ps same e fit p = subst (λ h. Picks (numbers h xs v) (numbers j ys w) (length ps) (at_place ps)) same
-    (picks_numbers j xs ys v w (length ps) (at_place ps) (ap length e ∙ length-map ps (λ i. get_or xs i (pos 0))) fit (λ i l. ap (λ zs. get_or zs i (pos 0)) e ∙ get_or-map (λ j. get_or xs j (pos 0)) ps i 0 (pos 0) l) p)
+pub gathers_numbers : (k j : IntKind) (xs ys : List ℤ) (v w : Valid) (ps : List ℕ) → IsSound (numbers k xs v) → All (λ i. i < length xs) ps → j ≡ k → ys ≡ map (λ i. get_or xs i (pos 0)) ps → PicksValid v w (length ps) (λ i. get_or ps i 0) → Picks (numbers k xs v) (numbers j ys w) (length ps) (λ i. get_or ps i 0)
+gathers_numbers k j xs ys v w ps s within same e p =
+    let held : All (InRange k) ys = subst (All (InRange k)) (sym e) (All-map (InRange k) (λ i. get_or xs i (pos 0)) ps (λ i d l. s.0 (get_or ps i d) (pos 0) (within i d l))) in
+    subst (λ h. Picks (numbers k xs v) (numbers h ys w) (length ps) (at_place ps)) (sym same)
+    (picks_numbers k xs ys v w (length ps) (at_place ps) (ap length e ∙ length-map ps (λ i. get_or xs i (pos 0))) held (λ i l. ap (λ zs. get_or zs i (pos 0)) e ∙ get_or-map (λ j. get_or xs j (pos 0)) ps i 0 (pos 0) l) p)
 
 pub gathers_strings : (s : Strings) (xs ys bs : List (List ℕ)) (v w : Valid) (ps : List ℕ) → IsSound (strings s xs bs v) → All (λ i. i < length xs) ps → map Some ys ≡ map (slice_get xs) ps → PicksValid v w (length ps) (λ i. get_or ps i 0) → Picks (strings s xs bs v) (strings s ys bs w) (length ps) (λ i. get_or ps i 0)
 gathers_strings s xs ys bs v w ps h within read p =

@@ -1,5 +1,6 @@
 pub mod Faults
 pub mod Filter
+pub mod Flags
 pub mod LayoutFalls
 pub mod LayoutOf
 pub mod Picking

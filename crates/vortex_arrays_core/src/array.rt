@@ -148,9 +148,10 @@ impl ArrayRef {
         Ok(ArrayRef { data })
     }
 
-    /// How many rows there are.
+    /// How many rows there are. The parts fit together.
     pub fn len(&self) -> usize
-        ensures { result ≡ len_of self.now }
+        ensures count { result ≡ len_of self.now }
+        ensures sound { IsSound self.now }
     {
         match &self.data.layout {
             ArrayLayout::Bool(bits, _) => bits.len(),
@@ -187,8 +188,8 @@ impl ArrayRef {
         &self.data.layout
     }
 
-    /// Tells a proof that the parts fit together.
-    pub fn is_sound(&self)
+    // Tells a proof that the parts fit together.
+    pub(crate) fn is_sound(&self)
         ensures { IsSound self.now }
     {
         let _ = &self.data;

@@ -143,7 +143,6 @@ fn gather_numbers(
         (length positions.now) (λ i. slice_index_or positions.now i 0)) }
 {
     let chosen = items.gather(alloc, positions)?;
-    chosen.is_in_range();
     let validity = validity.gather(alloc, positions, items.len())?;
     ArrayRef::of_numbers(alloc, chosen, validity)
 }
@@ -205,6 +204,5 @@ fn position_codes(alloc: Global, positions: &[usize]) -> Result<ArrayRef, AllocE
         codes.push(*position as u64)?;
     }
     let codes = PrimitiveBuffer::U64(Buffer::from_vec(codes)?);
-    codes.is_in_range();
     ArrayRef::of_numbers(alloc, codes, Validity::NonNullable)
 }

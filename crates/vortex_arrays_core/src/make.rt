@@ -3,7 +3,7 @@ ghost use Rattle.std.specs.Prelude.{◌≡◌, IfOk, length, map};
 ghost use Rattle.vortex_model.specs.LogicalType.{struct, with_nullability, either_nullable, nullability_of};
 ghost use Rattle.vortex_dtype_ptype.specs.View.{nullability_of_flag};
 ghost use Rattle.vortex_dtype_core.specs.View.{type_of};
-ghost use Rattle.vortex_arrays_model.specs.Layout.{IsSound, array_type_of, type_of_strings, fields_of};
+ghost use Rattle.vortex_arrays_model.specs.Layout.{IsSound, HasLength, array_type_of, type_of_strings, fields_of};
 ghost use Rattle.vortex_arrays_model.specs.Layout.{bools, numbers, strings, constant, dictionary, fixed_lists, list_views, records};
 ghost use Rattle.vortex_arrays_model.specs.Parts.{columns_of};
 ghost use Rattle.vortex_arrays_buffer.specs.PrimitiveBuffers.{kind_of_numbers, integers_of};
@@ -45,8 +45,7 @@ impl ArrayRef {
         items: PrimitiveBuffer,
         validity: Validity,
     ) -> Result<ArrayRef, AllocError>
-        requires { IsSound
-            (numbers (kind_of_numbers items) (integers_of items) (valid_of validity)) }
+        requires { HasLength (valid_of validity) (length (integers_of items)) }
         ensures { IfOk result (λ array. array ≡ numbers (kind_of_numbers items) (integers_of items)
             (valid_of validity)) }
     {
@@ -90,9 +89,12 @@ impl ArrayRef {
         values: ArrayRef,
         all_values_referenced: bool,
     ) -> Result<ArrayRef, AllocError>
-        requires { IsSound (dictionary codes values all_values_referenced) }
+        requires { IsSound codes → IsSound values
+            → IsSound (dictionary codes values all_values_referenced) }
         ensures { IfOk result (λ array. array ≡ dictionary codes values all_values_referenced) }
     {
+        codes.is_sound();
+        values.is_sound();
         let dtype = dictionary_dtype(codes.dtype(), values.dtype())?;
         let layout = ArrayLayout::Dict(codes, values, all_values_referenced);
         ArrayRef::new_unchecked(alloc, dtype, layout)
@@ -107,9 +109,10 @@ impl ArrayRef {
         len: usize,
         validity: Validity,
     ) -> Result<ArrayRef, AllocError>
-        requires { IsSound (fixed_lists elements size len (valid_of validity)) }
+        requires { IsSound elements → IsSound (fixed_lists elements size len (valid_of validity)) }
         ensures { IfOk result (λ array. array ≡ fixed_lists elements size len (valid_of validity)) }
     {
+        elements.is_sound();
         let element = Rc::new(alloc, elements.dtype().clone()?)?;
         let dtype = DType::FixedSizeList(element, size, validity.nullability());
         let layout = ArrayLayout::FixedSizeList(elements, size, len, validity);
@@ -126,12 +129,15 @@ impl ArrayRef {
         is_zero_copy_to_list: bool,
         validity: Validity,
     ) -> Result<ArrayRef, AllocError>
-        requires { IsSound
+        requires { IsSound elements → IsSound offsets → IsSound sizes → IsSound
             (list_views elements offsets sizes is_zero_copy_to_list (valid_of validity)) }
         ensures { IfOk result
             (λ array. array ≡ list_views elements offsets sizes is_zero_copy_to_list
             (valid_of validity)) }
     {
+        elements.is_sound();
+        offsets.is_sound();
+        sizes.is_sound();
         let element = Rc::new(alloc, elements.dtype().clone()?)?;
         let dtype = DType::List(element, validity.nullability());
         let follow = is_zero_copy_to_list;

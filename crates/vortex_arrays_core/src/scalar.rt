@@ -1,6 +1,7 @@
 //! Values of rows.
 ghost use Rattle.std.specs.Prelude.{◌≡◌, ◌<◌, ◌≤◌, ◌+◌, ◌*◌, IfOk, IfErr, All, length, map};
 ghost use Rattle.vortex_arrays_model.specs.Layout.{bools, numbers, strings, len_of, array_type_of, content_at, number_in, IsOffsets, IsView, IsString, IsSound};
+ghost use Rattle.vortex_arrays_view.specs.Views.{value_of, HasValue};
 ghost use Rattle.vortex_arrays_buffer.specs.PrimitiveBuffers.{kind_of_numbers, integers_of};
 ghost use Rattle.vortex_scalar_core.specs.Scalar.{scalar_type, scalar_content};
 ghost use Rattle.vortex_scalar_value.specs.View.{raw_of, raw_in, raws_in, raws_from};
@@ -150,10 +151,24 @@ fn string_value(
         ≡ raw_row (strings (strings_of kind) views.now buffers.now (valid_of validity.now)) i) }
 {
     if validity.is_valid(i, views.len()) {
-        let bytes = views.get(i).value(alloc, buffers)?;
+        let bytes = shared_bytes(alloc, &views.get(i), buffers)?;
         Ok(Some(of_bytes(kind, bytes)))
     } else {
         Ok(None)
+    }
+}
+
+/// The value of a view. A long one is shared with its buffer and not copied.
+fn shared_bytes(alloc: Global, view: &BinaryView, buffers: &[Bytes]) -> Result<Bytes, AllocError>
+    requires { HasValue view.now buffers.now }
+    ensures { IfOk result (λ bytes. bytes ≡ value_of view.now buffers.now) }
+{
+    if view.is_inlined() {
+        Bytes::copy_from_slice(alloc, view.bytes(buffers))
+    } else {
+        let reference = view.as_view();
+        let buffer = &buffers[reference.buffer_index as usize];
+        buffer.slice(reference.as_range())
     }
 }
 

@@ -4,6 +4,7 @@ ghost use Rattle.vortex_arrays_model.specs.Layout.{len_of, IsSound, HasLength, H
 ghost use Rattle.vortex_arrays_buffer.specs.PrimitiveBuffers.{kind_of_numbers, integers_of};
 ghost use Rattle.vortex_arrays_model.specs.Parts.{columns_of};
 ghost use Rattle.vortex_arrays_model.specs.Picks.{Picks, PicksValid, PicksColumns};
+ghost use Rattle.vortex_arrays_core.specs.Flags.{list_view_flag};
 ghost use Rattle.vortex_arrays_core.specs.LayoutOf.{valid_of, strings_of};
 ghost use Rattle.vortex_arrays_core.specs.Picking.{IsSliceFault};
 
@@ -22,11 +23,17 @@ use vortex_dtype_ptype::field_names::FieldNames;
 impl ArrayRef {
     /// The rows at the places of the range, as Vortex's `ArrayRef::slice`. Buffers are shared and
     /// not copied. `OutOfRange` where the range does not lie within the rows.
+    ///
+    /// All rows are the array itself. Of a dictionary any fewer rows may leave a value without a
+    /// code, so its flag is lost, and that of a list view is kept.
     #[tactic(auto, using(crate::proofs::Picked::picks_whole))]
     pub fn slice(&self, alloc: Global, range: Range<usize>) -> Result<ArrayRef, ArrayError>
         ensures made { IfOk result (λ part. (range.start ≤ range.end)
             × (range.end ≤ len_of self.now)
             × Picks self.now part (range.end - range.start) (λ i. range.start + i)) }
+        ensures whole { IfOk result
+            (λ part. range.end - range.start ≡ len_of self.now → part ≡ self.now) }
+        ensures flag { IfOk result (λ part. list_view_flag part ≡ list_view_flag self.now) }
         ensures refused { IfErr result
             (λ e. IsSliceFault e (len_of self.now) range.start range.end) }
     {
@@ -35,7 +42,6 @@ impl ArrayRef {
             return Err(ArrayError::OutOfRange);
         }
         if range.end - range.start == len {
-            // A dictionary would lose its flag.
             self.is_sound();
             return Ok(self.clone()?);
         }
@@ -48,7 +54,8 @@ impl ArrayRef {
     fn rows_between(&self, alloc: Global, start: usize, end: usize) -> Result<ArrayRef, AllocError>
         requires order { start ≤ end }
         requires within { end ≤ len_of self.now }
-        ensures { IfOk result (λ part. Picks self.now part (end - start) (λ i. start + i)) }
+        ensures rows { IfOk result (λ part. Picks self.now part (end - start) (λ i. start + i)) }
+        ensures flag { IfOk result (λ part. list_view_flag part ≡ list_view_flag self.now) }
     {
         match &self.data.layout {
             ArrayLayout::Bool(bits, validity) => {
@@ -175,7 +182,6 @@ fn numbers_between(
         (slice_range (integers_of items.now) start end) (valid_of validity)) }
 {
     let part = items.slice(start..end)?;
-    part.is_in_range();
     ArrayRef::of_numbers(alloc, part, validity)
 }
 

@@ -84,9 +84,7 @@ impl PrimitiveArray {
         requires { HasLength (valid_of validity) (length items) }
         ensures { IfOk result (λ a. a ≡ numbers T.kind (map T.integer items) (valid_of validity)) }
     {
-        let numbers = PrimitiveBuffer::from_buffer(items);
-        numbers.is_in_range();
-        PrimitiveArray::new_unchecked(alloc, numbers, validity)
+        PrimitiveArray::new_unchecked(alloc, PrimitiveBuffer::from_buffer(items), validity)
     }
 
     /// An array of these parts, as Vortex's `PrimitiveArray::new_unchecked`.
@@ -95,8 +93,7 @@ impl PrimitiveArray {
         items: PrimitiveBuffer,
         validity: Validity,
     ) -> Result<PrimitiveArray, AllocError>
-        requires { IsSound
-            (numbers (kind_of_numbers items) (integers_of items) (valid_of validity)) }
+        requires { HasLength (valid_of validity) (length (integers_of items)) }
         ensures { IfOk result (λ a. a ≡ numbers (kind_of_numbers items) (integers_of items)
             (valid_of validity)) }
     {
@@ -123,7 +120,6 @@ impl PrimitiveArray {
         ensures refused { IfErr result
             (λ e. IsValidityFault e (valid_of validity.now) (length (integers_of items.now))) }
     {
-        items.is_in_range();
         validity.check_len(items.len())
     }
 

@@ -206,9 +206,8 @@ impl VarBinViewArray {
         ensures { result.now ≡ value_of (slice_index_or (views_in self.now) i [])
             (buffers_in self.now) }
     {
-        self.array.is_sound();
-        let views = self.views();
-        views[i].bytes(self.data_buffers())
+        let (views, buffers, _) = self.parts();
+        views[i].bytes(buffers)
     }
 
     /// The views, the buffers and the validity, where they lie.
@@ -216,6 +215,8 @@ impl VarBinViewArray {
         ensures views { result.0.now ≡ views_in self.now }
         ensures buffers { result.1.now ≡ buffers_in self.now }
         ensures valid { valid_of result.2.now ≡ valid_in self.now }
+        ensures layout { IsStrings self.now }
+        ensures sound { IsSound self.now }
     {
         match self.array.layout() {
             ArrayLayout::VarBinView(_, views, buffers, validity) => {

@@ -1,6 +1,6 @@
 //! Which codes name a value.
 ghost use Rattle.std.specs.Prelude.{◌<◌, ◌↔◌, IsTrue};
-ghost use Rattle.vortex_arrays_model.specs.Layout.{len_of, array_type_of, content_at, IsInteger, IsCode};
+ghost use Rattle.vortex_arrays_model.specs.Layout.{len_of, array_type_of, content_at, IsInteger, IsCode, IsSound};
 ghost use Rattle.vortex_arrays_model.specs.Parts.{AreWithin};
 
 use vortex_arrays_core::array::ArrayRef;
@@ -9,7 +9,8 @@ use vortex_arrays_core::array::ArrayRef;
 #[tactic(auto, using(crate::proofs::CodeLemmas::codes))]
 pub(crate) fn are_codes(codes: &ArrayRef, count: usize) -> bool
     requires { IsInteger (array_type_of codes.now) }
-    ensures { IsTrue result ↔ AreWithin codes.now count }
+    ensures within { IsTrue result ↔ AreWithin codes.now count }
+    ensures sound { IsSound codes.now }
 {
     for i in 0..codes.len() {
         if !is_code(codes, i, count) {

@@ -77,8 +77,6 @@ impl DictArray {
         requires named { AreWithin codes (len_of values) }
         ensures { IfOk result (λ a. a ≡ dictionary codes values false) }
     {
-        codes.is_sound();
-        values.is_sound();
         DictArray::new_unchecked(alloc, codes, values)
     }
 
@@ -88,7 +86,7 @@ impl DictArray {
         codes: ArrayRef,
         values: ArrayRef,
     ) -> Result<DictArray, AllocError>
-        requires { IsSound (dictionary codes values false) }
+        requires { IsSound codes → IsSound values → IsSound (dictionary codes values false) }
         ensures { IfOk result (λ a. a ≡ dictionary codes values false) }
     {
         let array = ArrayRef::of_dict(alloc, codes, values, false)?;
@@ -101,8 +99,6 @@ impl DictArray {
         ensures sound { IfOk result (λ _. IsSound (dictionary codes.now values.now false)) }
         ensures refused { IfErr result (λ e. IsCodesFault e codes.now values.now) }
     {
-        codes.is_sound();
-        values.is_sound();
         if !codes.is_integer() {
             return Err(ArrayError::WrongType);
         }
@@ -202,9 +198,10 @@ impl DictArray {
         ensures { IfOk result
             (λ a. a ≡ dictionary (codes_in self) (values_in self) all_values_referenced) }
     {
-        self.array.is_sound();
-        let parts = self.into_parts()?;
-        let array = ArrayRef::of_dict(alloc, parts.codes, parts.values, all_values_referenced)?;
+        let (codes, values, _) = self.parts();
+        let codes = codes.clone()?;
+        let values = values.clone()?;
+        let array = ArrayRef::of_dict(alloc, codes, values, all_values_referenced)?;
         Ok(DictArray { array })
     }
 
@@ -218,8 +215,9 @@ impl DictArray {
     }
 
     /// The codes, the values and whether each value is known to be named, where they lie.
-    fn parts(&self) -> (&ArrayRef, &ArrayRef, bool)
-        ensures { self.now ≡ dictionary result.0.now result.1.now result.2 }
+    pub(crate) fn parts(&self) -> (&ArrayRef, &ArrayRef, bool)
+        ensures parts { self.now ≡ dictionary result.0.now result.1.now result.2 }
+        ensures sound { IsSound (dictionary result.0.now result.1.now result.2) }
     {
         match self.array.layout() {
             ArrayLayout::Dict(codes, values, all_referenced) => (codes, values, *all_referenced),

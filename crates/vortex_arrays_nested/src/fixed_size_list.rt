@@ -101,7 +101,6 @@ impl FixedSizeListArray {
         requires count { len_of elements ≡ len * list_size }
         ensures { IfOk result (λ a. a ≡ fixed_lists elements list_size len (valid_of validity)) }
     {
-        elements.is_sound();
         FixedSizeListArray::new_unchecked(alloc, elements, list_size, validity, len)
     }
 
@@ -113,7 +112,8 @@ impl FixedSizeListArray {
         validity: Validity,
         len: usize,
     ) -> Result<FixedSizeListArray, AllocError>
-        requires { IsSound (fixed_lists elements list_size len (valid_of validity)) }
+        requires { IsSound elements
+            → IsSound (fixed_lists elements list_size len (valid_of validity)) }
         ensures { IfOk result (λ a. a ≡ fixed_lists elements list_size len (valid_of validity)) }
     {
         let array = ArrayRef::of_fixed_lists(alloc, elements, list_size, len, validity)?;
@@ -139,7 +139,6 @@ impl FixedSizeListArray {
         if elements.len() as u128 != len as u128 * list_size as u128 {
             return Err(ArrayError::ElementCount);
         }
-        elements.is_sound();
         Ok(())
     }
 

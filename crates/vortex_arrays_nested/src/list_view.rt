@@ -133,9 +133,6 @@ impl ListViewArray {
         ensures { IfOk result
             (λ a. a ≡ list_views elements offsets sizes false (valid_of validity)) }
     {
-        elements.is_sound();
-        offsets.is_sound();
-        sizes.is_sound();
         ListViewArray::new_unchecked(alloc, elements, offsets, sizes, validity)
     }
 
@@ -147,7 +144,8 @@ impl ListViewArray {
         sizes: ArrayRef,
         validity: Validity,
     ) -> Result<ListViewArray, AllocError>
-        requires { IsSound (list_views elements offsets sizes false (valid_of validity)) }
+        requires { IsSound elements → IsSound offsets → IsSound sizes
+            → IsSound (list_views elements offsets sizes false (valid_of validity)) }
         ensures { IfOk result
             (λ a. a ≡ list_views elements offsets sizes false (valid_of validity)) }
     {
@@ -180,9 +178,6 @@ impl ListViewArray {
         if !lie_within(offsets, sizes, elements.len()) {
             return Err(ArrayError::ViewOutOfRange);
         }
-        elements.is_sound();
-        offsets.is_sound();
-        sizes.is_sound();
         Ok(())
     }
 

@@ -23,8 +23,8 @@ impl DictArray {
         ensures marks { IfOk result (λ mask.
             MarksReferenced (codes_in self.now) (len_of (codes_in self.now)) referenced mask) }
     {
-        self.as_array().is_sound();
-        let marks = referenced_marks(alloc, self.codes(), self.values().len(), referenced)?;
+        let (codes, values, _) = self.parts();
+        let marks = referenced_marks(alloc, codes, values.len(), referenced)?;
         let mask = BitBuffer::from_bools(alloc, marks.as_slice())?;
         Ok(mask)
     }
@@ -35,8 +35,8 @@ impl DictArray {
         ensures { IfOk result
             (λ all. IsTrue all ↔ AllReferenced (codes_in self.now) (values_in self.now)) }
     {
-        self.as_array().is_sound();
-        let marks = referenced_marks(alloc, self.codes(), self.values().len(), true)?;
+        let (codes, values, _) = self.parts();
+        let marks = referenced_marks(alloc, codes, values.len(), true)?;
         let all = are_all_true(&marks);
         Ok(all)
     }

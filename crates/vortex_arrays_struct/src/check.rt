@@ -46,7 +46,6 @@ fn have_rows(fields: &[ArrayRef], len: usize) -> bool
     ensures sound { IsTrue result → All IsSound fields.now }
 {
     for field in fields {
-        field.is_sound();
         if field.len() != len {
             return false;
         }

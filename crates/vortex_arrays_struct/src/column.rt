@@ -3,6 +3,7 @@ ghost use Rattle.std.specs.Prelude.{◌≡◌, ◌∷◌, [], length, IfOk, IfEr
 ghost use Rattle.vortex_arrays_model.specs.Layout.{IsSound, records};
 ghost use Rattle.vortex_arrays_model.specs.Column.{IsColumn};
 ghost use Rattle.vortex_arrays_model.specs.Parts.{columns_of};
+ghost use Rattle.vortex_arrays_core.specs.Flags.{KeepsDictionaryFlag};
 ghost use Rattle.vortex_arrays_core.specs.LayoutOf.{valid_of};
 ghost use Rattle.vortex_arrays_struct.specs.ColumnFaults.{IsColumnFault};
 
@@ -14,8 +15,8 @@ use vortex_arrays_core::array::{ArrayLayout, ArrayRef, Validity};
 use vortex_dtype_ptype::field_names::{FieldName, FieldNames};
 
 /// The column of a path of names, null where a record on the way is null. Of names that repeat in a
-/// record the first is meant. Without a name it is the array itself, shared. `NoSuchField` where a
-/// step names no field.
+/// record the first is meant. Without a name it is the array itself, shared. The column of a
+/// dictionary is a dictionary with the same flag. `NoSuchField` where a step names no field.
 #[tactic(auto, using(crate::proofs::Steps::walked))]
 pub fn column_at(
     alloc: Global,
@@ -23,9 +24,10 @@ pub fn column_at(
     path: &[FieldName],
 ) -> Result<ArrayRef, ArrayError>
     ensures made { IfOk result (λ column. IsColumn array.now path.now column) }
+    ensures flag { IfOk result (λ column. KeepsDictionaryFlag array.now column) }
     ensures refused { IfErr result (λ e. IsColumnFault e array.now path.now) }
 {
-    array.is_sound();
+    let _rows = array.len();
     let mut column = array.clone()?;
     for name in path {
         column = column_named(alloc, &column, name)?;
@@ -37,6 +39,7 @@ pub fn column_at(
 #[tactic(auto, using(crate::proofs::Columns::stepped))]
 fn column_named(alloc: Global, array: &ArrayRef, name: &FieldName) -> Result<ArrayRef, ArrayError>
     ensures made { IfOk result (λ column. IsColumn array.now (name.now ∷ []) column) }
+    ensures flag { IfOk result (λ column. KeepsDictionaryFlag array.now column) }
     ensures refused { IfErr result (λ e. IsColumnFault e array.now (name.now ∷ [])) }
 {
     match array.layout() {

@@ -1,5 +1,5 @@
 //! A view: the sixteen bytes that stand for a text or a byte string.
-ghost use Rattle.std.specs.Prelude.{◌++◌, ◌≡◌, ◌≤◌, ◌<◌, ◌+◌, ◌^◌, ℕ, List, [], length, take, drop, IsTrue, IfOk, ◌↔◌, slice_index_or};
+ghost use Rattle.std.specs.Prelude.{◌++◌, ◌≡◌, ◌≤◌, ◌<◌, ◌+◌, ◌^◌, ℕ, List, [], length, take, drop, IsTrue, ◌↔◌, slice_index_or};
 ghost use Rattle.std.specs.Int.{w128, to_le_bytes, from_le_bytes};
 ghost use Rattle.vortex_arrays_view.specs.Views.{size_of, index_of, offset_of, value_of, HasValue};
 ghost use Rattle.vortex_arrays_view.specs.Made.{
@@ -20,7 +20,6 @@ ghost use Rattle.vortex_arrays_view.specs.Made.{
 use crate::inlined::Inlined;
 use crate::reference::Ref;
 use bytes::Bytes;
-use std::alloc::{AllocError, Global};
 use std::marker::Model;
 
 /// The most bytes that stand in the view itself.
@@ -194,20 +193,6 @@ impl BinaryView {
         let buffer = &buffers[self.buffer_index() as usize];
         let bytes = buffer.as_slice();
         &bytes[start..start + size]
-    }
-
-    /// The value. A long one is shared with its buffer and not copied.
-    pub fn value(&self, alloc: Global, buffers: &[Bytes]) -> Result<Bytes, AllocError>
-        requires { HasValue self.now buffers.now }
-        ensures { IfOk result (λ bytes. bytes ≡ value_of self.now buffers.now) }
-    {
-        if self.is_inlined() {
-            Bytes::copy_from_slice(alloc, self.bytes(buffers))
-        } else {
-            let reference = self.as_view();
-            let buffer = &buffers[reference.buffer_index as usize];
-            buffer.slice(reference.as_range())
-        }
     }
 
     /// Whether a long value lies within one of the buffers and begins with the prefix. A short one

@@ -154,7 +154,6 @@ fn named(alloc: Global, checks: &mut Checks<'_>) -> Result<(), DTypeError> {
         "of_dict of codes that can be null",
         *all.dtype() == DType::Primitive(PType::I64, WITH),
     );
-    all.is_sound();
     let copy = all.clone()?;
     checks.holds("clone", copy.len() == 3);
     Ok(())

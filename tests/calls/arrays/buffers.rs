@@ -93,7 +93,6 @@ fn of_kind<T: Element>(
         list.push(item)?;
     }
     let numbers = PrimitiveBuffer::from_buffer(Buffer::from_vec(list)?);
-    numbers.is_in_range();
     checks.holds(
         name,
         numbers.ptype() == ptype && numbers.len() == 3 && !numbers.is_empty(),

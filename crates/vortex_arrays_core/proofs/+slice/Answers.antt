@@ -6,10 +6,10 @@ use Rattle.vortex_arrays_core.specs.LayoutOf.{valid_of, layout_of}
 use Rattle.vortex_arrays_core.proofs.Picked.{picks_lists_between}
 use Rattle.vortex_arrays_core.proofs.+slice.Goals as goal
 
-pub array::ArrayRef::rows_between-returns-in_ok-elements-in-FixedSizeList : goal.array::ArrayRef::rows_between-returns-in_ok-elements-in-FixedSizeList
-array::ArrayRef::rows_between-returns-in_ok-elements-in-FixedSizeList t c =
+pub array::ArrayRef::rows_between-returns-in_ok-elements-in-FixedSizeList-clause-rows : goal.array::ArrayRef::rows_between-returns-in_ok-elements-in-FixedSizeList-clause-rows
+array::ArrayRef::rows_between-returns-in_ok-elements-in-FixedSizeList-clause-rows t c =
     let whole : c.args.self.now ≡ fixed_lists c.in-FixedSizeList.elements c.in-FixedSizeList.size c.in-FixedSizeList.len (valid_of c.in-FixedSizeList.validity) = sym c.self.view_is ∙ (λ i. layout_of (sym c.deref.ensures i).layout) ∙ ap layout_of c.in-FixedSizeList.is in
-    let p = picks_lists_between c.in-FixedSizeList.elements c.in_ok-elements-in-FixedSizeList.elements c.in-FixedSizeList.size c.in-FixedSizeList.len c.args.start c.args.end c.elements_between-range.result.start c.elements_between-range.result.end (valid_of c.in-FixedSizeList.validity) (valid_of c.in_ok-validity-in-FixedSizeList.validity) c.requires.order c.elements_between-range.ensures.start c.elements_between-range.ensures.end c.in_ok-elements-in-FixedSizeList.ensures c.in_ok-validity-in-FixedSizeList.ensures in
+    let p = picks_lists_between c.in-FixedSizeList.elements c.in_ok-elements-in-FixedSizeList.elements c.in-FixedSizeList.size c.in-FixedSizeList.len c.args.start c.args.end c.elements_between-range.result.start c.elements_between-range.result.end (valid_of c.in-FixedSizeList.validity) (valid_of c.in_ok-validity-in-FixedSizeList.validity) c.requires.order c.elements_between-range.ensures.start c.elements_between-range.ensures.end c.in_ok-elements-in-FixedSizeList.ensures.rows c.in_ok-validity-in-FixedSizeList.ensures in
     let q : Picks c.args.self.now (fixed_lists c.in_ok-elements-in-FixedSizeList.elements c.in-FixedSizeList.size (c.args.end - c.args.start) (valid_of c.in_ok-validity-in-FixedSizeList.validity)) (c.args.end - c.args.start) (λ i. c.args.start + i) = subst (λ a. Picks a (fixed_lists c.in_ok-elements-in-FixedSizeList.elements c.in-FixedSizeList.size (c.args.end - c.args.start) (valid_of c.in_ok-validity-in-FixedSizeList.validity)) (c.args.end - c.args.start) (λ i. c.args.start + i)) (sym whole) p in
     search (rules, q)
 

@@ -1,7 +1,7 @@
 //! Columns of values that have no values inside.
 ghost use Rattle.std.specs.Prelude.{◌≡◌, true, map, IfOk, IsTrue, All};
 ghost use Rattle.vortex_model.specs.LogicalType.{nullable, boolean_type, integer_type};
-ghost use Rattle.vortex_model.specs.Valid.{in_range};
+ghost use Rattle.vortex_model.specs.Valid.{in_range, InRange};
 ghost use Rattle.vortex_dtype_ptype.specs.Numbers.{integral, is_integral, type_of_numbers};
 ghost use Rattle.vortex_dtype_ptype.specs.View.{nullability_of_flag, number_kind_of};
 ghost use Rattle.vortex_scalar_value.specs.Numbers.{holds_number};
@@ -116,6 +116,8 @@ fn numbers_of<T: Element>(
     ensures kind { IfOk result (λ numbers. kind_of_numbers numbers ≡ T.kind) }
     ensures numbers { IfOk result (λ numbers. integers_of numbers
         ≡ map whole_or_zero (map raw_at values.now)) }
+    ensures held { IfOk result
+        (λ numbers. All (InRange (kind_of_numbers numbers)) (integers_of numbers)) }
 {
     let mut items: Vec<T> = Vec::with_capacity(alloc, values.len())?;
     for value in values {
@@ -138,6 +140,8 @@ fn numbers_of_kind(
         ≡ number_kind_of ptype) }
     ensures numbers { IfOk result (λ numbers. integers_of numbers
         ≡ map whole_or_zero (map raw_at values.now)) }
+    ensures held { IfOk result
+        (λ numbers. All (InRange (kind_of_numbers numbers)) (integers_of numbers)) }
 {
     match ptype {
         PType::U8 => numbers_of::<u8>(alloc, values),
@@ -169,7 +173,6 @@ pub fn of_integers(
         (map raw_at values.now) array) }
 {
     let items = numbers_of_kind(alloc, ptype, values)?;
-    items.is_in_range();
     let validity = nulls_of(alloc, nullability, values)?;
     let array = ArrayRef::of_numbers(alloc, items, validity)?;
     Ok(array)

@@ -7,4 +7,4 @@ use Rattle.vortex_arrays_core.proofs.validity.true_in_both.Goals as goal
 
 pub returns : goal.returns
 returns c = IfOk-weaker c.of_bools.result _ _ (λ r is. subst (λ x. IsValidInBoth (by_array c.args.mine.now) (by_array c.args.theirs.now) (by_array x) (len_of c.args.mine.now)) (sym is)
-    (meets_arrays c.args.mine.now c.args.theirs.now c.in_ok-bits.bits (len_of c.args.mine.now) (c.in_ok-bits.ensures.count ∙ c.len.ensures) (λ i l. search (rules, c.in_ok-bits.ensures.bits i (subst (λ k. i < k) (sym c.len.ensures) l))))) c.of_bools.ensures
+    (meets_arrays c.args.mine.now c.args.theirs.now c.in_ok-bits.bits (len_of c.args.mine.now) (c.in_ok-bits.ensures.count ∙ c.len.ensures.count) (λ i l. search (rules, c.in_ok-bits.ensures.bits i (subst (λ k. i < k) (sym c.len.ensures.count) l))))) c.of_bools.ensures

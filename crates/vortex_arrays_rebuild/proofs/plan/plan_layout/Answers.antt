@@ -11,7 +11,7 @@ pub loop-i-preserved : goal.loop-i-preserved
 loop-i-preserved c =
     let a : Layout = list_views c.args.elements.now c.args.offsets.now c.args.sizes.now false (valid_of c.args.validity.now) in
     let ps : List ℕ = positions_in c.loop-i.runs.done.items ++ positions_of c.loop-i.runs.last in
-    let within : c.loop-i.i < len_of c.args.offsets.now = omega (arith, c.len-len.ensures) in
+    let within : c.loop-i.i < len_of c.args.offsets.now = omega (arith, c.len-len.ensures.count) in
     let more = canonical_more a (content_at c.args.elements.now) c.loop-i.starts.items c.loop-i.counts.items ps c.loop-i.i c.row_view-start.result.0 c.row_view-start.result.1 c.loop-i.invariant.canonical within c.row_view-start.ensures.items in
     record {
       canonical = rw (c.in_ok-push.ensures.items, c.in_ok-push-2.ensures.items, c.in_ok-add.ensures.positions, c.loop-i.runs.counted) more;
@@ -22,7 +22,7 @@ pub returns-in_err-add-clause-refused : goal.returns-in_err-add-clause-refused
 returns-in_err-add-clause-refused c =
     let a : Layout = list_views c.args.elements.now c.args.offsets.now c.args.sizes.now false (valid_of c.args.validity.now) in
     let ps : List ℕ = positions_in c.loop-i.runs.done.items ++ positions_of c.loop-i.runs.last in
-    let within : c.loop-i.i < len_of c.args.offsets.now = omega (arith, c.len-len.ensures) in
+    let within : c.loop-i.i < len_of c.args.offsets.now = omega (arith, c.len-len.ensures.count) in
     let reached = total_reached a (content_at c.args.elements.now) c.loop-i.starts.items c.loop-i.counts.items ps c.loop-i.i c.row_view-start.result.0 c.row_view-start.result.1 c.loop-i.invariant.canonical within c.row_view-start.ensures.items in
     let enough : c.loop-i.runs.len + c.row_view-start.result.1 ≤ total_of (rows_of a) = rw c.loop-i.runs.counted reached in
     grind (arith, sum_fault)
@@ -30,4 +30,4 @@ returns-in_err-add-clause-refused c =
 pub returns-clause-canonical : goal.returns-clause-canonical
 returns-clause-canonical c =
     let a : Layout = list_views c.args.elements.now c.args.offsets.now c.args.sizes.now false (valid_of c.args.validity.now) in
-    rw c.in_ok-runs.ensures.positions (canonical_all a c.loop-i.i _ _ _ (omega (arith, c.len-len.ensures)) c.loop-i.invariant.canonical)
+    rw c.in_ok-runs.ensures.positions (canonical_all a c.loop-i.i _ _ _ (omega (arith, c.len-len.ensures.count)) c.loop-i.invariant.canonical)

@@ -8,7 +8,7 @@ use Rattle.vortex_arrays_struct.proofs.column.+column_named.Goals as goal
 pub of_dict-requires : goal.of_dict-requires
 of_dict-requires t c =
     let sound : IsSound (dictionary c.in-Dict.codes c.in-Dict.values c.in-Dict.all_values_referenced) = subst (λ l. IsSound (layout_of l)) c.in-Dict.is c.layout.ensures.sound in
-    rw c.in_ok-clone-in-Dict.ensures.cases (dictionary_of_column c.in-Dict.codes c.in-Dict.values c.in_ok-column-in-Dict.column c.in-Dict.all_values_referenced (c.args.name.now ∷ []) sound c.in_ok-column-in-Dict.ensures.made)
+    λ _ _. rw c.in_ok-clone-in-Dict.ensures.cases (dictionary_of_column c.in-Dict.codes c.in-Dict.values c.in_ok-column-in-Dict.column c.in-Dict.all_values_referenced (c.args.name.now ∷ []) sound c.in_ok-column-in-Dict.ensures.made)
 
 pub returns-in_ok-picked-in-Dict-clause-made : goal.returns-in_ok-picked-in-Dict-clause-made
 returns-in_ok-picked-in-Dict-clause-made t c =

@@ -7,9 +7,12 @@ pub loop-name-preserved : goal.loop-name-preserved
 loop-name-preserved c =
     let rest = drop (c.loop-name.name-index + 1) c.args.path.now in
     let whole : drop c.loop-name.name-index c.args.path.now ≡ c.name-item.result ∷ rest = drop_more c.args.path.now c.loop-name.name-index c.name-item.result c.loop-name-test.true ∙ ap (λ x. x ∷ rest) (sym c.name-item.is) in
-    way_goes_on c.args.array.now c.loop-name.column c.in_ok-column-2.column c.args.path.now c.name-item.result rest (subst (IsOnTheWay c.args.array.now c.args.path.now c.loop-name.column) whole c.loop-name.invariant) c.in_ok-column-2.ensures.made
+    record {
+      way = way_goes_on c.args.array.now c.loop-name.column c.in_ok-column-2.column c.args.path.now c.name-item.result rest (subst (IsOnTheWay c.args.array.now c.args.path.now c.loop-name.column) whole c.loop-name.invariant.way) c.in_ok-column-2.ensures.made;
+      flag = λ f e. c.in_ok-column-2.ensures.flag f (c.loop-name.invariant.flag f e);
+    }
 
 pub returns-clause-made : goal.returns-clause-made
 returns-clause-made c =
     let all : length c.args.path.now ≤ c.loop-name.name-index = omega (arith, c.loop-name-test.false) in
-    way_ends c.args.array.now c.loop-name.column c.args.path.now (subst (IsOnTheWay c.args.array.now c.args.path.now c.loop-name.column) (drop_all c.loop-name.name-index c.args.path.now all) c.loop-name.invariant)
+    way_ends c.args.array.now c.loop-name.column c.args.path.now (subst (IsOnTheWay c.args.array.now c.args.path.now c.loop-name.column) (drop_all c.loop-name.name-index c.args.path.now all) c.loop-name.invariant.way)

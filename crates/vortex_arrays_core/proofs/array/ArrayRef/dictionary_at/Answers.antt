@@ -10,7 +10,7 @@ pub of_dict-requires : goal.of_dict-requires
 of_dict-requires c =
     let p = names_positions c.args.self.now c.in_ok-codes.codes c.args.positions.now c.in_ok-codes.ensures c.is_sound.ensures c.is_sound-2.ensures c.requires in
     let q : Picks c.args.self.now (dictionary c.in_ok-codes.codes c.in_ok-clone.field-0 false) (length c.args.positions.now) (λ i. get_or c.args.positions.now i 0) = subst (λ v. Picks c.args.self.now (dictionary c.in_ok-codes.codes v false) (length c.args.positions.now) (λ i. get_or c.args.positions.now i 0)) (sym c.in_ok-clone.ensures.cases) p in
-    q.sound
+    λ _ _. q.sound
 
 pub returns : goal.returns
 returns c =

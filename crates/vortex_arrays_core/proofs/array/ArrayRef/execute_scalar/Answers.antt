@@ -10,14 +10,14 @@ use Rattle.vortex_arrays_core.proofs.array.ArrayRef.execute_scalar.Goals as goal
 pub new_unchecked-requires : goal.new_unchecked-requires
 new_unchecked-requires c =
     let kind : type_of c.in_ok-dtype.dtype ≡ array_type_of c.args.self.now = c.in_ok-dtype.ensures.cases ∙ c.dtype.ensures in
-    let within : c.args.i < len_of c.args.self.now = subst (λ n. c.args.i < n) c.len.ensures c.if-i-len.false in
+    let within : c.args.i < len_of c.args.self.now = subst (λ n. c.args.i < n) c.len.ensures.count c.if-i-len.false in
     let row = raw_row c.args.self.now c.args.i in
     let held : valid (array_type_of c.args.self.now) row ≡ true = (c.tests_of_validity_are_right.ensures (array_type_of c.args.self.now) row).1 (raw_valid c.args.self.now c.is_sound.ensures c.args.i within) in
     subst (λ r. valid (type_of c.in_ok-dtype.dtype) r ≡ true) (sym c.in_ok-value.ensures) (subst (λ k. valid k row ≡ true) (sym kind) held)
 
 pub returns-clause-made : goal.returns-clause-made
 returns-clause-made c = (
-  subst (λ n. c.args.i < n) c.len.ensures c.if-i-len.false,
+  subst (λ n. c.args.i < n) c.len.ensures.count c.if-i-len.false,
   c.new_unchecked.ensures.dtype ∙ c.in_ok-dtype.ensures.cases ∙ c.dtype.ensures,
   ap content_of (c.new_unchecked.ensures.value ∙ c.in_ok-value.ensures) ∙ says c.args.self.now c.args.i,
 )

@@ -1,4 +1,4 @@
-use Rattle.std.proofs.Common.{◌≡◌, ◌↔◌, ◌∙◌, IsTrue, true, ap, subst}
+use Rattle.std.proofs.Common.{◌≡◌, ◌↔◌, ◌∙◌, IsTrue, true, sym, ap, subst}
 use Rattle.std.specs.List.{All}
 use Rattle.vortex_arrays_model.specs.Layout.{len_of}
 use Rattle.vortex_arrays_model.specs.Referenced.{MarksReferenced}
@@ -8,6 +8,6 @@ use Rattle.vortex_arrays_nested.proofs.dict_array.DictArray.are_all_values_refer
 
 pub returns : goal.returns
 returns c = each_referenced (codes_in c.args.self.now) (values_in c.args.self.now) c.in_ok-marks.marks.items c.are_all_true-all.result
-    (subst (λ codes. MarksReferenced codes (len_of codes) true c.in_ok-marks.marks.items) c.codes.ensures c.in_ok-marks.ensures.marks)
-    (c.in_ok-marks.ensures.count ∙ c.len.ensures ∙ ap len_of c.values.ensures)
+    (subst (λ codes. MarksReferenced codes (len_of codes) true c.in_ok-marks.marks.items) (sym (ap codes_in c.parts.ensures.parts)) c.in_ok-marks.ensures.marks)
+    (c.in_ok-marks.ensures.count ∙ c.len.ensures.count ∙ ap len_of (sym (ap values_in c.parts.ensures.parts)))
     (subst (λ bits. IsTrue c.are_all_true-all.result ↔ All (λ bit. bit ≡ true) bits) c.deref.ensures.value c.are_all_true-all.ensures)
