@@ -1,4 +1,5 @@
-//! Why an array can't be made or read.
+//! What arrays are made of: shared buffers, bits, masks and integers of one kind; and the refusals
+//! of arrays.
 #![tactic(auto)]
 
 mod bit;
@@ -9,3 +10,9 @@ pub mod error;
 mod in_range;
 pub mod mask;
 pub mod primitive_buffer;
+
+pub use bit_buffer::BitBuffer;
+pub use buffer::Buffer;
+pub use error::ArrayError;
+pub use mask::Mask;
+pub use primitive_buffer::PrimitiveBuffer;

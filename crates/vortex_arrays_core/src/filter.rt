@@ -8,8 +8,7 @@ ghost use Rattle.vortex_arrays_core.specs.LayoutOf.{valid_of};
 
 use crate::array::{ArrayRef, Validity};
 use std::alloc::{AllocError, Global};
-use vortex_arrays_buffer::error::ArrayError;
-use vortex_arrays_buffer::mask::Mask;
+use vortex_arrays_buffer::{ArrayError, Mask};
 
 impl ArrayRef {
     /// The rows that a mask keeps, as Vortex's `ArrayRef::filter`. Refuses with `LengthMismatch`

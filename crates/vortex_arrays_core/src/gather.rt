@@ -11,9 +11,7 @@ use crate::array::{ArrayLayout, ArrayRef, StringKind, Validity};
 use bytes::Bytes;
 use std::alloc::{AllocError, Global};
 use std::rc::Rc;
-use vortex_arrays_buffer::bit_buffer::BitBuffer;
-use vortex_arrays_buffer::buffer::Buffer;
-use vortex_arrays_buffer::primitive_buffer::PrimitiveBuffer;
+use vortex_arrays_buffer::{BitBuffer, Buffer, PrimitiveBuffer};
 use vortex_arrays_view::view::BinaryView;
 use vortex_dtype_ptype::field_names::FieldNames;
 

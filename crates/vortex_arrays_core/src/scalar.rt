@@ -1,7 +1,6 @@
 //! Values of rows.
 ghost use Rattle.std.specs.Prelude.{◌≡◌, ◌<◌, ◌≤◌, ◌+◌, ◌*◌, IfOk, IfErr, All, length, map};
 ghost use Rattle.vortex_arrays_model.specs.Layout.{bools, numbers, strings, len_of, array_type_of, content_at, number_in, IsOffsets, IsView, IsString, IsSound};
-ghost use Rattle.vortex_arrays_view.specs.Views.{value_of, HasValue};
 ghost use Rattle.vortex_arrays_buffer.specs.PrimitiveBuffers.{kind_of_numbers, integers_of};
 ghost use Rattle.vortex_scalar_core.specs.Scalar.{scalar_type, scalar_content};
 ghost use Rattle.vortex_scalar_value.specs.View.{raw_of, raw_in, raws_in, raws_from};
@@ -11,10 +10,8 @@ ghost use Rattle.vortex_arrays_core.specs.RawRows.{raw_string, raw_row, raw_span
 use crate::array::{ArrayLayout, ArrayRef, StringKind, Validity};
 use bytes::Bytes;
 use std::alloc::{AllocError, Global};
-use vortex_arrays_buffer::bit_buffer::BitBuffer;
-use vortex_arrays_buffer::buffer::Buffer;
-use vortex_arrays_buffer::error::ArrayError;
-use vortex_arrays_buffer::primitive_buffer::PrimitiveBuffer;
+use vortex_arrays_buffer::{ArrayError, BitBuffer, Buffer, PrimitiveBuffer};
+use vortex_arrays_view::shared::shared_bytes;
 use vortex_arrays_view::view::BinaryView;
 use vortex_dtype_core::BufferString;
 use vortex_model::laws::tests_of_validity_are_right;
@@ -155,20 +152,6 @@ fn string_value(
         Ok(Some(of_bytes(kind, bytes)))
     } else {
         Ok(None)
-    }
-}
-
-/// The value of a view. A long one is shared with its buffer and not copied.
-fn shared_bytes(alloc: Global, view: &BinaryView, buffers: &[Bytes]) -> Result<Bytes, AllocError>
-    requires { HasValue view.now buffers.now }
-    ensures { IfOk result (λ bytes. bytes ≡ value_of view.now buffers.now) }
-{
-    if view.is_inlined() {
-        Bytes::copy_from_slice(alloc, view.bytes(buffers))
-    } else {
-        let reference = view.as_view();
-        let buffer = &buffers[reference.buffer_index as usize];
-        buffer.slice(reference.as_range())
     }
 }
 

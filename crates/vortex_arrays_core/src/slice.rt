@@ -13,10 +13,7 @@ use bytes::Bytes;
 use std::alloc::{AllocError, Global};
 use std::ops::Range;
 use std::rc::Rc;
-use vortex_arrays_buffer::bit_buffer::BitBuffer;
-use vortex_arrays_buffer::buffer::Buffer;
-use vortex_arrays_buffer::error::ArrayError;
-use vortex_arrays_buffer::primitive_buffer::PrimitiveBuffer;
+use vortex_arrays_buffer::{ArrayError, BitBuffer, Buffer, PrimitiveBuffer};
 use vortex_arrays_view::view::BinaryView;
 use vortex_dtype_ptype::field_names::FieldNames;
 

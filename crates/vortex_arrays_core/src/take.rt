@@ -9,8 +9,7 @@ ghost use Rattle.vortex_arrays_model.specs.Parts.{AreWithin};
 
 use crate::array::{ArrayRef, Validity};
 use std::alloc::{AllocError, Global};
-use vortex_arrays_buffer::bit_buffer::BitBuffer;
-use vortex_arrays_buffer::error::ArrayError;
+use vortex_arrays_buffer::{ArrayError, BitBuffer};
 
 impl ArrayRef {
     /// Whether the values are integers that are never below zero.

@@ -8,8 +8,7 @@ ghost use Rattle.vortex_arrays_core.specs.Faults.{IsValidityFault};
 
 use crate::array::{ArrayRef, Validity};
 use std::alloc::{AllocError, Global};
-use vortex_arrays_buffer::bit_buffer::BitBuffer;
-use vortex_arrays_buffer::error::ArrayError;
+use vortex_arrays_buffer::{ArrayError, BitBuffer};
 use vortex_dtype_ptype::nullability::Nullability;
 
 impl Validity {

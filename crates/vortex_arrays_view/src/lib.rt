@@ -7,4 +7,5 @@ pub mod inlined;
 pub mod laws;
 pub mod lengths;
 pub mod reference;
+pub mod shared;
 pub mod view;
