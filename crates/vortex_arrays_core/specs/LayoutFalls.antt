@@ -11,7 +11,8 @@ use Rattle.vortex_arrays_core.specs.LayoutOf.{layout_of}
 use Rattle.vortex_arrays_model.specs.Parts.{columns_of}
 
 -- no field is larger than all of the columns together
-most_le-columns_size : (ns : List (List ℕ)) (rest : List Layout) → most (λ y. size_of y + 1) rest ≤ columns_size (columns_of ns rest) + 1
+most_le-columns_size : (ns : List (List ℕ)) (rest : List Layout) →
+    most (λ y. size_of y + 1) rest ≤ columns_size (columns_of ns rest) + 1
 most_le-columns_size ns [] = omega arith
 most_le-columns_size [] (a ∷ rest) = omega (arith, most_le-columns_size [] rest)
 most_le-columns_size (n ∷ ns) (a ∷ rest) = omega (arith, most_le-columns_size ns rest)
@@ -39,7 +40,11 @@ depth_le-size (ListView e o s f NonNullable) = omega arith
 depth_le-size (ListView e o s f AllValid) = omega arith
 depth_le-size (ListView e o s f AllInvalid) = omega arith
 depth_le-size (ListView e o s f (Array a)) = omega arith
-depth_le-size (Struct names fields n NonNullable) = omega (arith, most_le-columns_size names.value fields.items)
-depth_le-size (Struct names fields n AllValid) = omega (arith, most_le-columns_size names.value fields.items)
-depth_le-size (Struct names fields n AllInvalid) = omega (arith, most_le-columns_size names.value fields.items)
-depth_le-size (Struct names fields n (Array a)) = omega (arith, most_le-columns_size names.value fields.items)
+depth_le-size (Struct names fields n NonNullable) =
+    omega (arith, most_le-columns_size names.value fields.items)
+depth_le-size (Struct names fields n AllValid) =
+    omega (arith, most_le-columns_size names.value fields.items)
+depth_le-size (Struct names fields n AllInvalid) =
+    omega (arith, most_le-columns_size names.value fields.items)
+depth_le-size (Struct names fields n (Array a)) =
+    omega (arith, most_le-columns_size names.value fields.items)

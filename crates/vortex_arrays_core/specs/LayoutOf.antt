@@ -25,7 +25,8 @@ strings_of Binary = byte_strings
 abbrev pub layout_of : ArrayLayout → Layout
 layout_of (Bool bits v) = bools bits (valid_of v)
 layout_of (Primitive ns v) = numbers (kind_of_numbers ns) (integers_of ns) (valid_of v)
-layout_of (VarBinView s views buffers v) = strings (strings_of s) views buffers.value.items (valid_of v)
+layout_of (VarBinView s views buffers v) =
+    strings (strings_of s) views buffers.value.items (valid_of v)
 layout_of (Constant s n) = constant (scalar_type s) (scalar_raw s) n
 layout_of (Dict c v f) = dictionary c v f
 layout_of (FixedSizeList e s n v) = fixed_lists e s n (valid_of v)

@@ -22,5 +22,6 @@ IsSliceFault e n start end = ⊥
 abbrev pub IsTakeFault : ArrayError → ℕ → Layout → Type 0
 IsTakeFault Memory n positions = Unit {0}
 IsTakeFault WrongType n positions = ¬ IsUnsigned (array_type_of positions)
-IsTakeFault OutOfRange n positions = IsUnsigned (array_type_of positions) × (¬ AreWithin positions n)
+IsTakeFault OutOfRange n positions =
+    IsUnsigned (array_type_of positions) × (¬ AreWithin positions n)
 IsTakeFault e n positions = ⊥

@@ -23,12 +23,18 @@ raw_string byte_strings bs = raw_byte_string bs
 abbrev mutual
   pub raw_row : Layout → ℕ → Raw
   raw_row (bools bs v) i = cond (is_valid v i) (raw_boolean (slice_index_or bs i false)) raw_null
-  raw_row (numbers k zs v) i = cond (is_valid v i) (raw_number k (slice_index_or zs i (pos 0))) raw_null
-  raw_row (strings s vs bs v) i = cond (is_valid v i) (raw_string s (value_of (slice_index_or vs i []) bs)) raw_null
+  raw_row (numbers k zs v) i =
+      cond (is_valid v i) (raw_number k (slice_index_or zs i (pos 0))) raw_null
+  raw_row (strings s vs bs v) i =
+      cond (is_valid v i) (raw_string s (value_of (slice_index_or vs i []) bs)) raw_null
   raw_row (constant k r n) i = r
   raw_row (dictionary c v f) i = raw_pick (content_at c i) (λ j. raw_row v j)
-  raw_row (fixed_lists e s n v) i = cond (is_valid v i) (raw_tuple (raw_span (λ j. raw_row e j) (i * s) s)) raw_null
-  raw_row (list_views e o s f v) i = cond (is_valid v i) (raw_tuple (raw_span (λ j. raw_row e j) (number_in (content_at o i)) (number_in (content_at s i)))) raw_null
+  raw_row (fixed_lists e s n v) i =
+      cond (is_valid v i) (raw_tuple (raw_span (λ j. raw_row e j) (i * s) s)) raw_null
+  raw_row (list_views e o s f v) i =
+      cond (is_valid v i) (raw_tuple
+      (raw_span (λ j. raw_row e j) (number_in (content_at o i)) (number_in (content_at s i))))
+      raw_null
   raw_row (records cs n v) i = cond (is_valid v i) (raw_tuple (raw_fields cs i)) raw_null
 
   pub raw_fields : Columns → ℕ → Raws

@@ -33,7 +33,8 @@ abbrev pub HasValueAt : List (List ℕ) → List (List ℕ) → Valid → ℕ �
 HasValueAt views buffers v i = IsTrue (is_valid v i) → HasValue (slice_index_or views i []) buffers
 
 abbrev pub HoldsAt : Strings → List (List ℕ) → List (List ℕ) → Valid → ℕ → Type 0
-HoldsAt s views buffers v i = IsTrue (is_valid v i) → IsString s (value_of (slice_index_or views i []) buffers)
+HoldsAt s views buffers v i =
+    IsTrue (is_valid v i) → IsString s (value_of (slice_index_or views i []) buffers)
 
 -- each row
 abbrev pub HaveValues : List (List ℕ) → List (List ℕ) → Valid → Type 0

@@ -23,12 +23,17 @@ pub record HasNoText (views buffers : List (List ℕ)) (v : Valid) : Type 0 wher
   pub other : IsUtf8 (value_of (slice_index_or views row []) buffers) → ⊥
 
 -- The type goes first, then the length, then the views, then the texts.
-abbrev pub IsStringsFault : ArrayError → LogicalType → List (List ℕ) → List (List ℕ) → Valid → Type 0
+abbrev pub IsStringsFault : ArrayError → LogicalType → List (List ℕ) → List (List ℕ) → Valid →
+    Type 0
 IsStringsFault error.Memory k views buffers v = Unit {0}
-IsStringsFault error.WrongType k views buffers v = (IsStringType k v → ⊥) ⊎ IsValidityFault error.WrongType v (length views)
-IsStringsFault error.LengthMismatch k views buffers v = IsStringType k v × IsValidityFault error.LengthMismatch v (length views)
-IsStringsFault error.BadView k views buffers v = IsStringType k v × HasLength v (length views) × HasBadView views buffers v
-IsStringsFault error.NotUtf8 k views buffers v = IsStringType k v × HasLength v (length views) × HaveValues views buffers v × (strings_in k ≡ texts) × HasNoText views buffers v
+IsStringsFault error.WrongType k views buffers v =
+    (IsStringType k v → ⊥) ⊎ IsValidityFault error.WrongType v (length views)
+IsStringsFault error.LengthMismatch k views buffers v =
+    IsStringType k v × IsValidityFault error.LengthMismatch v (length views)
+IsStringsFault error.BadView k views buffers v =
+    IsStringType k v × HasLength v (length views) × HasBadView views buffers v
+IsStringsFault error.NotUtf8 k views buffers v = IsStringType k v × HasLength v (length views) ×
+    HaveValues views buffers v × (strings_in k ≡ texts) × HasNoText views buffers v
 IsStringsFault e k views buffers v = ⊥
 
 -- why views have no values

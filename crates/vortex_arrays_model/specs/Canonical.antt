@@ -18,12 +18,15 @@ items_of c = []
 abbrev pub start_of : List Content → ℕ → ℕ
 start_of rows i = sum_by (λ row. length (items_of row)) (take i rows)
 
--- Each list begins behind those of the rows before, has as many elements as the row has items, and the items stand end to end.
-pub record IsCanonical (rows : List Content) (offsets sizes : List ℕ) (elements : List Content) : Type 0 where
+-- Each list begins behind those of the rows before, has as many elements as the row has items, and
+-- the items stand end to end.
+pub record IsCanonical (rows : List Content) (offsets sizes : List ℕ)
+    (elements : List Content) : Type 0 where
   pub many_offsets : length offsets ≡ length rows
   pub many_sizes : length sizes ≡ length rows
   pub offset : (i : ℕ) → i < length rows → slice_index_or offsets i 0 ≡ start_of rows i
-  pub size : (i : ℕ) → i < length rows → slice_index_or sizes i 0 ≡ length (items_of (slice_index_or rows i null))
+  pub size : (i : ℕ) → i < length rows → slice_index_or sizes i 0 ≡
+      length (items_of (slice_index_or rows i null))
   pub end_to_end : elements ≡ flat_map items_of rows
 
 -- an array of these numbers

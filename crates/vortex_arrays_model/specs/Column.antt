@@ -5,7 +5,8 @@ use Rattle.vortex_model.specs.Content.{null}
 use Rattle.vortex_model.specs.Path.{Names, Positions, type_at, at, type_of_column, column as column_value}
 use Rattle.vortex_arrays_model.specs.Layout.{Layout, Valid, Columns, no_columns, column, len_of, array_type_of, nullability_by, content_at, is_valid, rows_of, IsSound, HasLength}
 
--- r is the column of a path of names: its rows are what the rows of a have there, and its type the type there
+-- r is the column of a path of names: its rows are what the rows of a have there, and its type the
+-- type there
 pub record IsColumn (a : Layout) (xs : Names) (r : Layout) : Type 0 where
   pub sound : IsSound r
   pub kind : type_of_column (array_type_of a) xs ≡ Some (array_type_of r)

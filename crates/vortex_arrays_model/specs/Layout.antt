@@ -12,8 +12,10 @@ pub data Strings : Type 0 where
   byte_strings : Strings
 
 mutual
-  -- Numbers are of one kind. Views come with their buffers, a constant with its type and its length, a dictionary's codes with its values and whether each value is known to be
-  -- referenced, fixed lists with their elements, their size and how many they are, list views with their elements, offsets, sizes and whether they are known to follow one another.
+  -- Numbers are of one kind. Views come with their buffers, a constant with its type and its
+  -- length, a dictionary's codes with its values and whether each value is known to be
+  -- referenced, fixed lists with their elements, their size and how many they are, list views with
+  -- their elements, offsets, sizes and whether they are known to follow one another.
   pub data Layout : Type 0 where
     bools : List Bool → Valid → Layout
     numbers : IntKind → List ℤ → Valid → Layout
@@ -84,7 +86,9 @@ abbrev mutual
   array_type_of (numbers k zs v) = integer_type k (nullability_by v)
   array_type_of (strings s vs bs v) = type_of_strings s (nullability_by v)
   array_type_of (constant k r n) = k
-  array_type_of (dictionary c v f) = with_nullability (either_nullable (nullability_of (array_type_of c)) (nullability_of (array_type_of v))) (array_type_of v)
+  array_type_of (dictionary c v f) =
+      with_nullability (either_nullable (nullability_of (array_type_of c))
+      (nullability_of (array_type_of v))) (array_type_of v)
   array_type_of (fixed_lists e s n v) = fixed_list (array_type_of e) s (nullability_by v)
   array_type_of (list_views e o s f v) = list (array_type_of e) (nullability_by v)
   array_type_of (records cs n v) = struct (fields_of cs) (nullability_by v)
@@ -125,11 +129,15 @@ abbrev mutual
   pub content_at : Layout → ℕ → Content
   content_at (bools bs v) i = cond (is_valid v i) (boolean (slice_index_or bs i false)) null
   content_at (numbers k zs v) i = cond (is_valid v i) (integer (slice_index_or zs i (pos 0))) null
-  content_at (strings s vs bs v) i = cond (is_valid v i) (string_content s (value_of (slice_index_or vs i []) bs)) null
+  content_at (strings s vs bs v) i =
+      cond (is_valid v i) (string_content s (value_of (slice_index_or vs i []) bs)) null
   content_at (constant k r n) i = content_of r
   content_at (dictionary c v f) i = pick (content_at c i) (λ j. content_at v j)
-  content_at (fixed_lists e s n v) i = cond (is_valid v i) (tuple (span (λ j. content_at e j) (i * s) s)) null
-  content_at (list_views e o s f v) i = cond (is_valid v i) (tuple (span (λ j. content_at e j) (number_in (content_at o i)) (number_in (content_at s i)))) null
+  content_at (fixed_lists e s n v) i =
+      cond (is_valid v i) (tuple (span (λ j. content_at e j) (i * s) s)) null
+  content_at (list_views e o s f v) i =
+      cond (is_valid v i) (tuple
+      (span (λ j. content_at e j) (number_in (content_at o i)) (number_in (content_at s i)))) null
   content_at (records cs n v) i = cond (is_valid v i) (tuple (row_at cs i)) null
 
   -- the row is not null
@@ -184,18 +192,25 @@ AllReferenced c v = (j : ℕ) → j < len_of v → IsReferenced c (len_of c) j
 
 -- each list begins where the one before ends
 abbrev pub AreEndToEnd : Layout → Layout → Type 0
-AreEndToEnd o s = (i : ℕ) → suc i < len_of o → number_in (content_at o (suc i)) ≡ number_in (content_at o i) + number_in (content_at s i)
+AreEndToEnd o s = (i : ℕ) → suc i < len_of o → number_in (content_at o (suc i)) ≡
+    number_in (content_at o i) + number_in (content_at s i)
 
 -- The parts fit together, at every level.
 abbrev mutual
   pub IsSound : Layout → Type 0
   IsSound (bools bs v) = HasLength v (length bs)
   IsSound (numbers k zs v) = All (InRange k) zs × HasLength v (length zs)
-  IsSound (strings s vs bs v) = ((i : ℕ) → i < length vs → IsTrue (is_valid v i) → HasValue (slice_index_or vs i []) bs × IsString s (value_of (slice_index_or vs i []) bs)) × HasLength v (length vs)
+  IsSound (strings s vs bs v) =
+      ((i : ℕ) → i < length vs → IsTrue (is_valid v i) → HasValue (slice_index_or vs i []) bs ×
+      IsString s (value_of (slice_index_or vs i []) bs)) × HasLength v (length vs)
   IsSound (constant k r n) = IsValid k r
-  IsSound (dictionary c v f) = IsSound c × IsSound v × IsInteger (array_type_of c) × ((i : ℕ) → i < len_of c → IsCode (len_of v) (content_at c i)) × (IsTrue f → AllReferenced c v)
+  IsSound (dictionary c v f) = IsSound c × IsSound v × IsInteger (array_type_of c) ×
+      ((i : ℕ) → i < len_of c → IsCode (len_of v) (content_at c i)) × (IsTrue f → AllReferenced c v)
   IsSound (fixed_lists e s n v) = IsSound e × (len_of e ≡ n * s) × HasLength v n
-  IsSound (list_views e o s f v) = IsSound e × IsSound o × IsSound s × IsOffsets (array_type_of o) × IsOffsets (array_type_of s) × (len_of s ≡ len_of o) × HasLength v (len_of o) × ((i : ℕ) → i < len_of o → IsView (len_of e) (content_at o i) (content_at s i)) × (IsTrue f → AreEndToEnd o s)
+  IsSound (list_views e o s f v) = IsSound e × IsSound o × IsSound s × IsOffsets (array_type_of o) ×
+      IsOffsets (array_type_of s) × (len_of s ≡ len_of o) × HasLength v (len_of o) ×
+      ((i : ℕ) → i < len_of o → IsView (len_of e) (content_at o i) (content_at s i)) ×
+      (IsTrue f → AreEndToEnd o s)
   IsSound (records cs n v) = HaveLength cs n × HasLength v n
 
   -- a validity fits so many rows
@@ -203,7 +218,8 @@ abbrev mutual
   HasLength required n = Unit {0}
   HasLength all_valid n = Unit {0}
   HasLength all_null n = Unit {0}
-  HasLength (by_array a) n = IsSound a × (len_of a ≡ n) × (array_type_of a ≡ boolean_type non_nullable)
+  HasLength (by_array a) n =
+      IsSound a × (len_of a ≡ n) × (array_type_of a ≡ boolean_type non_nullable)
 
   -- each column fits so many rows
   pub HaveLength : Columns → ℕ → Type 0

@@ -38,11 +38,13 @@ abbrev pub is_valid_some : Valid → Option ℕ → Bool
 is_valid_some v None = false
 is_valid_some v (Some i) = is_valid v i
 
--- r is sound and has n rows, those of a at the positions f, and null where f has none. It is of the type of a, nullable also where the positions are, as m says.
+-- r is sound and has n rows, those of a at the positions f, and null where f has none. It is of the
+-- type of a, nullable also where the positions are, as m says.
 pub record PicksSome (a r : Layout) (m : Nullability) (n : ℕ) (f : ℕ → Option ℕ) : Type 0 where
   pub sound : IsSound r
   pub len : len_of r ≡ n
-  pub kind : array_type_of r ≡ with_nullability (either_nullable m (nullability_of (array_type_of a))) (array_type_of a)
+  pub kind : array_type_of r ≡
+      with_nullability (either_nullable m (nullability_of (array_type_of a))) (array_type_of a)
   pub content : (i : ℕ) → i < n → content_at r i ≡ content_at_some a (f i)
 
 -- the same of which rows are null

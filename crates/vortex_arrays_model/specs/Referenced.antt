@@ -6,7 +6,8 @@ use Rattle.vortex_arrays_model.specs.Layout.{Layout, len_of, content_at, IsRefer
 -- bit j is b exactly where one of the first n codes is j
 pub record MarksReferenced (c : Layout) (n : ℕ) (b : Bool) (mask : List Bool) : Type 0 where
   pub referenced : (j : ℕ) → slice_index_or mask j (not b) ≡ b → IsReferenced c n j
-  pub marked : (i j : ℕ) → i < n → content_at c i ≡ integer (pos j) → slice_index_or mask j (not b) ≡ b
+  pub marked : (i j : ℕ) → i < n → content_at c i ≡ integer (pos j) →
+      slice_index_or mask j (not b) ≡ b
 
 -- a content stands in some row
 pub record Occurs (a : Layout) (x : Content) : Type 0 where

@@ -7,7 +7,8 @@ use Rattle.vortex_arrays_model.specs.Picks.{Picks}
 -- the least offset and the greatest end, null and empty lists counted
 pub record AreBounds (o s : Layout) (from to : ℕ) : Type 0 where
   pub least : (i : ℕ) → i < len_of o → from ≤ number_in (content_at o i)
-  pub greatest : (i : ℕ) → i < len_of o → number_in (content_at o i) + number_in (content_at s i) ≤ to
+  pub greatest : (i : ℕ) → i < len_of o → number_in (content_at o i) +
+      number_in (content_at s i) ≤ to
   pub lowest : ℕ
   pub lowest_within : lowest < len_of o
   pub begins : number_in (content_at o lowest) ≡ from
@@ -15,7 +16,8 @@ pub record AreBounds (o s : Layout) (from to : ℕ) : Type 0 where
   pub highest_within : highest < len_of o
   pub ends : number_in (content_at o highest) + number_in (content_at s highest) ≡ to
 
--- r has the elements from the least offset to the greatest end, none where there is no list, and offsets that count from there
+-- r has the elements from the least offset to the greatest end, none where there is no list, and
+-- offsets that count from there
 pub record IsTrimmed (e o s : Layout) (flag : Bool) (v : Valid) (r : Layout) : Type 0 where
   pub elements : Layout
   pub offsets : Layout
@@ -26,4 +28,5 @@ pub record IsTrimmed (e o s : Layout) (flag : Bool) (v : Valid) (r : Layout) : T
   pub without_rows : len_of o ≡ 0 → from ≡ to
   pub part : Picks e elements (to - from) (λ j. from + j)
   pub many : len_of offsets ≡ len_of o
-  pub moved : (i : ℕ) → i < len_of o → content_at offsets i ≡ integer (pos (number_in (content_at o i) - from))
+  pub moved : (i : ℕ) → i < len_of o → content_at offsets i ≡
+      integer (pos (number_in (content_at o i) - from))

@@ -31,5 +31,6 @@ abbrev pub IsListViewFault : ArrayError → Layout → Layout → Layout → Val
 IsListViewFault error.Memory e o s v = Unit {0}
 IsListViewFault error.WrongType e o s v = ¬ AreTyped o s v
 IsListViewFault error.LengthMismatch e o s v = AreTyped o s v × (¬ AreAsMany o s v)
-IsListViewFault error.ViewOutOfRange e o s v = AreTyped o s v × AreAsMany o s v × (¬ LieWithin (len_of e) o s)
+IsListViewFault error.ViewOutOfRange e o s v =
+    AreTyped o s v × AreAsMany o s v × (¬ LieWithin (len_of e) o s)
 IsListViewFault x e o s v = ⊥

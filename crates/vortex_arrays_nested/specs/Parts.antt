@@ -1,4 +1,5 @@
--- The parts of an array of lists. An array of anything else has none: what is said of it here means nothing.
+-- The parts of an array of lists. An array of anything else has none: what is said of it here means
+-- nothing.
 use Rattle.std.specs.Prelude.{ℕ, Bool, false}
 use Rattle.vortex_arrays_model.specs.Layout.{Layout, fixed_lists, list_views}
 

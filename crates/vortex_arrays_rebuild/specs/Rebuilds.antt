@@ -17,7 +17,8 @@ IsLaidOutView a r = IsLaidOut (elements_of a) (offsets_of a) (sizes_of a) (valid
 
 -- r is what the view a is rebuilt to: itself where it is flagged or has no rows
 abbrev pub IsRebuiltView : Layout → Layout → Type 0
-IsRebuiltView a r = IsRebuilt (elements_of a) (offsets_of a) (sizes_of a) (is_flagged a) (valid_in a) r
+IsRebuiltView a r =
+    IsRebuilt (elements_of a) (offsets_of a) (sizes_of a) (is_flagged a) (valid_in a) r
 
 -- how many elements the rows of lists have together, null rows none
 abbrev pub total_of : List Content → ℕ
@@ -27,7 +28,8 @@ total_of rows = sum_by (λ row. length (items_of row)) rows
 abbrev pub IsRebuiltBy : ListViewRebuildMode → Layout → Layout → Type 0
 IsRebuiltBy mode.MakeZeroCopyToList a r = IsRebuiltView a r
 IsRebuiltBy mode.TrimElements a r = IsTrimmedView a r
-IsRebuiltBy mode.MakeExact a r = (IsTrue (is_flagged a) → IsTrimmedView a r) × (IsFalse (is_flagged a) → IsRebuiltView a r)
+IsRebuiltBy mode.MakeExact a r =
+    (IsTrue (is_flagged a) → IsTrimmedView a r) × (IsFalse (is_flagged a) → IsRebuiltView a r)
 IsRebuiltBy mode.OverlapCompression a r = (len_of a ≡ 0) × (r ≡ a)
 
 -- rows of lists that have together more elements than can be counted

@@ -26,7 +26,8 @@ pub record LieBetween (a : Layout) (from to : ℕ) : Type 0 where
 pub record IsLowered (o : Layout) (by : ℕ) (r : Layout) : Type 0 where
   pub sound : IsSound r
   pub many : len_of r ≡ len_of o
-  pub moved : (i : ℕ) → i < len_of o → content_at r i ≡ integer (pos (number_in (content_at o i) - by))
+  pub moved : (i : ℕ) → i < len_of o → content_at r i ≡
+      integer (pos (number_in (content_at o i) - by))
   pub kind : array_type_of r ≡ array_type_of o
 
 -- r has these numbers lowered, as integers of the kind
@@ -50,5 +51,6 @@ pub record HasElementsBetween (a : Layout) (from to : ℕ) (r : Layout) : Type 0
 -- r is the view a trimmed: the elements from the least offset to the greatest end, and offsets of
 -- the same kind
 abbrev pub IsTrimmedView : Layout → Layout → Type 0
-IsTrimmedView a r = IsTrimmed (elements_of a) (offsets_of a) (sizes_of a) (is_flagged a) (valid_in a) r
+IsTrimmedView a r =
+    IsTrimmed (elements_of a) (offsets_of a) (sizes_of a) (is_flagged a) (valid_in a) r
     × (array_type_of (offsets_of r) ≡ array_type_of (offsets_of a))

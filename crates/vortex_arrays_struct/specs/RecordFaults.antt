@@ -17,7 +17,8 @@ TellsOf (by_array a) n = len_of a ≡ n
 TellsOf v n = Unit {0}
 
 -- as many names as fields, and n rows in each part
-pub record FitTogether (names : List (List ℕ)) (fields : List Layout) (n : ℕ) (v : Valid) : Type 0 where
+pub record FitTogether (names : List (List ℕ)) (fields : List Layout) (n : ℕ) (v : Valid) : Type 0
+    where
   pub named : length names ≡ length fields
   pub rows : All (λ a. len_of a ≡ n) fields
   pub validity : TellsOf v n

@@ -7,25 +7,33 @@ use Rattle.vortex_arrays_buffer.specs.declared.error.ArrayError.TheVariants as e
 use Rattle.vortex_arrays_view.specs.Cuttings.{value_in, IsCutting, IsFewest}
 use Rattle.vortex_arrays_view.specs.Lengths.{counts_of, AddUp}
 
--- A view of the value beside these buffers, behind so many others. It is the value itself where that is short.
-pub record IsViewOf (value : List ℕ) (first : ℕ) (buffers : List (List ℕ)) (view : List ℕ) : Type 0 where
+-- A view of the value beside these buffers, behind so many others. It is the value itself where
+-- that is short.
+pub record IsViewOf (value : List ℕ) (first : ℕ) (buffers : List (List ℕ)) (view : List ℕ) : Type 0
+    where
   pub short : length value ≤ 12 → view ≡ short_view value
-  pub reads : (others : List (List ℕ)) → length others ≡ first → HasValue view (others ++ buffers) × (value_of view (others ++ buffers) ≡ value)
+  pub reads : (others : List (List ℕ)) → length others ≡ first → HasValue view (others ++ buffers) ×
+      (value_of view (others ++ buffers) ≡ value)
 
 -- a view for each of the values
-pub record AreViews (bytes lengths : List ℕ) (first : ℕ) (buffers views : List (List ℕ)) : Type 0 where
+pub record AreViews (bytes lengths : List ℕ) (first : ℕ) (buffers views : List (List ℕ)) : Type 0
+    where
   pub count : length views ≡ length lengths
-  pub each : (i : ℕ) → i < length lengths → IsViewOf (value_in bytes lengths i) first buffers (slice_index_or views i [])
+  pub each : (i : ℕ) → i < length lengths →
+      IsViewOf (value_in bytes lengths i) first buffers (slice_index_or views i [])
 
--- The bytes in the fewest buffers, whose indices from the first on are numbers of 32 bits, and views of the values.
-pub record IsBuilt (bytes lengths : List ℕ) (first limit : ℕ) (buffers views : List (List ℕ)) : Type 0 where
+-- The bytes in the fewest buffers, whose indices from the first on are numbers of 32 bits, and
+-- views of the values.
+pub record IsBuilt (bytes lengths : List ℕ) (first limit : ℕ) (buffers views : List (List ℕ)) : Type
+    0 where
   pub fewest : IsFewest bytes lengths limit buffers
   pub indices : first + length buffers ≤ 2 ^ 32
   pub viewed : AreViews bytes lengths first buffers views
 
 -- each cutting has a buffer whose index is past 32 bits
 abbrev pub IsTooMany : List ℕ → List ℕ → ℕ → ℕ → Type 0
-IsTooMany bytes lengths first limit = (buffers : List (List ℕ)) → IsCutting bytes lengths limit buffers → 2 ^ 32 < first + length buffers
+IsTooMany bytes lengths first limit = (buffers : List (List ℕ)) →
+    IsCutting bytes lengths limit buffers → 2 ^ 32 < first + length buffers
 
 -- why values that are within the limit are not placed
 abbrev pub IsPlaceFault : ArrayError → List ℕ → List ℕ → ℕ → ℕ → Type 0
@@ -36,14 +44,16 @@ IsPlaceFault e bytes lengths first limit = ⊥
 -- why values that add up to the bytes are not
 abbrev pub IsLimitFault : ArrayError → List ℕ → List ℕ → ℕ → ℕ → Type 0
 IsLimitFault error.Memory bytes lengths first limit = Unit {0}
-IsLimitFault error.Total bytes lengths first limit = Any (λ count. limit < count) lengths ⊎ IsTooMany bytes lengths first limit
+IsLimitFault error.Total bytes lengths first limit =
+    Any (λ count. limit < count) lengths ⊎ IsTooMany bytes lengths first limit
 IsLimitFault e bytes lengths first limit = ⊥
 
 -- why nothing is built from bytes and lengths
 abbrev pub IsBuildFault : ArrayError → List ℕ → List ℤ → ℕ → ℕ → Type 0
 IsBuildFault error.Memory bytes lengths first limit = Unit {0}
 IsBuildFault error.LengthMismatch bytes lengths first limit = ¬ (AddUp lengths (length bytes))
-IsBuildFault error.Total bytes lengths first limit = AddUp lengths (length bytes) × IsLimitFault error.Total bytes (counts_of lengths) first limit
+IsBuildFault error.Total bytes lengths first limit =
+    AddUp lengths (length bytes) × IsLimitFault error.Total bytes (counts_of lengths) first limit
 IsBuildFault e bytes lengths first limit = ⊥
 
 -- the limit that holds: no buffer is longer than a view can refer to

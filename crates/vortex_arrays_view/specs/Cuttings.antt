@@ -24,4 +24,5 @@ pub record IsCutting (bytes lengths : List ℕ) (limit : ℕ) (buffers : List (L
 -- A cutting, and none has fewer buffers.
 pub record IsFewest (bytes lengths : List ℕ) (limit : ℕ) (buffers : List (List ℕ)) : Type 0 where
   pub cutting : IsCutting bytes lengths limit buffers
-  pub least : (others : List (List ℕ)) → IsCutting bytes lengths limit others → length buffers ≤ length others
+  pub least : (others : List (List ℕ)) → IsCutting bytes lengths limit others →
+      length buffers ≤ length others

@@ -19,23 +19,28 @@ pub record IsZeroPadded (b : List ℕ) : Type 0 where
 
 -- short views by prefix, then by tail, then by size
 abbrev pub inlined_cmp : List ℕ → List ℕ → Ordering
-inlined_cmp a b = ordering_then (nat_cmp (order_prefix_in a) (order_prefix_in b)) (ordering_then (nat_cmp (order_tail_in a) (order_tail_in b)) (nat_cmp (size_of a) (size_of b)))
+inlined_cmp a b = ordering_then (nat_cmp (order_prefix_in a) (order_prefix_in b))
+    (ordering_then (nat_cmp (order_tail_in a) (order_tail_in b)) (nat_cmp (size_of a) (size_of b)))
 
 -- Of zero-padded views that is the order of their values.
 abbrev pub InlinedOrder : Type 0
-InlinedOrder = (a b : List ℕ) → IsZeroPadded a → IsZeroPadded b → inlined_cmp a b ≡ bytes_cmp (inlined_of a) (inlined_of b)
+InlinedOrder = (a b : List ℕ) → IsZeroPadded a → IsZeroPadded b →
+    inlined_cmp a b ≡ bytes_cmp (inlined_of a) (inlined_of b)
 
 -- Zero-padded views are the same exactly where their values are.
 abbrev pub InlinedEquality : Type 0
-InlinedEquality = (a b : List ℕ) → IsZeroPadded a → IsZeroPadded b → (a ≡ b) ↔ (inlined_of a ≡ inlined_of b)
+InlinedEquality =
+    (a b : List ℕ) → IsZeroPadded a → IsZeroPadded b → (a ≡ b) ↔ (inlined_of a ≡ inlined_of b)
 
 -- Of two values with unequal words the lower word belongs to the lower value.
 abbrev pub PrefixOrder : Type 0
-PrefixOrder = (v w : List ℕ) → AreBytes v → AreBytes w → order_prefix_of v < order_prefix_of w → bytes_cmp v w ≡ Less
+PrefixOrder = (v w : List ℕ) → AreBytes v → AreBytes w → order_prefix_of v < order_prefix_of w →
+    bytes_cmp v w ≡ Less
 
 -- The view of a short value is zero-padded, and stands for the value.
 abbrev pub ShortViewsAreZeroPadded : Type 0
-ShortViewsAreZeroPadded = (v : List ℕ) → AreBytes v → length v ≤ 12 → IsZeroPadded (short_view v) × (inlined_of (short_view v) ≡ v)
+ShortViewsAreZeroPadded = (v : List ℕ) → AreBytes v → length v ≤ 12 → IsZeroPadded (short_view v) ×
+    (inlined_of (short_view v) ≡ v)
 
 -- the value lies there in one of the buffers
 pub record LiesAt (v : List ℕ) (buffers : List (List ℕ)) (index offset : ℕ) : Type 0 where
@@ -44,8 +49,14 @@ pub record LiesAt (v : List ℕ) (buffers : List (List ℕ)) (index offset : ℕ
 
 -- The view of a value that lies there if it is long reads it back.
 abbrev pub ViewsReadBack : Type 0
-ViewsReadBack = (v : List ℕ) (buffers : List (List ℕ)) (index offset : ℕ) → length v < 2 ^ 32 → index < 2 ^ 32 → offset < 2 ^ 32 → (12 < length v → LiesAt v buffers index offset) → HasValue (view_of v index offset) buffers × (value_of (view_of v index offset) buffers ≡ v)
+ViewsReadBack = (v : List ℕ) (buffers : List (List ℕ)) (index offset : ℕ) → length v < 2 ^ 32 →
+    index < 2 ^ 32 → offset < 2 ^ 32 → (12 < length v → LiesAt v buffers index offset) →
+    HasValue (view_of v index offset) buffers × (value_of (view_of v index offset) buffers ≡ v)
 
 -- The view of a value has its parts.
 abbrev pub ViewsHaveTheirParts : Type 0
-ViewsHaveTheirParts = (v : List ℕ) (index offset : ℕ) → length v < 2 ^ 32 → (prefix_in (view_of v index offset) ≡ prefix_of v) × ((head_in (view_of v index offset) ≡ head_of v) × ((order_prefix_in (view_of v index offset) ≡ order_prefix_of v) × (length v ≤ 12 → order_tail_in (view_of v index offset) ≡ order_tail_of v)))
+ViewsHaveTheirParts = (v : List ℕ) (index offset : ℕ) → length v < 2 ^ 32 →
+    (prefix_in (view_of v index offset) ≡ prefix_of v) ×
+    ((head_in (view_of v index offset) ≡ head_of v) ×
+    ((order_prefix_in (view_of v index offset) ≡ order_prefix_of v) ×
+    (length v ≤ 12 → order_tail_in (view_of v index offset) ≡ order_tail_of v)))

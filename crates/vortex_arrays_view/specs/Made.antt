@@ -12,13 +12,17 @@ short_view value = to_le_bytes w32 (length value) ++ padded 12 value
 
 -- the view of a longer value, which lies in a buffer
 abbrev pub long_view : ℕ → List ℕ → ℕ → ℕ → List ℕ
-long_view size prefix index offset = to_le_bytes w32 size ++ (prefix ++ (to_le_bytes w32 index ++ to_le_bytes w32 offset))
+long_view size prefix index offset =
+    to_le_bytes w32 size ++ (prefix ++ (to_le_bytes w32 index ++ to_le_bytes w32 offset))
 
 -- the view of a value, which lies there in that buffer if it is long
 abbrev pub view_of : List ℕ → ℕ → ℕ → List ℕ
-view_of value index offset = cond (leb (length value) 12) (short_view value) (long_view (length value) (take 4 value) index offset)
+view_of value index offset =
+    cond (leb (length value) 12) (short_view value)
+    (long_view (length value) (take 4 value) index offset)
 
--- The first four bytes behind the size; size and prefix as one number; and what orders views: the prefix, and the last eight bytes, as numbers with the first byte highest.
+-- The first four bytes behind the size; size and prefix as one number; and what orders views: the
+-- prefix, and the last eight bytes, as numbers with the first byte highest.
 abbrev pub prefix_in : List ℕ → List ℕ
 prefix_in b = take 4 (drop 4 b)
 

@@ -20,10 +20,12 @@ inlined_of b = take (size_of b) (drop 4 b)
 
 -- what a view stands for beside these buffers
 abbrev pub value_of : List ℕ → List (List ℕ) → List ℕ
-value_of b buffers = cond (leb (size_of b) 12) (inlined_of b) (take (size_of b) (drop (offset_of b) (slice_index_or buffers (index_of b) [])))
+value_of b buffers = cond (leb (size_of b) 12) (inlined_of b)
+    (take (size_of b) (drop (offset_of b) (slice_index_or buffers (index_of b) [])))
 
 -- A long view lies within one of the buffers, and has the first four bytes of its value.
 pub record HasValue (b : List ℕ) (buffers : List (List ℕ)) : Type 0 where
   pub there : 12 < size_of b → index_of b < length buffers
-  pub inside : 12 < size_of b → offset_of b + size_of b ≤ length (slice_index_or buffers (index_of b) [])
+  pub inside : 12 < size_of b →
+      offset_of b + size_of b ≤ length (slice_index_or buffers (index_of b) [])
   pub prefix : 12 < size_of b → take 4 (drop 4 b) ≡ take 4 (value_of b buffers)

@@ -1,4 +1,5 @@
--- The tests for equal types, fields and choices are equivalences, and decide whether they are equal.
+-- The tests for equal types, fields and choices are equivalences, and decide whether they are
+-- equal.
 use Rattle.std.proofs.Common.{IsTrue, ◌↔◌, ◌≡◌, refl, ap, subst, Bool, true, false}
 use Rattle.std.specs.Cmp.{IsEquivalence}
 use Rattle.std.specs.Cmp.Derive.{both_true}
@@ -18,26 +19,36 @@ mutual
   type_itself : (k : LogicalType) → eq_type k k ≡ true
   type_itself null_only = refl
   type_itself (boolean_type n) = nullability_itself n
-  type_itself (integer_type i n) = both_true (nat_eq_equiv.refl (int_kind_number i)) (nullability_itself n)
-  type_itself (float f n) = both_true (nat_eq_equiv.refl (float_kind_number f)) (nullability_itself n)
-  type_itself (decimal p s n) = both_true (both_true (nat_eq_equiv.refl p) (int_eq_equiv.refl s)) (nullability_itself n)
+  type_itself (integer_type i n) =
+      both_true (nat_eq_equiv.refl (int_kind_number i)) (nullability_itself n)
+  type_itself (float f n) =
+      both_true (nat_eq_equiv.refl (float_kind_number f)) (nullability_itself n)
+  type_itself (decimal p s n) =
+      both_true (both_true (nat_eq_equiv.refl p) (int_eq_equiv.refl s)) (nullability_itself n)
   type_itself (utf8 n) = nullability_itself n
   type_itself (binary n) = nullability_itself n
   type_itself (list k n) = both_true (type_itself k) (nullability_itself n)
-  type_itself (fixed_list k m n) = both_true (both_true (type_itself k) (nat_eq_equiv.refl m)) (nullability_itself n)
-  type_itself (mapping k v s n) = both_true (both_true (both_true (type_itself k) (type_itself v)) (flag_itself s)) (nullability_itself n)
+  type_itself (fixed_list k m n) =
+      both_true (both_true (type_itself k) (nat_eq_equiv.refl m)) (nullability_itself n)
+  type_itself (mapping k v s n) =
+      both_true (both_true (both_true (type_itself k) (type_itself v)) (flag_itself s))
+      (nullability_itself n)
   type_itself (struct fs n) = both_true (fields_itself fs) (nullability_itself n)
   type_itself (union vs n) = both_true (variants_itself vs) (nullability_itself n)
   type_itself (variant n) = nullability_itself n
-  type_itself (extension x a k) = both_true (both_true (nat_list_eq_equiv.refl x) (nat_list_eq_equiv.refl a)) (type_itself k)
+  type_itself (extension x a k) =
+      both_true (both_true (nat_list_eq_equiv.refl x) (nat_list_eq_equiv.refl a)) (type_itself k)
 
   fields_itself : (fs : Fields) → eq_fields fs fs ≡ true
   fields_itself no_fields = refl
-  fields_itself (field x k fs) = both_true (both_true (nat_list_eq_equiv.refl x) (type_itself k)) (fields_itself fs)
+  fields_itself (field x k fs) =
+      both_true (both_true (nat_list_eq_equiv.refl x) (type_itself k)) (fields_itself fs)
 
   variants_itself : (vs : Variants) → eq_variants vs vs ≡ true
   variants_itself no_variants = refl
-  variants_itself (choice x t k vs) = both_true (both_true (both_true (nat_list_eq_equiv.refl x) (int_eq_equiv.refl t)) (type_itself k)) (variants_itself vs)
+  variants_itself (choice x t k vs) =
+      both_true (both_true (both_true (nat_list_eq_equiv.refl x) (int_eq_equiv.refl t))
+      (type_itself k)) (variants_itself vs)
 
 -- two tests that pass together are equal
 together : (a b : Bool) → (a ≡ true → b ≡ true) → (b ≡ true → a ≡ true) → a ≡ b
@@ -47,7 +58,8 @@ together true false f g = absurd (cc (f refl))
 together false true f g = absurd (cc (g refl))
 
 -- a test that each thing passes with itself, and only with itself
-module _ {A : Type 0} (same : A → A → Bool) (itself : (a : A) → same a a ≡ true) (so : (a b : A) → same a b ≡ true → a ≡ b) where
+module _ {A : Type 0} (same : A → A → Bool) (itself : (a : A) → same a a ≡ true) (so : (a b : A) →
+    same a b ≡ true → a ≡ b) where
   turned : (a b : A) → same a b ≡ true → same b a ≡ true
   turned a b e = subst (λ c. same c a ≡ true) (so a b e) (itself a)
 
@@ -71,10 +83,12 @@ variants_inside (union vs n) = vs
 variants_inside k = no_variants
 
 fields_so : (fs gs : Fields) → eq_fields fs gs ≡ true → fs ≡ gs
-fields_so fs gs e = ap fields_inside (kind_so (struct fs nullable) (struct gs nullable) (both_true e refl))
+fields_so fs gs e =
+    ap fields_inside (kind_so (struct fs nullable) (struct gs nullable) (both_true e refl))
 
 variants_so : (vs ws : Variants) → eq_variants vs ws ≡ true → vs ≡ ws
-variants_so vs ws e = ap variants_inside (kind_so (union vs nullable) (union ws nullable) (both_true e refl))
+variants_so vs ws e =
+    ap variants_inside (kind_so (union vs nullable) (union ws nullable) (both_true e refl))
 
 pub eq_type_equiv : IsEquivalence eq_type
 eq_type_equiv = exact_equiv eq_type type_itself kind_so

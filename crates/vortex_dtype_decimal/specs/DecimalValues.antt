@@ -27,7 +27,8 @@ pub record IsSmallest (digits : ℕ) (t : DecimalType) : Type 0 where
 
 -- the shape of decimals of which the type has each
 abbrev pub is_held_shape : DecimalType → ℕ → ℤ → Bool
-is_held_shape t precision scale = is_decimal_shape precision scale && nat_le (10 ^ precision - 1) (greatest_value t)
+is_held_shape t precision scale =
+    is_decimal_shape precision scale && nat_le (10 ^ precision - 1) (greatest_value t)
 
 -- the name in lower case
 abbrev pub name_of_type : DecimalType → List ℕ

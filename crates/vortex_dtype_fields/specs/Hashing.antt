@@ -25,7 +25,8 @@ abbrev mutual
   type_writes (struct fs n) = fed.u8 9 ++ fed.usize (field_count fs) ++ fields_writes fs
   type_writes (union vs n) = fed.u8 10 ++ fed.usize (variant_count vs) ++ variants_writes vs
   type_writes (variant n) = fed.u8 11
-  type_writes (extension id meta k) = fed.u8 12 ++ fed.str id ++ fed.usize (length meta) ++ (meta ∷ []) ++ type_writes k
+  type_writes (extension id meta k) =
+      fed.u8 12 ++ fed.str id ++ fed.usize (length meta) ++ (meta ∷ []) ++ type_writes k
 
   pub fields_writes : Fields → List (List ℕ)
   fields_writes no_fields = []

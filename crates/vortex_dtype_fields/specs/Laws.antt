@@ -12,7 +12,8 @@ EqualityIgnoringNullabilityIsAnEquivalence = IsEquivalence equal_ignoring_nullab
 
 -- types so equal feed a hasher equally
 abbrev pub EqualTypesHashAlike : Type 0
-EqualTypesHashAlike = (k l : LogicalType) → EqualIgnoringNullability k l → type_writes k ≡ type_writes l
+EqualTypesHashAlike =
+    (k l : LogicalType) → EqualIgnoringNullability k l → type_writes k ≡ type_writes l
 
 -- a type fits into itself, and into what a type that it fits into fits into
 abbrev pub FittingIsReflexive : Type 0
@@ -23,4 +24,5 @@ FittingIsTransitive = (k l m : LogicalType) → FitsInto k l → FitsInto l m �
 
 -- a projection has the names asked for, in their order
 abbrev pub ProjectionsHaveTheNames : Type 0
-ProjectionsHaveTheNames = (fs : Fields) (xs : List (List ℕ)) (gs : Fields) → projected fs xs ≡ Some gs → names_of gs ≡ xs
+ProjectionsHaveTheNames =
+    (fs : Fields) (xs : List (List ℕ)) (gs : Fields) → projected fs xs ≡ Some gs → names_of gs ≡ xs

@@ -39,10 +39,12 @@ abbrev pub joined : Fields → Fields → Fields
 joined no_fields gs = gs
 joined (field x k fs) gs = field x k (joined fs gs)
 
--- the first field of each of these names, in the order of the names, and none where a name has no field
+-- the first field of each of these names, in the order of the names, and none where a name has no
+-- field
 abbrev pub projected : Fields → List (List ℕ) → Option Fields
 projected fs [] = Some no_fields
-projected fs (x ∷ xs) = option_and_then (λ k. option_map (field x k) (projected fs xs)) (type_named fs x)
+projected fs (x ∷ xs) =
+    option_and_then (λ k. option_map (field x k) (projected fs xs)) (type_named fs x)
 
 -- a name of one is a name of the other
 abbrev pub shares_name : Fields → Fields → Bool
@@ -87,7 +89,8 @@ count_from n (choice x t k vs) = int_eq t (pos n) && count_from (suc n) vs
 -- the place of the first choice of that name
 abbrev pub variant_position : Variants → List ℕ → Option ℕ
 variant_position no_variants x = None
-variant_position (choice y t k vs) x = if bytes_eq y x then Some 0 else option_map suc (variant_position vs x)
+variant_position (choice y t k vs) x =
+    if bytes_eq y x then Some 0 else option_map suc (variant_position vs x)
 
 -- the place of the first choice of that tag
 abbrev pub tag_position : Variants → ℤ → Option ℕ
@@ -111,10 +114,12 @@ variant_named vs x = option_and_then (variant_at vs) (variant_position vs x)
 
 -- where no tag repeats, the tag at a place leads back to the place
 abbrev pub TagsLeadBack : Type 0
-TagsLeadBack = (vs : Variants) (i : ℕ) → is_distinct (tags_of vs) ≡ true → i < variant_count vs → option_and_then (tag_position vs) (tag_at vs i) ≡ Some i
+TagsLeadBack = (vs : Variants) (i : ℕ) → is_distinct (tags_of vs) ≡ true → i < variant_count vs →
+    option_and_then (tag_position vs) (tag_at vs i) ≡ Some i
 
 -- ---- entries of maps
 
 -- the record that an entry is
 abbrev pub entry_type : EntryTypes → LogicalType
-entry_type e = struct (field (codes "key") e.key (field (codes "value") e.value no_fields)) non_nullable
+entry_type e =
+    struct (field (codes "key") e.key (field (codes "value") e.value no_fields)) non_nullable

@@ -18,10 +18,12 @@ abbrev pub number_width : NumberKind → ℕ
 number_width (integral i) = integer_width i
 number_width (floating f) = float_width f
 
--- the first of these widths in bytes whose greatest integer is at least that of so many decimal digits
+-- the first of these widths in bytes whose greatest integer is at least that of so many decimal
+-- digits
 abbrev pub first_width : List ℕ → ℕ → ℕ
 first_width [] digits = 0
-first_width (w ∷ ws) digits = if nat_le (10 ^ digits - 1) (2 ^ (8 * w - 1) - 1) then w else first_width ws digits
+first_width (w ∷ ws) digits =
+    if nat_le (10 ^ digits - 1) (2 ^ (8 * w - 1) - 1) then w else first_width ws digits
 
 abbrev pub decimal_width : ℕ → ℕ
 decimal_width digits = first_width (1 ∷ 2 ∷ 4 ∷ 8 ∷ 16 ∷ 32 ∷ []) digits
@@ -78,4 +80,5 @@ abbrev mutual
 
 -- equal up to nullability, and nullable outside only if the other is
 abbrev pub FitsInto : LogicalType → LogicalType → Type 0
-FitsInto k l = EqualIgnoringNullability k l × (nullability_of k ≡ nullable → nullability_of l ≡ nullable)
+FitsInto k l =
+    EqualIgnoringNullability k l × (nullability_of k ≡ nullable → nullability_of l ≡ nullable)

@@ -8,10 +8,12 @@ abbrev pub number_of_bytes : List ℕ → ℕ
 number_of_bytes [] = 0
 number_of_bytes (b ∷ bs) = b + 256 * number_of_bytes bs
 
--- these are the bytes of the integer, as many as its kind takes; one below zero is written as its two's complement
+-- these are the bytes of the integer, as many as its kind takes; one below zero is written as its
+-- two's complement
 pub record AreBytesOf (i : IntKind) (z : ℤ) (bs : List ℕ) : Type 0 where
   pub width : HasByteWidth (integral i) (length bs)
-  pub number : (pos (number_of_bytes bs) ≡ z) ⊎ (pos (number_of_bytes bs) ≡ z +ℤ pos (256 ^ length bs))
+  pub number : (pos (number_of_bytes bs) ≡ z) ⊎
+      (pos (number_of_bytes bs) ≡ z +ℤ pos (256 ^ length bs))
 
 -- the same of any kind of numbers; no bytes are those of a float
 abbrev pub AreBytesOfKind : NumberKind → ℤ → List ℕ → Type 0

@@ -9,4 +9,5 @@ Covers members q = (p : List Step) × IsTrue (members p) × Begins p q
 
 -- a member that no other member begins
 abbrev pub IsOutermost : (List Step → Bool) → List Step → Type 0
-IsOutermost members q = IsTrue (members q) × ((p : List Step) → IsTrue (members p) → Begins p q → p ≡ q)
+IsOutermost members q =
+    IsTrue (members q) × ((p : List Step) → IsTrue (members p) → Begins p q → p ≡ q)

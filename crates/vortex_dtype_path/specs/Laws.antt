@@ -19,20 +19,26 @@ OverlapsAreShared = (p q : List Step) → Overlap p q ↔ ((r : List Step) × Be
 
 -- the outermost members are equal where the same is covered
 abbrev pub CoverageTellsOutermost : Type 0
-CoverageTellsOutermost = (s t : List Step → Bool) → ((q : List Step) → IsOutermost s q ↔ IsOutermost t q) ↔ ((q : List Step) → Covers s q ↔ Covers t q)
+CoverageTellsOutermost =
+    (s t : List Step → Bool) → ((q : List Step) → IsOutermost s q ↔ IsOutermost t q) ↔
+    ((q : List Step) → Covers s q ↔ Covers t q)
 
 -- the outermost members cover what all do
 abbrev pub OutermostCoverAll : Type 0
-OutermostCoverAll = (s : List Step → Bool) (q : List Step) → Covers s q ↔ ((p : List Step) × IsOutermost s p × Begins p q)
+OutermostCoverAll = (s : List Step → Bool) (q : List Step) → Covers s q ↔
+    ((p : List Step) × IsOutermost s p × Begins p q)
 
 -- and are members of each set that covers the same
 abbrev pub OutermostAreNeeded : Type 0
-OutermostAreNeeded = (s t : List Step → Bool) → ((q : List Step) → Covers s q ↔ Covers t q) → (q : List Step) → IsOutermost s q → IsTrue (t q)
+OutermostAreNeeded = (s t : List Step → Bool) → ((q : List Step) → Covers s q ↔ Covers t q) →
+    (q : List Step) → IsOutermost s q → IsTrue (t q)
 
 -- a path that goes on leads where its end leads from where its front leads
 abbrev pub ResolvingGoesOn : Type 0
-ResolvingGoesOn = (k : LogicalType) (p q : List Step) → resolved k (p ++ q) ≡ option_and_then (λ part. resolved part q) (resolved k p)
+ResolvingGoesOn = (k : LogicalType) (p q : List Step) →
+    resolved k (p ++ q) ≡ option_and_then (λ part. resolved part q) (resolved k p)
 
 -- what begins a path that leads somewhere leads somewhere
 abbrev pub BeginningsExist : Type 0
-BeginningsExist = (k : LogicalType) (p q : List Step) → Begins p q → IsSome (resolved k q) → IsSome (resolved k p)
+BeginningsExist =
+    (k : LogicalType) (p q : List Step) → Begins p q → IsSome (resolved k q) → IsSome (resolved k p)

@@ -15,7 +15,8 @@ is_inserted set = is_among (kept_paths (nodes_of set.nodes.items))
 
 -- so many paths were inserted
 abbrev pub Counts : FieldPathSet → ℕ → Type 0
-Counts set n = (paths : List (List Step)) × AreDistinct paths × ((q : List Step) → is_among paths q ≡ is_inserted set q) × (length paths ≡ n)
+Counts set n = (paths : List (List Step)) × AreDistinct paths ×
+    ((q : List Step) → is_among paths q ≡ is_inserted set q) × (length paths ≡ n)
 
 -- what is still to come: the paths that the nodes left keep
 abbrev pub paths_in : List PathNode → List FieldPath

@@ -55,9 +55,11 @@ kept_paths nodes = filter_map (λ n. n.0) nodes
 pub record IsTree (nodes : List TreeNode) : Type 0 where
   pub kept : (k : ℕ) (p : List Step) → path_at nodes k ≡ Some p → reached nodes p ≡ Some k
   pub linked : (i : ℕ) (s : Step) (k : ℕ) → child_of nodes i s ≡ Some k → k < length nodes
-  pub single : (p q : List Step) (k : ℕ) → reached nodes p ≡ Some k → reached nodes q ≡ Some k → IsTrue (eq_steps p q)
+  pub single : (p q : List Step) (k : ℕ) → reached nodes p ≡ Some k → reached nodes q ≡ Some k →
+      IsTrue (eq_steps p q)
 
--- new nodes from a number on, each leading to the next by one of the steps, and the last of them keeping the path
+-- new nodes from a number on, each leading to the next by one of the steps, and the last of them
+-- keeping the path
 abbrev pub branch : ℕ → List Step → List Step → List TreeNode
 branch n p [] = (Some p, []) ∷ []
 branch n p (s ∷ rest) = (None, (s, n + 1) ∷ []) ∷ branch (n + 1) p rest
@@ -77,5 +79,6 @@ put (n ∷ ns) (suc i) p = n ∷ put ns i p
 -- the nodes are a tree that keeps one path more
 pub record AddsPath (old new : List TreeNode) (p : List Step) : Type 0 where
   pub is_tree : IsTree new
-  pub added : (q : List Step) → is_among (kept_paths new) q ≡ (eq_steps q p || is_among (kept_paths old) q)
+  pub added : (q : List Step) → is_among (kept_paths new) q ≡
+      (eq_steps q p || is_among (kept_paths old) q)
   pub counted : length (kept_paths new) ≡ length (kept_paths old) + 1

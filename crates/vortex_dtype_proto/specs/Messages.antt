@@ -7,8 +7,10 @@ use Rattle.vortex_dtype_core.specs.View.{fields_from, variants_from}
 use Rattle.vortex_dtype_core.specs.Parts.{is_union_shape}
 use Rattle.vortex_dtype_proto.specs.Sessions.{Session, admit}
 
--- What a node says that it is, with the fields of its own: decimals have a precision and a scale, lists of one size that size, maps whether
--- their keys are sorted, records names, unions names and tags, and extensions an id and perhaps metadata.
+-- What a node says that it is, with the fields of its own: decimals have a precision and a scale,
+-- lists of one size that size, maps whether
+-- their keys are sorted, records names, unions names and tags, and extensions an id and perhaps
+-- metadata.
 pub data Form : Type 0 where
   nulls : Form
   booleans : Form
@@ -75,7 +77,8 @@ abbrev pub one_child : List LogicalType → (LogicalType → Reading LogicalType
 one_child (k ∷ []) f = f k
 one_child ks f = malformed
 
-abbrev pub two_children : List LogicalType → (LogicalType → LogicalType → Reading LogicalType) → Reading LogicalType
+abbrev pub two_children : List LogicalType → (LogicalType → LogicalType → Reading LogicalType) →
+    Reading LogicalType
 two_children (k ∷ v ∷ []) f = f k v
 two_children ks f = malformed
 
@@ -90,11 +93,19 @@ row s (numbers p) flag ks = childless ks (read (type_of_numbers p (nullability_f
 row s (decimals p q) flag ks = childless ks (decimal_shaped p q (nullability_flagged flag))
 row s lists flag ks = one_child ks (λ k. read (list k (nullability_flagged flag)))
 row s (fixed_lists m) flag ks = one_child ks (λ k. read (fixed_list k m (nullability_flagged flag)))
-row s (maps sorted) flag ks = two_children ks (λ k v. read_if (not (is_nullable (nullability_of k))) (mapping k v sorted (nullability_flagged flag)))
-row s (records names) flag ks = read_if (length names == length ks) (struct (fields_from (zip names ks)) (nullability_flagged flag))
+row s (maps sorted) flag ks =
+    two_children ks (λ k v. read_if (not (is_nullable (nullability_of k)))
+    (mapping k v sorted (nullability_flagged flag)))
+row s (records names) flag ks =
+    read_if (length names ==
+    length ks) (struct (fields_from (zip names ks)) (nullability_flagged flag))
 row s (unions names tags) flag ks =
-    read_if (are_tags tags && is_union_shape (length names) (length ks) tags) (union (variants_from (zip names (zip tags ks))) (nullability_flagged flag))
-row s (extended id metadata) flag ks = one_child ks (λ k. if is_flag_of flag k then admitted_as id k (admit s id metadata k) else malformed)
+    read_if (are_tags tags &&
+        is_union_shape (length names) (length ks) tags)
+        (union (variants_from (zip names (zip tags ks))) (nullability_flagged flag))
+row s (extended id metadata) flag ks =
+    one_child ks (λ k. if is_flag_of flag k then admitted_as id k (admit s id metadata k)
+    else malformed)
 
 -- the children are judged before their node
 abbrev pub with_children : Session → Form → Bool → Reading (List LogicalType) → Reading LogicalType
@@ -149,11 +160,15 @@ abbrev mutual
   written (binary n) = leaf byte_strings n
   written (list k n) = node lists (is_nullable n) (tree (written k) no_trees)
   written (fixed_list k m n) = node (fixed_lists m) (is_nullable n) (tree (written k) no_trees)
-  written (mapping k v sorted n) = node (maps sorted) (is_nullable n) (tree (written k) (tree (written v) no_trees))
+  written (mapping k v sorted n) =
+      node (maps sorted) (is_nullable n) (tree (written k) (tree (written v) no_trees))
   written (struct fs n) = node (records (field_names fs)) (is_nullable n) (written_fields fs)
-  written (union vs n) = node (unions (variant_names vs) (variant_tags vs)) (is_nullable n) (written_variants vs)
+  written (union vs n) =
+      node (unions (variant_names vs) (variant_tags vs)) (is_nullable n) (written_variants vs)
   written (variant n) = leaf variants n
-  written (extension id metadata k) = node (extended id (Some metadata)) (is_nullable (nullability_of k)) (tree (written k) no_trees)
+  written (extension id metadata k) =
+      node (extended id (Some metadata)) (is_nullable (nullability_of k))
+      (tree (written k) no_trees)
 
   pub written_fields : Fields → Trees
   written_fields no_fields = no_trees

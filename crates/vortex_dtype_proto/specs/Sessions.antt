@@ -3,7 +3,8 @@ use Rattle.std.specs.Prelude.{ℕ, suc, List, [], ◌∷◌, Option, Some, None,
 use Rattle.std.specs.Str.{bytes_eq}
 use Rattle.vortex_model.specs.LogicalType.{LogicalType}
 
--- what a plugin makes of metadata over a storage: the bytes that it writes back, or nothing where it refuses
+-- what a plugin makes of metadata over a storage: the bytes that it writes back, or nothing where
+-- it refuses
 abbrev pub Plugin : Type 0
 Plugin = List ℕ → LogicalType → Option (List ℕ)
 
@@ -18,12 +19,14 @@ no_plugins id = None
 -- the first of these that has the id, where each has an id and a meaning
 abbrev pub session_of : {B : Type 0} → (B → List ℕ) → (B → Plugin) → List B → Session
 session_of name meaning [] id = None
-session_of name meaning (b ∷ bs) id = if bytes_eq (name b) id then Some (meaning b) else session_of name meaning bs id
+session_of name meaning (b ∷ bs) id =
+    if bytes_eq (name b) id then Some (meaning b) else session_of name meaning bs id
 
 -- the place of the first of these that has the id
 abbrev pub place_of : {B : Type 0} → (B → List ℕ) → List B → List ℕ → Option ℕ
 place_of name [] id = None
-place_of name (b ∷ bs) id = if bytes_eq (name b) id then Some 0 else option_map suc (place_of name bs id)
+place_of name (b ∷ bs) id =
+    if bytes_eq (name b) id then Some 0 else option_map suc (place_of name bs id)
 
 -- the session with this plugin under this id, whatever stood there
 abbrev pub with_plugin : List ℕ → Plugin → Session → Session

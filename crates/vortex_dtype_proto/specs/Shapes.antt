@@ -5,15 +5,18 @@ use Rattle.vortex_dtype_ptype.specs.Numbers.{is_decimal_shape}
 use Rattle.vortex_dtype_core.specs.Parts.{is_distinct}
 use Rattle.vortex_dtype_proto.specs.Messages.{are_tags, variant_tags}
 
--- decimals of a shape, maps whose keys aren't nullable, and unions of distinct tags that are signed bytes, at every depth
+-- decimals of a shape, maps whose keys aren't nullable, and unions of distinct tags that are signed
+-- bytes, at every depth
 abbrev mutual
   pub is_shaped : LogicalType → Bool
   is_shaped (decimal p s n) = is_decimal_shape p s
   is_shaped (list k n) = is_shaped k
   is_shaped (fixed_list k m n) = is_shaped k
-  is_shaped (mapping k v sorted n) = not (is_nullable (nullability_of k)) && is_shaped k && is_shaped v
+  is_shaped (mapping k v sorted n) =
+      not (is_nullable (nullability_of k)) && is_shaped k && is_shaped v
   is_shaped (struct fs n) = are_fields_shaped fs
-  is_shaped (union vs n) = are_tags (variant_tags vs) && is_distinct (variant_tags vs) && are_variants_shaped vs
+  is_shaped (union vs n) =
+      are_tags (variant_tags vs) && is_distinct (variant_tags vs) && are_variants_shaped vs
   is_shaped (extension id meta k) = is_shaped k
   is_shaped k = true
 

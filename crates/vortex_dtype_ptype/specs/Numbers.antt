@@ -82,7 +82,8 @@ HasSign natural (floating f) k = k ≡ floating f
 
 -- the integers of this sign that are as wide as the wider of the two
 abbrev pub IsWiderOf : Bool → NumberKind → NumberKind → NumberKind → Type 0
-IsWiderOf natural (integral i) (integral j) (integral k) = (is_natural k ≡ natural) × (reach_of k ≡ int_max (reach_of i) (reach_of j))
+IsWiderOf natural (integral i) (integral j) (integral k) =
+    (is_natural k ≡ natural) × (reach_of k ≡ int_max (reach_of i) (reach_of j))
 IsWiderOf natural a b c = ⊥
 
 -- the kind is of this sign and holds the number, and no narrower one does
@@ -102,4 +103,5 @@ pub record IsBitsOfDigits (digits : ℕ) (bits : ℕ) : Type 0 where
 
 -- from 1 to 76 digits, and a scale from -76 to 76
 abbrev pub is_decimal_shape : ℕ → ℤ → Bool
-is_decimal_shape precision scale = nat_le 1 precision && nat_le precision 76 && int_le (negsuc 75) scale && int_le scale (pos 76)
+is_decimal_shape precision scale =
+    nat_le 1 precision && nat_le precision 76 && int_le (negsuc 75) scale && int_le scale (pos 76)

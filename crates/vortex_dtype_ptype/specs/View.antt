@@ -51,7 +51,8 @@ name_of_ptype ptype.F64 = codes "f64"
 -- the first place that has the name, and none where no place has it
 abbrev pub IsFirstPlace : List (List ℕ) → List ℕ → Option ℕ → Type 0
 IsFirstPlace names name None = (i : ℕ) → slice_get names i ≢ Some name
-IsFirstPlace names name (Some place) = (slice_get names place ≡ Some name) × ((i : ℕ) → i < place → slice_get names i ≢ Some name)
+IsFirstPlace names name (Some place) =
+    (slice_get names place ≡ Some name) × ((i : ℕ) → i < place → slice_get names i ≢ Some name)
 
 abbrev pub number_of_error : DTypeError → ℕ
 number_of_error error.Memory = 1

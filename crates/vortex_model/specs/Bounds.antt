@@ -29,7 +29,8 @@ pub record IsLongestBeginning (P : List ℕ → Type 0) (v : List ℕ) (L : ℕ)
 abbrev pub AnyBytes : List ℕ → Type 0
 AnyBytes a = Unit {0}
 
--- The low of a text is its longest beginning of at most L bytes that is a text, that of bytes the longest of at most L bytes. What is neither is its own low.
+-- The low of a text is its longest beginning of at most L bytes that is a text, that of bytes the
+-- longest of at most L bytes. What is neither is its own low.
 abbrev pub IsLow : Content → ℕ → Content → Type 0
 IsLow (text v) L (text a) = IsLongestBeginning IsUtf8 v L a
 IsLow (byte_string v) L (byte_string a) = IsLongestBeginning AnyBytes v L a
@@ -56,7 +57,8 @@ IsHigher c d = IsScalar d × (c < d) × (len_utf8 d ≡ len_utf8 c)
 abbrev pub IsHighest : ℕ → Type 0
 IsHighest c = (d : ℕ) → ¬ (IsHigher c d)
 
--- The characters ds are cs with the latest one that can be raised replaced by the least higher one with as many bytes, and what follows it dropped.
+-- The characters ds are cs with the latest one that can be raised replaced by the least higher one
+-- with as many bytes, and what follows it dropped.
 pub record IsRaised (cs ds : List ℕ) : Type 0 where
   pub before : List ℕ
   pub char : ℕ
@@ -77,7 +79,8 @@ abbrev pub IsRaise : List ℕ → Option (List ℕ) → Type 0
 IsRaise p (Some h) = IsUtf8 h × IsRaised (chars p) (chars h)
 IsRaise p None = CannotBeRaised (chars p)
 
--- The high of a longer text raises its low, that of longer bytes is the least string of exactly L bytes above it.
+-- The high of a longer text raises its low, that of longer bytes is the least string of exactly L
+-- bytes above it.
 abbrev pub IsHighText : List ℕ → ℕ → Option Content → Type 0
 IsHighText v L (Some (text h)) = (p : List ℕ) × IsLongestBeginning IsUtf8 v L p × IsRaise p (Some h)
 IsHighText v L None = (p : List ℕ) × IsLongestBeginning IsUtf8 v L p × IsRaise p None
@@ -99,7 +102,8 @@ IsRaisedBeginning v L raised = (p : List ℕ) × IsLongestBeginning IsUtf8 v L p
 -- What has at most L bytes, and what is neither text nor bytes, is its own high.
 abbrev pub IsHigh : Content → ℕ → Option Content → Type 0
 IsHigh (text v) L h = (length v ≤ L → h ≡ Some (text v)) × (L < length v → IsHighText v L h)
-IsHigh (byte_string v) L h = (length v ≤ L → h ≡ Some (byte_string v)) × (L < length v → IsHighBytes v L h)
+IsHigh (byte_string v) L h =
+    (length v ≤ L → h ≡ Some (byte_string v)) × (L < length v → IsHighBytes v L h)
 IsHigh v L h = h ≡ Some v
 
 -- a text is UTF-8, and bytes are bytes
@@ -125,7 +129,8 @@ is_longer L c = false
 -- the first characters that have at most L bytes together
 abbrev pub characters_within : ℕ → List ℕ → List ℕ
 characters_within L [] = []
-characters_within L (c ∷ cs) = if nat_le (len_utf8 c) L then c ∷ characters_within (L - len_utf8 c) cs else []
+characters_within L (c ∷ cs) =
+    if nat_le (len_utf8 c) L then c ∷ characters_within (L - len_utf8 c) cs else []
 
 -- the longest beginning of whole characters with at most L bytes together
 abbrev pub text_within : ℕ → List ℕ → List ℕ
@@ -146,7 +151,8 @@ next_character c =
 -- the latest character that can be raised is raised, and what follows it is dropped
 abbrev pub raise_characters : List ℕ → Option (List ℕ)
 raise_characters [] = None
-raise_characters (c ∷ cs) = elim (raise_characters cs) [ Some ds ↦ Some (c ∷ ds) | None ↦ option_map (λ d. d ∷ []) (next_character c) ]
+raise_characters (c ∷ cs) = elim (raise_characters cs) [ Some ds ↦ Some (c ∷ ds)
+    | None ↦ option_map (λ d. d ∷ []) (next_character c) ]
 
 -- the same of a text in UTF-8
 abbrev pub raise : List ℕ → Option (List ℕ)
@@ -155,10 +161,13 @@ raise p = option_map encode_utf8_all (raise_characters (chars p))
 -- one more, as one number, with a carry
 abbrev pub count_up : List ℕ → Option (List ℕ)
 count_up [] = None
-count_up (b ∷ bs) = elim (count_up bs) [ Some ds ↦ Some (b ∷ ds) | None ↦ (if nat_lt b 255 then Some (suc b ∷ replicate (length bs) 0) else None) ]
+count_up (b ∷ bs) = elim (count_up bs) [ Some ds ↦ Some (b ∷ ds)
+    | None ↦ (if nat_lt b 255 then Some (suc b ∷ replicate (length bs) 0) else None) ]
 
 -- the high of a value at length L, where there is one
 abbrev pub high : ℕ → Content → Option Content
-high L (text v) = if nat_lt L (length v) then option_map text (raise (text_within L v)) else Some (text v)
-high L (byte_string v) = if nat_lt L (length v) then option_map byte_string (count_up (take L v)) else Some (byte_string v)
+high L (text v) =
+    if nat_lt L (length v) then option_map text (raise (text_within L v)) else Some (text v)
+high L (byte_string v) = if nat_lt L (length v) then option_map byte_string (count_up (take L v))
+    else Some (byte_string v)
 high L c = Some c

@@ -1,4 +1,5 @@
--- The predicates for which skipping is exact, and the boxes that no choice of values in them satisfies.
+-- The predicates for which skipping is exact, and the boxes that no choice of values in them
+-- satisfies.
 use Rattle.std.specs.Prelude.{chars, ◌≡◌, ◌≢◌, ℕ, ◌<◌, List, [], ◌∷◌, ◌++◌, Bool, true, false, not, ◌&&◌, ◌||◌, is_some, Option, Some, None, IfSome, ◌==◌}
 use Rattle.std.specs.List.{list_any}
 use Rattle.vortex_model.specs.LogicalType.{LogicalType, non_nullable, with_nullability}
@@ -88,7 +89,9 @@ ends_in_percent (c ∷ d ∷ cs) = ends_in_percent (d ∷ cs)
 -- a non-empty plain text, or one whose last character can be raised with one % behind it
 abbrev pub is_text_form : List ℕ → Bool
 is_text_form [] = false
-is_text_form (b ∷ bs) = is_plain (b ∷ bs) || (ends_in_percent (b ∷ bs) && is_plain (front_of (b ∷ bs)) && last_can_be_raised (chars (front_of (b ∷ bs))))
+is_text_form (b ∷ bs) =
+    is_plain (b ∷ bs) || (ends_in_percent (b ∷ bs) && is_plain (front_of (b ∷ bs)) &&
+    last_can_be_raised (chars (front_of (b ∷ bs))))
 
 -- the same with more leaves
 abbrev pub is_wide_tree : Expression → Bool
@@ -114,7 +117,8 @@ Box = Names → ZoneMap
 
 -- nothing is known, and no row is counted
 abbrev pub unknown_zone : ZoneMap
-unknown_zone = record { low = absent; high = absent; nulls = 0; rows = 0; total = absent; constant = absent }
+unknown_zone =
+    record { low = absent; high = absent; nulls = 0; rows = 0; total = absent; constant = absent }
 
 -- the box of zone maps, of which some columns have none
 abbrev pub box_of : (Names → Option ZoneMap) → Box
@@ -141,7 +145,8 @@ pub record IsBetween (k : LogicalType) (box : Box) (xs : Names) (v : Content) : 
   pub from : IsFrom (box xs).low v
   pub to : IsUpTo (box xs).high v
 
--- under a null test: null only where nulls are counted, another value only where not all rows are null
+-- under a null test: null only where nulls are counted, another value only where not all rows are
+-- null
 pub record IsCounted (k : LogicalType) (box : Box) (xs : Names) (v : Content) : Type 0 where
   pub at_null : is_null_content v ≡ true → (box xs).nulls ≢ 0
   pub at_value : is_null_content v ≡ false → IsValueOf k xs v × ((box xs).nulls < (box xs).rows)
@@ -162,7 +167,8 @@ IsIn k box choice (negation x) = IsIn k box choice x
 IsIn k box choice (is_null x) = IsTested k box choice x
 IsIn k box choice (is_not_null x) = IsTested k box choice x
 IsIn k box choice (is_nan x) = IsIn k box choice x
-IsIn k box choice (between x lo hi s t) = IsIn k box choice x × IsIn k box choice lo × IsIn k box choice hi
+IsIn k box choice (between x lo hi s t) =
+    IsIn k box choice x × IsIn k box choice lo × IsIn k box choice hi
 IsIn k box choice (like x form n i) = IsIn k box choice x × IsIn k box choice form
 IsIn k box choice row_count = Unit {0}
 IsIn k box choice (statistic x a) = Unit {0}
@@ -173,7 +179,8 @@ of_choice choice = record { columns = choice; placeholders = λ x a. null; rows 
 
 -- no choice of values in the box makes the predicate true
 abbrev pub Hopeless : LogicalType → Expression → Box → Type 0
-Hopeless k e box = (choice : Names → Content) → IsIn k box choice e → ¬ (evaluate (of_choice choice) e ≡ boolean true)
+Hopeless k e box = (choice : Names → Content) → IsIn k box choice e →
+    ¬ (evaluate (of_choice choice) e ≡ boolean true)
 
 -- the bound is there
 abbrev pub is_there : Precision Content → Bool

@@ -13,7 +13,9 @@ use Rattle.vortex_model.specs.Like.{has_backslash}
 use Rattle.vortex_model.specs.Typing.{expression_type}
 use Rattle.vortex_model.specs.Table.{Table, rows_of}
 
--- The values of an append carry integer kinds, and a row of which no value could be read is null: null is no value of a type that tables hold, so it is the invalid row. An array is appended by its rows.
+-- The values of an append carry integer kinds, and a row of which no value could be read is null:
+-- null is no value of a type that tables hold, so it is the invalid row. An array is appended by
+-- its rows.
 pub data Command : Type 0 where
   create : LogicalType → ℕ → List (List Step × ℕ) → Command
   append : LogicalType → List Raw → Command
@@ -34,7 +36,8 @@ part_named k x = option_and_then (part_at k) (position_in k x)
 abbrev pub path_fault : ℕ → LogicalType → List Step → Option Refusal
 path_fault i k [] = None
 path_fault i k (element ∷ steps) = Some (element_step i)
-path_fault i k (name x ∷ steps) = elim (part_named k x) [ None ↦ Some (unknown_path i) | Some part ↦ path_fault i part steps ]
+path_fault i k (name x ∷ steps) =
+    elim (part_named k x) [ None ↦ Some (unknown_path i) | Some part ↦ path_fault i part steps ]
 
 -- the first fault of a list of paths, which begins at index i
 abbrev pub paths_fault : ℕ → LogicalType → List (List Step) → Option Refusal
@@ -61,13 +64,15 @@ leaf_fault k steps = if is_leaf_at k (positions_of k steps) then None else Some 
 abbrev pub entry_fault : ℕ → LogicalType → List Positions → List Step → Option Refusal
 entry_fault i k earlier path =
     or_else (path_fault i k path) (or_else (leaf_fault k path)
-    (if list_any (eq_positions (positions_of k path)) earlier then Some (repeated_path i) else None))
+    (if list_any (eq_positions (positions_of k path)) earlier then Some (repeated_path i)
+        else None))
 
 -- the first fault of a list of bound lengths, which begins at index i
 abbrev pub entries_fault : ℕ → LogicalType → List Positions → List (List Step × ℕ) → Option Refusal
 entries_fault i k earlier [] = None
 entries_fault i k earlier (entry ∷ entries) =
-    or_else (entry_fault i k earlier entry.0) (entries_fault (suc i) k (positions_of k entry.0 ∷ earlier) entries)
+    or_else (entry_fault i k earlier entry.0) (entries_fault (suc i) k (positions_of k entry.0 ∷
+        earlier) entries)
 
 -- the type is judged before the bound lengths
 abbrev pub create_fault : LogicalType → List (List Step × ℕ) → Option Refusal
@@ -75,28 +80,34 @@ create_fault k entries = or_else (type_fault_so_far k) (entries_fault 0 k [] ent
 
 -- a table without chunks
 abbrev pub created : LogicalType → ℕ → List (List Step × ℕ) → Table
-created k default entries = record { kind = k; default = default; lengths = map (λ entry. (positions_of k entry.0, entry.1)) entries; chunks = []; groups = [] }
+created k default entries = record { kind = k; default = default;
+    lengths = map (λ entry. (positions_of k entry.0, entry.1)) entries; chunks = []; groups = [] }
 
 -- ---- append, retype
 
 -- the first row that is no value of the type, where the rows begin at index i
 abbrev pub first_invalid : ℕ → LogicalType → List Raw → Option Refusal
 first_invalid i k [] = None
-first_invalid i k (r ∷ rs) = if valid k r then first_invalid (suc i) k rs else Some (invalid_value i)
+first_invalid i k (r ∷ rs) =
+    if valid k r then first_invalid (suc i) k rs else Some (invalid_value i)
 
 -- the first row that the second type can't hold
 abbrev pub first_unconvertible : ℕ → LogicalType → LogicalType → List Content → Option Refusal
 first_unconvertible i s t [] = None
-first_unconvertible i s t (c ∷ cs) = if converts s t c then first_unconvertible (suc i) s t cs else Some (not_convertible i)
+first_unconvertible i s t (c ∷ cs) =
+    if converts s t c then first_unconvertible (suc i) s t cs else Some (not_convertible i)
 
 -- all rows are judged for validity before any for conversion
 abbrev pub append_fault : LogicalType → LogicalType → List Raw → Option Refusal
-append_fault t s values = or_else (type_fault_so_far s) (or_else (first_invalid 0 s values) (first_unconvertible 0 s t (map content_of values)))
+append_fault t s values =
+    or_else (type_fault_so_far s)
+    (or_else (first_invalid 0 s values) (first_unconvertible 0 s t (map content_of values)))
 
 -- the rows are one new chunk in a group of its own, and no rows are none
 abbrev pub appended : Table → List Content → Table
 appended t [] = t
-appended t (row ∷ rows) = record t { chunks = t.chunks ++ (row ∷ rows) ∷ []; groups = t.groups ++ 1 ∷ [] }
+appended t (row ∷ rows) =
+    record t { chunks = t.chunks ++ (row ∷ rows) ∷ []; groups = t.groups ++ 1 ∷ [] }
 
 -- rows are counted over the whole table
 abbrev pub retype_fault : Table → LogicalType → Option Refusal
@@ -141,7 +152,8 @@ column_fault (Some k) = unless (is_leaf k) not_a_leaf
 
 -- a literal text without a backslash, case kept
 abbrev pub is_supported_like : Expression → Bool → Bool
-is_supported_like (literal k (text form)) ignores_case = not ignores_case && not (has_backslash form)
+is_supported_like (literal k (text form)) ignores_case =
+    not ignores_case && not (has_backslash form)
 is_supported_like e ignores_case = false
 
 -- the first fault of a predicate: children before their parent, left before right
@@ -149,28 +161,38 @@ abbrev pub expression_fault : LogicalType → Expression → Option Refusal
 expression_fault k (literal l c) = unless (is_leaf l) unsupported_predicate
 expression_fault k (column xs) = column_fault (type_of_column k xs)
 expression_fault k (compare op x y) =
-    or_else (expression_fault k x) (or_else (expression_fault k y) (unless (eq_optional_type (expression_type k x) (expression_type k y)) unequal_types))
+    or_else (expression_fault k x)
+        (or_else (expression_fault k y)
+        (unless (eq_optional_type (expression_type k x) (expression_type k y)) unequal_types))
 expression_fault k (both x y) =
-    or_else (expression_fault k x) (or_else (expression_fault k y) (unless (is_boolean (expression_type k x) && is_boolean (expression_type k y)) not_boolean))
+    or_else (expression_fault k x)
+        (or_else (expression_fault k y) (unless (is_boolean (expression_type k x) &&
+        is_boolean (expression_type k y)) not_boolean))
 expression_fault k (either x y) =
-    or_else (expression_fault k x) (or_else (expression_fault k y) (unless (is_boolean (expression_type k x) && is_boolean (expression_type k y)) not_boolean))
-expression_fault k (negation x) = or_else (expression_fault k x) (unless (is_boolean (expression_type k x)) not_boolean)
+    or_else (expression_fault k x)
+        (or_else (expression_fault k y) (unless (is_boolean (expression_type k x) &&
+        is_boolean (expression_type k y)) not_boolean))
+expression_fault k (negation x) =
+    or_else (expression_fault k x) (unless (is_boolean (expression_type k x)) not_boolean)
 expression_fault k (is_null x) = expression_fault k x
 expression_fault k (is_not_null x) = expression_fault k x
 expression_fault k (is_nan x) = or_else (expression_fault k x) (Some unsupported_predicate)
 expression_fault k (between x lo hi lower_strict upper_strict) =
     or_else (expression_fault k x) (or_else (expression_fault k lo) (or_else (expression_fault k hi)
-    (unless (eq_optional_type (expression_type k x) (expression_type k lo) && eq_optional_type (expression_type k x) (expression_type k hi)) unequal_types)))
+    (unless (eq_optional_type (expression_type k x) (expression_type k lo) &&
+        eq_optional_type (expression_type k x) (expression_type k hi)) unequal_types)))
 expression_fault k (like x form negated ignores_case) =
     or_else (expression_fault k x) (or_else (expression_fault k form) (or_else
-    (unless (is_utf8_type (expression_type k x) && is_utf8_type (expression_type k form)) unequal_types)
+    (unless (is_utf8_type (expression_type k x) &&
+        is_utf8_type (expression_type k form)) unequal_types)
     (unless (is_supported_like form ignores_case) unsupported_like)))
 expression_fault k row_count = Some unsupported_predicate
 expression_fault k (statistic x a) = or_else (expression_fault k x) (Some placeholder)
 
 -- a predicate is of truth type
 abbrev pub predicate_fault : LogicalType → Expression → Option Refusal
-predicate_fault k e = or_else (expression_fault k e) (unless (is_boolean (expression_type k e)) not_boolean)
+predicate_fault k e =
+    or_else (expression_fault k e) (unless (is_boolean (expression_type k e)) not_boolean)
 
 -- paths are judged before the predicate
 abbrev pub scan_fault : Table → List (List Step) → Expression → Option Refusal
@@ -181,15 +203,18 @@ scan_fault t paths e = or_else (paths_fault 0 t.kind paths) (predicate_fault t.k
 -- the path is judged before the group
 abbrev pub describe_fault : Table → List Step → ℕ → Option Refusal
 describe_fault t path i =
-    or_else (path_fault 0 t.kind path) (or_else (leaf_fault t.kind path) (unless (nat_lt i (length t.groups)) no_such_group))
+    or_else (path_fault 0 t.kind path)
+        (or_else (leaf_fault t.kind path) (unless (nat_lt i (length t.groups)) no_such_group))
 
 -- ---- all commands
 
--- why the table refuses the command: the first reason in order, and none where it is accepted; totals and memory aside
+-- why the table refuses the command: the first reason in order, and none where it is accepted;
+-- totals and memory aside
 abbrev pub refusal : Table → Command → Option Refusal
 refusal t (create k default entries) = create_fault k entries
 refusal t (append s values) = append_fault t.kind s values
-refusal t (append_array s rows) = or_else (type_fault_so_far s) (first_unconvertible 0 s t.kind rows)
+refusal t (append_array s rows) =
+    or_else (type_fault_so_far s) (first_unconvertible 0 s t.kind rows)
 refusal t (join i) = join_fault t i
 refusal t (retype k) = retype_fault t k
 refusal t compact = None

@@ -11,9 +11,12 @@ pub data Comparison : Type 0 where
 
 -- what a placeholder asks of the values of an expression
 pub data Aggregate : Type 0 where
-  min max sum null_count nan_count size min_max all_null all_non_null all_nan all_non_nan : Aggregate
+  min max sum null_count nan_count size min_max all_null all_non_null all_nan
+      all_non_nan : Aggregate
 
--- A column is a path of names, and none is the row itself. `between` has its flags for strict ends, lower first; `like` says whether it is negated and whether case is ignored. `row_count` and the placeholder `statistic` stand in proofs.
+-- A column is a path of names, and none is the row itself. `between` has its flags for strict ends,
+-- lower first; `like` says whether it is negated and whether case is ignored. `row_count` and the
+-- placeholder `statistic` stand in proofs.
 pub data Expression : Type 0 where
   literal : LogicalType → Content → Expression
   column : Names → Expression
@@ -40,7 +43,8 @@ reads_columns (negation x) = reads_columns x
 reads_columns (is_null x) = reads_columns x
 reads_columns (is_not_null x) = reads_columns x
 reads_columns (is_nan x) = reads_columns x
-reads_columns (between x lo hi lower_strict upper_strict) = reads_columns x || reads_columns lo || reads_columns hi
+reads_columns (between x lo hi lower_strict upper_strict) =
+    reads_columns x || reads_columns lo || reads_columns hi
 reads_columns (like x form negated ignores_case) = reads_columns x || reads_columns form
 reads_columns row_count = false
 reads_columns (statistic x a) = false
@@ -56,7 +60,8 @@ HasFormedLiterals (negation x) = HasFormedLiterals x
 HasFormedLiterals (is_null x) = HasFormedLiterals x
 HasFormedLiterals (is_not_null x) = HasFormedLiterals x
 HasFormedLiterals (is_nan x) = HasFormedLiterals x
-HasFormedLiterals (between x lo hi lower_strict upper_strict) = HasFormedLiterals x × HasFormedLiterals lo × HasFormedLiterals hi
+HasFormedLiterals (between x lo hi lower_strict upper_strict) =
+    HasFormedLiterals x × HasFormedLiterals lo × HasFormedLiterals hi
 HasFormedLiterals (like x form negated ignores_case) = HasFormedLiterals x × HasFormedLiterals form
 HasFormedLiterals row_count = Unit {0}
 HasFormedLiterals (statistic x a) = HasFormedLiterals x

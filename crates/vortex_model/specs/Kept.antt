@@ -51,7 +51,8 @@ is_leaf k = false
 -- The same faults, where tables hold leaves and records so far, and no lists.
 abbrev mutual
   pub part_fault_so_far : LogicalType → Option Refusal
-  part_fault_so_far (struct fs n) = if names_distinct fs then fields_fault_so_far fs else Some repeated_name
+  part_fault_so_far (struct fs n) =
+      if names_distinct fs then fields_fault_so_far fs else Some repeated_name
   part_fault_so_far k = if is_leaf k then None else Some unkept_type
 
   pub fields_fault_so_far : Fields → Option Refusal

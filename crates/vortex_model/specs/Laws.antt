@@ -20,11 +20,13 @@ use Rattle.vortex_model.specs.Command.{Command, append_array, step}
 
 -- two conversions that succeed succeed as one
 abbrev pub ConversionsCompose : Type 0
-ConversionsCompose = (s t u : LogicalType) (c : Content) → Converts s t c → Converts t u c → Converts s u c
+ConversionsCompose =
+    (s t u : LogicalType) (c : Content) → Converts s t c → Converts t u c → Converts s u c
 
 -- what a content of one type is converted to is one of the other
 abbrev pub ConversionsAreValid : Type 0
-ConversionsAreValid = (s t : LogicalType) (c : Content) → IsContent s c → Converts s t c → IsContent t c
+ConversionsAreValid =
+    (s t : LogicalType) (c : Content) → IsContent s c → Converts s t c → IsContent t c
 
 -- a valid raw value says a content of the type
 abbrev pub ValidValuesAreContents : Type 0
@@ -32,21 +34,24 @@ ValidValuesAreContents = (k : LogicalType) (r : Raw) → IsValid k r → IsConte
 
 -- Each content of a type is what some valid raw value says.
 abbrev pub ContentsHaveRawValues : Type 0
-ContentsHaveRawValues = (k : LogicalType) (c : Content) → IsContent k c → (r : Raw) × IsValid k r × (content_of r ≡ c)
+ContentsHaveRawValues =
+    (k : LogicalType) (c : Content) → IsContent k c → (r : Raw) × IsValid k r × (content_of r ≡ c)
 
 abbrev pub truth_value : Bool → Expression
 truth_value b = literal (boolean_type non_nullable) (boolean b)
 
 -- a scan by literal true answers every row, and by literal false none
 abbrev pub TrueSelectsAll : Type 0
-TrueSelectsAll = (t : Table) (paths : List Names) → answer t paths (truth_value true) ≡ map (cut_row paths t.kind) (rows_of t)
+TrueSelectsAll = (t : Table) (paths : List Names) →
+    answer t paths (truth_value true) ≡ map (cut_row paths t.kind) (rows_of t)
 
 abbrev pub FalseSelectsNone : Type 0
 FalseSelectsNone = (t : Table) (paths : List Names) → answer t paths (truth_value false) ≡ []
 
 -- and by literal false every chunk is skipped
 abbrev pub FalseSkipsAll : Type 0
-FalseSkipsAll = (t : Table) → IsTable t → skipped_chunks t (truth_value false) ≡ range_with_len 0 (length t.chunks)
+FalseSkipsAll = (t : Table) → IsTable t → skipped_chunks t (truth_value false) ≡
+    range_with_len 0 (length t.chunks)
 
 -- each path that one list covers is covered by the other
 abbrev pub CoverTheSame : List Names → List Names → Type 0
@@ -54,7 +59,8 @@ CoverTheSame paths others = (here : Names) → covers paths here ≡ covers othe
 
 -- paths that cover the same give equal answers, of equal types
 abbrev pub CoversTellAnswers : Type 0
-CoversTellAnswers = (t : Table) (paths others : List Names) (e : Expression) → CoverTheSame paths others →
+CoversTellAnswers =
+    (t : Table) (paths others : List Names) (e : Expression) → CoverTheSame paths others →
     (answer t paths e ≡ answer t others e) × (cut_type paths t.kind ≡ cut_type others t.kind)
 
 -- the root path asks for the whole row
@@ -67,7 +73,8 @@ RootTypeIsWhole = (k : LogicalType) → cut_type ([] ∷ []) k ≡ k
 
 -- the rows of an answer are of its type
 abbrev pub AnswersAreOfTheirType : Type 0
-AnswersAreOfTheirType = (t : Table) (paths : List Names) (e : Expression) → IsTable t → AllByRecursion (IsContent (cut_type paths t.kind)) (answer t paths e)
+AnswersAreOfTheirType = (t : Table) (paths : List Names) (e : Expression) → IsTable t →
+    AllByRecursion (IsContent (cut_type paths t.kind)) (answer t paths e)
 
 -- no row whose columns lie in a hopeless box satisfies the predicate
 abbrev pub HopelessBoxesHoldNone : Type 0
@@ -84,21 +91,26 @@ is_leaf_value c = false
 
 -- a value is not below its low
 abbrev pub LowsAreBelow : Type 0
-LowsAreBelow = (v : Content) (L : ℕ) (l : Content) → is_leaf_value v ≡ true → IsLow v L l → IsAtMost l v
+LowsAreBelow =
+    (v : Content) (L : ℕ) (l : Content) → is_leaf_value v ≡ true → IsLow v L l → IsAtMost l v
 
 -- nor above its high, where it has one
 abbrev pub HighsAreAbove : Type 0
-HighsAreAbove = (v : Content) (L : ℕ) (h : Content) → is_leaf_value v ≡ true → IsHigh v L (Some h) → IsAtMost v h
+HighsAreAbove = (v : Content) (L : ℕ) (h : Content) → is_leaf_value v ≡ true → IsHigh v L (Some h) →
+    IsAtMost v h
 
--- exactly what is valid passes the test for it, and so with what converts, with equal types, and with types that are equal up to nullability
+-- exactly what is valid passes the test for it, and so with what converts, with equal types, and
+-- with types that are equal up to nullability
 abbrev pub TestsOfValidityAreRight : Type 0
 TestsOfValidityAreRight = (k : LogicalType) (r : Raw) → (valid k r ≡ true) ↔ IsValid k r
 
 abbrev pub TestsOfConversionAreRight : Type 0
-TestsOfConversionAreRight = (s t : LogicalType) (c : Content) → (converts s t c ≡ true) ↔ Converts s t c
+TestsOfConversionAreRight =
+    (s t : LogicalType) (c : Content) → (converts s t c ≡ true) ↔ Converts s t c
 
 abbrev pub TestsOfEqualityAreRight : Type 0
-TestsOfEqualityAreRight = (k l : LogicalType) → ((eq_type k l ≡ true) ↔ (k ≡ l)) × ((equal_ignoring_nullability k l ≡ true) ↔ EqualIgnoringNullability k l)
+TestsOfEqualityAreRight = (k l : LogicalType) → ((eq_type k l ≡ true) ↔ (k ≡ l)) ×
+    ((equal_ignoring_nullability k l ≡ true) ↔ EqualIgnoringNullability k l)
 
 -- what is kept so far is what a table of the whole product can hold
 abbrev pub KeptTypesCanBeHeld : Type 0
@@ -107,13 +119,16 @@ KeptTypesCanBeHeld = (k : LogicalType) → type_fault_so_far k ≡ None → type
 -- the built-in proofs read placeholders alone, and no column
 abbrev pub BuiltInProofsReadNoColumns : Type 0
 BuiltInProofsReadNoColumns = (k : LogicalType) (e : Expression) →
-    IfSome (falsifier k e) (λ proof. reads_columns proof ≡ false) × IfSome (satisfier k e) (λ proof. reads_columns proof ≡ false)
+    IfSome (falsifier k e) (λ proof. reads_columns proof ≡ false) ×
+        IfSome (satisfier k e) (λ proof. reads_columns proof ≡ false)
 
--- The shape of a pattern is an exact text where its signs are that text's letters, and a beginning where a wildcard stands behind them.
+-- The shape of a pattern is an exact text where its signs are that text's letters, and a beginning
+-- where a wildcard stands behind them.
 abbrev pub ShapesAreSpelled : Type 0
 ShapesAreSpelled = (form t : List ℕ) →
     ((shape_of form ≡ exact_text t) ↔ (signs_of form ≡ Some (map letter t)))
-    × ((shape_of form ≡ beginning t) ↔ ((rest : List Sign) × (signs_of form ≡ Some (map letter t ++ wildcard ∷ rest))))
+    × ((shape_of form ≡ beginning t) ↔
+        ((rest : List Sign) × (signs_of form ≡ Some (map letter t ++ wildcard ∷ rest))))
 
 -- the rows of an array that is handed in are of its type
 abbrev pub IsFormed : Command → Type 0

@@ -21,7 +21,8 @@ after_this a p (c ∷ cs) = (a == c) && p cs
 abbrev pub matches : List ℕ → List ℕ → Bool
 matches [] [] = true
 matches [] (c ∷ cs) = false
-matches (a ∷ rest) cs = if a == 37 then some_end (matches rest) cs else (if a == 95 then after_one (matches rest) cs else after_this a (matches rest) cs)
+matches (a ∷ rest) cs = if a == 37 then some_end (matches rest) cs
+    else (if a == 95 then after_one (matches rest) cs else after_this a (matches rest) cs)
 
 -- A backslash (92) in a pattern has no meaning here: what such a pattern matches is not said.
 abbrev pub has_backslash : List ℕ → Bool

@@ -16,7 +16,8 @@ pub data IntKind : Type 0 where
 pub data FloatKind : Type 0 where
   f16 f32 f64 : FloatKind
 
--- A name is its bytes. A mapping has a key, a value and whether its keys are sorted; an extension has an id, metadata and the type that stores it.
+-- A name is its bytes. A mapping has a key, a value and whether its keys are sorted; an extension
+-- has an id, metadata and the type that stores it.
 mutual
   pub data LogicalType : Type 0 where
     null_only : LogicalType
@@ -133,13 +134,15 @@ abbrev mutual
   eq_type null_only null_only = true
   eq_type (boolean_type n) (boolean_type m) = eq_nullability n m
   eq_type (integer_type i n) (integer_type j m) = eq_int_kind i j && eq_nullability n m
-  eq_type (float f n) (float g m) = (float_kind_number f == float_kind_number g) && eq_nullability n m
+  eq_type (float f n) (float g m) =
+      (float_kind_number f == float_kind_number g) && eq_nullability n m
   eq_type (decimal p s n) (decimal q t m) = (p == q) && int_eq s t && eq_nullability n m
   eq_type (utf8 n) (utf8 m) = eq_nullability n m
   eq_type (binary n) (binary m) = eq_nullability n m
   eq_type (list k n) (list l m) = eq_type k l && eq_nullability n m
   eq_type (fixed_list k i n) (fixed_list l j m) = eq_type k l && (i == j) && eq_nullability n m
-  eq_type (mapping k v s n) (mapping l w t m) = eq_type k l && eq_type v w && eq_flag s t && eq_nullability n m
+  eq_type (mapping k v s n) (mapping l w t m) =
+      eq_type k l && eq_type v w && eq_flag s t && eq_nullability n m
   eq_type (struct fs n) (struct gs m) = eq_fields fs gs && eq_nullability n m
   eq_type (union vs n) (union ws m) = eq_variants vs ws && eq_nullability n m
   eq_type (variant n) (variant m) = eq_nullability n m
@@ -153,7 +156,8 @@ abbrev mutual
 
   pub eq_variants : Variants → Variants → Bool
   eq_variants no_variants no_variants = true
-  eq_variants (choice x t k vs) (choice y u l ws) = bytes_eq x y && int_eq t u && eq_type k l && eq_variants vs ws
+  eq_variants (choice x t k vs) (choice y u l ws) =
+      bytes_eq x y && int_eq t u && eq_type k l && eq_variants vs ws
   eq_variants vs ws = false
 
 -- the type with all its nullability taken away

@@ -11,7 +11,8 @@ use Rattle.vortex_model.specs.Content.{Content, null, boolean, integer, text, by
 abbrev pub bytes_cmp : List ℕ → List ℕ → Ordering
 bytes_cmp = slice_cmp nat_cmp
 
--- False is below true, numbers stand as whole numbers, texts and bytes as lists of bytes. Nothing else compares.
+-- False is below true, numbers stand as whole numbers, texts and bytes as lists of bytes. Nothing
+-- else compares.
 abbrev pub leaf_cmp : Content → Content → Option Ordering
 leaf_cmp (boolean a) (boolean b) = Some (bool_cmp a b)
 leaf_cmp (integer a) (integer b) = Some (int_cmp a b)
@@ -24,7 +25,8 @@ abbrev pub and_then : Option Ordering → Option Ordering → Option Ordering
 and_then (Some Equal) q = q
 and_then p q = p
 
--- Null is least, sequences go element by element and then by length, a union's values by tag and then by value. A variant's value compares with null alone.
+-- Null is least, sequences go element by element and then by length, a union's values by tag and
+-- then by value. A variant's value compares with null alone.
 abbrev mutual
   pub content_cmp : Content → Content → Option Ordering
   content_cmp null null = Some Equal

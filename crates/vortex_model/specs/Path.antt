@@ -20,7 +20,8 @@ Positions = List ℕ
 -- the position of the first field of that name
 abbrev pub position_named : Fields → List ℕ → Option ℕ
 position_named no_fields x = None
-position_named (field y k fs) x = if bytes_eq y x then Some 0 else option_map suc (position_named fs x)
+position_named (field y k fs) x =
+    if bytes_eq y x then Some 0 else option_map suc (position_named fs x)
 
 -- the type of the part at a position
 abbrev pub field_at : Fields → ℕ → Option LogicalType
@@ -39,7 +40,8 @@ position_in k x = None
 -- the type at these positions, nullable also where a record on the way is
 abbrev pub type_at : LogicalType → Positions → Option LogicalType
 type_at k [] = Some k
-type_at k (i ∷ is) = option_map (nullable_inside (nullability_of k)) (option_and_then (λ part. type_at part is) (part_at k i))
+type_at k (i ∷ is) = option_map (nullable_inside (nullability_of k))
+    (option_and_then (λ part. type_at part is) (part_at k i))
 
 -- what a record has at a position, and null of anything else
 abbrev pub part_of : Content → ℕ → Content
@@ -54,7 +56,9 @@ at c (i ∷ is) = at (part_of c i) is
 -- the positions that a path of names stands for, where it is in the type
 abbrev pub positions : LogicalType → Names → Option Positions
 positions k [] = Some []
-positions k (x ∷ xs) = option_and_then (λ i. option_and_then (λ part. option_map (λ is. i ∷ is) (positions part xs)) (part_at k i)) (position_in k x)
+positions k (x ∷ xs) =
+    option_and_then (λ i. option_and_then (λ part. option_map (λ is. i ∷ is) (positions part xs))
+    (part_at k i)) (position_in k x)
 
 -- the type at a path of names
 abbrev pub type_of_column : LogicalType → Names → Option LogicalType

@@ -28,29 +28,35 @@ abbrev pub Replies : {S A : Type 0} → Answers S A → S → List (List ℕ) �
 Replies {S} {A} answers old [] [] new = new ≡ old
 Replies {S} {A} answers old [] (a ∷ rest) new = ⊥
 Replies {S} {A} answers old (line ∷ lines) [] new = ⊥
-Replies {S} {A} answers old (line ∷ lines) (a ∷ rest) new = (mid : S) × answers old line a mid × Replies answers mid lines rest new
+Replies {S} {A} answers old (line ∷ lines) (a ∷ rest) new =
+    (mid : S) × answers old line a mid × Replies answers mid lines rest new
 
 -- ---- the answer to one command
 
 -- the chunks of a group
 abbrev pub chunks_of_group : Table → ℕ → List (List Content)
-chunks_of_group t i = elim (slice_get (grouped t.groups t.chunks) i) [ None ↦ [] | Some chunks ↦ chunks ]
+chunks_of_group t i =
+    elim (slice_get (grouped t.groups t.chunks) i) [ None ↦ [] | Some chunks ↦ chunks ]
 
 -- the zone maps of a group's chunks
 abbrev pub chunk_zones : Table → Positions → ℕ → List ZoneMap
-chunk_zones t is i = map (λ chunk. chunk_zone_at t chunk is (kind_at t.kind is)) (chunks_of_group t i)
+chunk_zones t is i =
+    map (λ chunk. chunk_zone_at t chunk is (kind_at t.kind is)) (chunks_of_group t i)
 
 -- the zone map of a leaf column of a group, its chunks joined from the left
 abbrev pub zone_at : Table → Positions → ℕ → ZoneMap
 zone_at t is i = zone_of_group (kind_at t.kind is) (chunk_zones t is i)
 
--- What a description says: bounds and null count are those of the group, and its sum and constancy may be missing where joins lost them.
+-- What a description says: bounds and null count are those of the group, and its sum and constancy
+-- may be missing where joins lost them.
 pub record Describes (t : Table) (is : Positions) (i : ℕ) (z : ZoneMap) : Type 0 where
   pub low : z.low ≡ group_low (chunk_zones t is i)
   pub high : z.high ≡ group_high (chunk_zones t is i)
   pub nulls : z.nulls ≡ group_nulls (chunk_zones t is i)
-  pub total : IsGroupTotal (kind_at t.kind is) (map (λ chunk. sum_of (values_at is chunk)) (chunks_of_group t i)) z.total
-  pub constant : IsGroupConstancy (values_at is (flat_map (λ chunk. chunk) (chunks_of_group t i))) (chunk_zones t is i) z.constant
+  pub total : IsGroupTotal (kind_at t.kind is)
+      (map (λ chunk. sum_of (values_at is chunk)) (chunks_of_group t i)) z.total
+  pub constant : IsGroupConstancy (values_at is (flat_map (λ chunk. chunk) (chunks_of_group t i)))
+      (chunk_zones t is i) z.constant
 
 -- what may be answered to a command
 pub data Answer : Type 0 where
@@ -63,7 +69,8 @@ pub data Answer : Type 0 where
 -- what an accepted command answers
 abbrev pub Says : Table → Command → Answer → Type 0
 Says t (scan paths e) a = a ≡ found (scanned t (map names_of paths) e)
-Says t (describe path i) a = (z : ZoneMap) × Describes t (positions_of t.kind path) i z × (a ≡ described z)
+Says t (describe path i) a =
+    (z : ZoneMap) × Describes t (positions_of t.kind path) i z × (a ≡ described z)
 Says t c a = a ≡ accepted
 
 -- the same where there may be no table yet
@@ -77,9 +84,11 @@ PassesTotal (Some t) (append k values) = 2 ^ 64 ≤ length (rows_of t) + length 
 PassesTotal (Some t) (append_array k rows) = 2 ^ 64 ≤ length (rows_of t) + length rows
 PassesTotal old c = ⊥
 
--- A command is refused by the first reason, is accepted, or is answered by want of memory. A total goes behind all other reasons. Only where the command is accepted the table changes.
+-- A command is refused by the first reason, is accepted, or is answered by want of memory. A total
+-- goes behind all other reasons. Only where the command is accepted the table changes.
 abbrev pub RespondsTo : Option Table → Command → Answer → Option Table → Type 0
 RespondsTo old c out_of_memory new = new ≡ old
-RespondsTo old c (refused total_passed) new = (refusal_in old c ≡ None) × PassesTotal old c × (new ≡ old)
+RespondsTo old c (refused total_passed) new =
+    (refusal_in old c ≡ None) × PassesTotal old c × (new ≡ old)
 RespondsTo old c (refused r) new = (refusal_in old c ≡ Some r) × (new ≡ old)
 RespondsTo old c a new = (refusal_in old c ≡ None) × SaysIn old c a × (new ≡ after_in old c)

@@ -18,7 +18,8 @@ boolean_literal b = literal (boolean_type non_nullable) (boolean b)
 abbrev pub text_literal : List ℕ → Expression
 text_literal t = literal (utf8 non_nullable) (text t)
 
--- Of a literal the least and the greatest value are itself, its null count is 1 or 0, and no NaN counts. All else is a placeholder.
+-- Of a literal the least and the greatest value are itself, its null count is 1 or 0, and no NaN
+-- counts. All else is a placeholder.
 abbrev pub bound_expression : Aggregate → Expression → Expression
 bound_expression a (literal k c) = literal k c
 bound_expression a x = statistic x a
@@ -43,8 +44,12 @@ is_float_placeholder k x = is_of_floats k x
 
 -- by the bounds of the two sides, where a comparison is true of none
 abbrev pub comparison_falsifier : Comparison → Expression → Expression → Expression
-comparison_falsifier equal l r = either (compare greater (bound_expression min l) (bound_expression max r)) (compare greater (bound_expression min r) (bound_expression max l))
-comparison_falsifier not_equal l r = both (compare equal (bound_expression min l) (bound_expression max r)) (compare equal (bound_expression max l) (bound_expression min r))
+comparison_falsifier equal l r =
+    either (compare greater (bound_expression min l) (bound_expression max r))
+    (compare greater (bound_expression min r) (bound_expression max l))
+comparison_falsifier not_equal l r =
+    both (compare equal (bound_expression min l) (bound_expression max r))
+    (compare equal (bound_expression max l) (bound_expression min r))
 comparison_falsifier greater l r = compare at_most (bound_expression max l) (bound_expression min r)
 comparison_falsifier at_least l r = compare less (bound_expression max l) (bound_expression min r)
 comparison_falsifier less l r = compare at_least (bound_expression min l) (bound_expression max r)
@@ -58,19 +63,23 @@ abbrev pub no_nan_by_flag : Expression → Expression
 no_nan_by_flag x = statistic x all_non_nan
 
 -- the proof, where the sides of float type that are no literals hold no NaN
-abbrev pub guarded : (Expression → Expression) → Bool → Bool → Expression → Expression → Expression → Expression
+abbrev pub guarded : (Expression → Expression) → Bool → Bool → Expression → Expression →
+    Expression → Expression
 guarded guard true true l r proof = both (both (guard l) (guard r)) proof
 guarded guard true false l r proof = both (guard l) proof
 guarded guard false true l r proof = both (guard r) proof
 guarded guard false false l r proof = proof
 
 -- one proof, or for floats two
-abbrev pub comparison_falsifiers : LogicalType → Comparison → Expression → Expression → List Expression
+abbrev pub comparison_falsifiers : LogicalType → Comparison → Expression → Expression →
+    List Expression
 comparison_falsifiers k op l r =
     if not (is_comparable k l && is_comparable k r) then []
     else (if is_float_placeholder k l || is_float_placeholder k r
-    then guarded no_nan_by_count (is_float_placeholder k l) (is_float_placeholder k r) l r (comparison_falsifier op l r)
-    ∷ guarded no_nan_by_flag (is_float_placeholder k l) (is_float_placeholder k r) l r (comparison_falsifier op l r) ∷ []
+    then guarded no_nan_by_count (is_float_placeholder k l) (is_float_placeholder k r) l r
+        (comparison_falsifier op l r)
+    ∷ guarded no_nan_by_flag (is_float_placeholder k l) (is_float_placeholder k r) l r
+        (comparison_falsifier op l r) ∷ []
     else comparison_falsifier op l r ∷ [])
 
 -- ---- LIKE
@@ -83,11 +92,13 @@ pub data Sign : Type 0 where
 abbrev pub sign_of : ℕ → Sign
 sign_of c = if (c == 37) || (c == 95) then wildcard else letter c
 
--- The signs of a pattern, in characters. A backslash (92) and the character behind it spell that character, and none may stand at the end.
+-- The signs of a pattern, in characters. A backslash (92) and the character behind it spell that
+-- character, and none may stand at the end.
 abbrev pub signs_of : List ℕ → Option (List Sign)
 signs_of [] = Some []
 signs_of (c ∷ []) = if c == 92 then None else Some (sign_of c ∷ [])
-signs_of (c ∷ d ∷ cs) = if c == 92 then option_map (λ signs. letter d ∷ signs) (signs_of cs) else option_map (λ signs. sign_of c ∷ signs) (signs_of (d ∷ cs))
+signs_of (c ∷ d ∷ cs) = if c == 92 then option_map (λ signs. letter d ∷ signs) (signs_of cs)
+    else option_map (λ signs. sign_of c ∷ signs) (signs_of (d ∷ cs))
 
 -- An exact text, or a beginning that every match has.
 pub data Shape : Type 0 where
@@ -113,12 +124,15 @@ shape_of cs = elim (signs_of cs) [ None ↦ no_shape | Some signs ↦ shape_of_s
 
 -- the least value is above, or the greatest below
 abbrev pub outside : Expression → List ℕ → List ℕ → Comparison → Expression
-outside x below above op = either (compare op (bound_expression min x) (text_literal above)) (compare less (bound_expression max x) (text_literal below))
+outside x below above op =
+    either (compare op (bound_expression min x) (text_literal above))
+    (compare less (bound_expression max x) (text_literal below))
 
 -- No text is the exact one, or none begins so: a text that begins so is below the raised beginning.
 abbrev pub shape_falsifier : Expression → Shape → Option Expression
 shape_falsifier x (exact_text t) = Some (outside x (encode_utf8_all t) (encode_utf8_all t) greater)
-shape_falsifier x (beginning t) = option_map (λ above. outside x (encode_utf8_all t) above at_least) (raise (encode_utf8_all t))
+shape_falsifier x (beginning t) =
+    option_map (λ above. outside x (encode_utf8_all t) above at_least) (raise (encode_utf8_all t))
 shape_falsifier x no_shape = None
 
 -- of a LIKE that keeps case and isn't negated, by a pattern that is a literal
@@ -167,19 +181,25 @@ as_list (Some proof) = proof ∷ []
 
 -- no value of the expression is null, or each is, by the count and by the flag
 abbrev pub no_nulls_proofs : Expression → List Expression
-no_nulls_proofs x = compare equal (null_count_expression x) (count_literal 0) ∷ statistic x all_non_null ∷ []
+no_nulls_proofs x =
+    compare equal (null_count_expression x) (count_literal 0) ∷ statistic x all_non_null ∷ []
 
 abbrev pub only_nulls_proofs : Expression → List Expression
 only_nulls_proofs x = compare equal (null_count_expression x) row_count ∷ statistic x all_null ∷ []
 
--- The proofs, over statistics, that the built-in rules give at a node, in the order of the rules: each proves that no row satisfies the predicate. Those of AND, OR and BETWEEN come from their parts.
+-- The proofs, over statistics, that the built-in rules give at a node, in the order of the rules:
+-- each proves that no row satisfies the predicate. Those of AND, OR and BETWEEN come from their
+-- parts.
 abbrev pub falsifiers : LogicalType → Expression → List Expression
 falsifiers k (literal l (boolean b)) = boolean_literal (not b) ∷ []
 falsifiers k (compare op l r) = comparison_falsifiers k op l r
 falsifiers k (is_null x) = no_nulls_proofs x
 falsifiers k (is_not_null x) = only_nulls_proofs x
-falsifiers k (is_nan x) = if is_of_floats k x then compare equal (nan_count_expression x) (count_literal 0) ∷ statistic x all_non_nan ∷ [] else []
-falsifiers k (like x form negated ignores_case) = as_list (like_falsifier x form negated ignores_case)
+falsifiers k (is_nan x) =
+    if is_of_floats k x then compare equal (nan_count_expression x) (count_literal 0) ∷
+    statistic x all_non_nan ∷ [] else []
+falsifiers k (like x form negated ignores_case) =
+    as_list (like_falsifier x form negated ignores_case)
 falsifiers k e = []
 
 -- all of them as one
@@ -187,7 +207,8 @@ abbrev pub falsifier : LogicalType → Expression → Option Expression
 falsifier k (both x y) = either_there (falsifier k x) (falsifier k y)
 falsifier k (either x y) = both_there (falsifier k x) (falsifier k y)
 falsifier k (between x lo hi lower_strict upper_strict) =
-    either_there (joined_proofs (falsifiers k (compare (end_of lower_strict) lo x))) (joined_proofs (falsifiers k (compare (end_of upper_strict) x hi)))
+    either_there (joined_proofs (falsifiers k (compare (end_of lower_strict) lo x)))
+        (joined_proofs (falsifiers k (compare (end_of upper_strict) x hi)))
 falsifier k e = joined_proofs (falsifiers k e)
 
 -- the proofs that the built-in rules give that every row does
@@ -195,7 +216,8 @@ abbrev pub satisfiers : LogicalType → Expression → List Expression
 satisfiers k (literal l (boolean b)) = boolean_literal b ∷ []
 satisfiers k (is_null x) = only_nulls_proofs x
 satisfiers k (is_not_null x) = no_nulls_proofs x
-satisfiers k (is_nan x) = if is_of_floats k x then compare equal (nan_count_expression x) row_count ∷ statistic x all_nan ∷ [] else []
+satisfiers k (is_nan x) = if is_of_floats k x
+    then compare equal (nan_count_expression x) row_count ∷ statistic x all_nan ∷ [] else []
 satisfiers k e = []
 
 abbrev pub satisfier : LogicalType → Expression → Option Expression

@@ -31,17 +31,21 @@ if_leaf is (Some k) = if is_leaf k then Some (is, k) else None
 abbrev pub leaf_at : LogicalType → Names → Option (Positions × LogicalType)
 leaf_at k xs = option_and_then (λ is. if_leaf is (type_at k is)) (positions k xs)
 
--- The zone map of a leaf column of a chunk. Of other columns, and of paths that lead nowhere, nothing is kept.
+-- The zone map of a leaf column of a chunk. Of other columns, and of paths that lead nowhere,
+-- nothing is kept.
 abbrev pub chunk_zone : Table → List Content → Names → Option ZoneMap
 chunk_zone t chunk xs = option_map (λ leaf. chunk_zone_at t chunk leaf.0 leaf.1) (leaf_at t.kind xs)
 
 -- the same of the chunks of a group
 abbrev pub group_zone : Table → List (List Content) → Names → Option ZoneMap
-group_zone t chunks xs = option_map (λ leaf. group_bounds (map (λ chunk. chunk_zone_at t chunk leaf.0 leaf.1) chunks)) (leaf_at t.kind xs)
+group_zone t chunks xs =
+    option_map (λ leaf. group_bounds (map (λ chunk. chunk_zone_at t chunk leaf.0 leaf.1) chunks))
+    (leaf_at t.kind xs)
 
 -- ---- proofs
 
--- The table tells the least and the greatest value and the null counts of its leaf columns, and no more.
+-- The table tells the least and the greatest value and the null counts of its leaf columns, and no
+-- more.
 abbrev pub is_bound : Aggregate → Bool
 is_bound min = true
 is_bound max = true
@@ -55,7 +59,8 @@ abbrev pub told : Option ZoneMap → ℕ → Aggregate → Content
 told None rows a = null
 told (Some z) rows a = if is_bound a then placeholder_value a (statistics_of z) rows else null
 
--- what a placeholder stands for: the statistic of a leaf column, where the table tells it, and else null
+-- what a placeholder stands for: the statistic of a leaf column, where the table tells it, and else
+-- null
 abbrev pub known : (Names → Option ZoneMap) → ℕ → Expression → Aggregate → Content
 known zones rows (column xs) a = told (zones xs) rows a
 known zones rows e a = null
@@ -63,7 +68,9 @@ known zones rows e a = null
 -- The proof is true of these zone maps. It is a built-in one, which reads no column.
 abbrev pub proves : (Names → Option ZoneMap) → ℕ → Option Expression → Bool
 proves zones rows None = false
-proves zones rows (Some proof) = is_true (evaluate (record { columns = λ xs. null; placeholders = known zones rows; rows = rows }) proof)
+proves zones rows (Some proof) =
+    is_true (evaluate (record { columns = λ xs. null; placeholders = known zones rows;
+    rows = rows }) proof)
 
 -- ---- chunks
 
@@ -71,7 +78,8 @@ proves zones rows (Some proof) = is_true (evaluate (record { columns = λ xs. nu
 pub data Outcome : Type 0 where
   skipped_in_group skipped whole tested : Outcome
 
--- A chunk of which it is proved that no row satisfies is skipped, and one of which it is proved that every row does is taken whole.
+-- A chunk of which it is proved that no row satisfies is skipped, and one of which it is proved
+-- that every row does is taken whole.
 abbrev pub chunk_outcome : Table → Expression → List Content → Outcome
 chunk_outcome t e chunk =
     if proves (chunk_zone t chunk) (length chunk) (falsifier t.kind e) then skipped
@@ -134,7 +142,8 @@ saturated n = if nat_lt n (2 ^ 64) then n else (2 ^ 64 - 1)
 
 -- the sum of the lengths of the chunks whose outcome is tested
 abbrev pub tested_lengths : List Outcome → List (List Content) → ℕ
-tested_lengths os chunks = sum (map (λ pair. length pair.1) (filter (λ pair. is_tested pair.0) (zip os chunks)))
+tested_lengths os chunks =
+    sum (map (λ pair. length pair.1) (filter (λ pair. is_tested pair.0) (zip os chunks)))
 
 -- the rows of the chunks that are neither skipped nor taken whole
 abbrev pub rows_tested : Table → Expression → ℕ
@@ -143,10 +152,12 @@ rows_tested t e = saturated (tested_lengths (outcomes t e) t.chunks)
 abbrev pub one_if : Bool → ℕ
 one_if b = if b then 1 else 0
 
--- One for a falsifier at each group of two or more chunks and at each chunk that wasn't skipped with its group, one for a satisfier at each chunk that isn't skipped.
+-- One for a falsifier at each group of two or more chunks and at each chunk that wasn't skipped
+-- with its group, one for a satisfier at each chunk that isn't skipped.
 abbrev pub proofs_for : Table → Expression → List Outcome → ℕ
 proofs_for t e os =
-    one_if (is_some (falsifier t.kind e)) * (count_by (nat_lt 1) t.groups + count_by (λ o. not (is_in_group o)) os)
+    one_if (is_some (falsifier t.kind e)) *
+        (count_by (nat_lt 1) t.groups + count_by (λ o. not (is_in_group o)) os)
     + one_if (is_some (satisfier t.kind e)) * count_by (λ o. not (is_skipped o)) os
 
 -- how many proofs were tried
@@ -155,7 +166,8 @@ proofs t e = saturated (proofs_for t e (outcomes t e))
 
 -- ---- the whole answer
 
--- The rows and their type, the numbers of the chunks that were skipped and taken whole, how many rows were tested and how many proofs tried.
+-- The rows and their type, the numbers of the chunks that were skipped and taken whole, how many
+-- rows were tested and how many proofs tried.
 pub record ScanAnswer : Type 0 where
   pub rows : List Content
   pub kind : LogicalType

@@ -12,7 +12,8 @@ pub data Precision (A : Type 0) : Type 0 where
   inexact : A → Precision A
   absent : Precision A
 
--- What may be known of a list of values: the least and the greatest, the sum, how many are null or NaN, the size in bytes, whether all are one value, and whether they never fall or always rise.
+-- What may be known of a list of values: the least and the greatest, the sum, how many are null or
+-- NaN, the size in bytes, whether all are one value, and whether they never fall or always rise.
 pub record Statistics : Type 0 where
   pub least : Precision Content
   pub greatest : Precision Content
@@ -33,14 +34,16 @@ non_null cs = filter (λ c. not (is_null c)) cs
 abbrev pub null_count_of : List Content → ℕ
 null_count_of cs = count_by is_null cs
 
--- The two compare in the order of contents, and the first is not above the second, or is below it. Values that don't compare pass neither test.
+-- The two compare in the order of contents, and the first is not above the second, or is below it.
+-- Values that don't compare pass neither test.
 abbrev pub is_at_most : Content → Content → Bool
 is_at_most c d = is_known is_le (content_cmp c d)
 
 abbrev pub is_below : Content → Content → Bool
 is_below c d = is_known is_lt (content_cmp c d)
 
--- The value that is at most each, and the one that each is at most. There is none of no values, nor where no value compares so with all.
+-- The value that is at most each, and the one that each is at most. There is none of no values, nor
+-- where no value compares so with all.
 abbrev pub least_value : List Content → Option Content
 least_value cs = find (λ v. list_all (is_at_most v) cs) cs
 

@@ -10,7 +10,8 @@ use Rattle.vortex_model.specs.Expression.{Expression}
 use Rattle.vortex_model.specs.Truth.{selects}
 use Rattle.vortex_model.specs.Cut.{cut_row}
 
--- The bound length of a leaf is that of its position, and else `default`. A group is a number of neighbouring chunks.
+-- The bound length of a leaf is that of its position, and else `default`. A group is a number of
+-- neighbouring chunks.
 pub record Table : Type 0 where
   pub kind : LogicalType
   pub default : ℕ
@@ -29,7 +30,8 @@ pub record IsTable (t : Table) : Type 0 where
 -- the length of a position, if the list has it, and else the default
 abbrev pub length_for : List (Positions × ℕ) → ℕ → Positions → ℕ
 length_for [] default is = default
-length_for (entry ∷ entries) default is = if eq_positions entry.0 is then entry.1 else length_for entries default is
+length_for (entry ∷ entries) default is =
+    if eq_positions entry.0 is then entry.1 else length_for entries default is
 
 -- the bound length of a leaf
 abbrev pub bound_length : Table → Positions → ℕ

@@ -48,7 +48,8 @@ end_of strict = if strict then less else at_most
 -- LIKE of texts. Where the pattern has a backslash it is null.
 abbrev pub liked : Content → Content → Bool → Content
 liked (text value) (text form) negated =
-    if has_backslash form then null else (if negated then boolean (not (is_like form value)) else boolean (is_like form value))
+    if has_backslash form then null
+        else (if negated then boolean (not (is_like form value)) else boolean (is_like form value))
 liked c d negated = null
 
 -- what the columns are, what placeholders stand for, and how many rows there are
@@ -57,7 +58,8 @@ pub record Given : Type 0 where
   pub placeholders : Expression → Aggregate → Content
   pub rows : ℕ
 
--- The value of an expression. A test for NaN and a LIKE that ignores case have no truth, and are null here.
+-- The value of an expression. A test for NaN and a LIKE that ignores case have no truth, and are
+-- null here.
 abbrev pub evaluate : Given → Expression → Content
 evaluate g (literal k c) = c
 evaluate g (column xs) = g.columns xs
@@ -69,7 +71,8 @@ evaluate g (is_null x) = boolean (is_null_content (evaluate g x))
 evaluate g (is_not_null x) = boolean (not (is_null_content (evaluate g x)))
 evaluate g (is_nan x) = null
 evaluate g (between x lo hi lower_strict upper_strict) =
-    kleene_and (compared (end_of lower_strict) (evaluate g lo) (evaluate g x)) (compared (end_of upper_strict) (evaluate g x) (evaluate g hi))
+    kleene_and (compared (end_of lower_strict) (evaluate g lo) (evaluate g x))
+        (compared (end_of upper_strict) (evaluate g x) (evaluate g hi))
 evaluate g (like x form negated true) = null
 evaluate g (like x form negated false) = liked (evaluate g x) (evaluate g form) negated
 evaluate g row_count = integer (pos g.rows)
@@ -77,7 +80,8 @@ evaluate g (statistic x a) = g.placeholders x a
 
 -- the columns of a row, where no placeholder is known
 abbrev pub of_row : LogicalType → Content → Given
-of_row k row = record { columns = λ xs. column_value k xs row; placeholders = λ x a. null; rows = 1 }
+of_row k row =
+    record { columns = λ xs. column_value k xs row; placeholders = λ x a. null; rows = 1 }
 
 -- the value of an expression at a row of this type
 abbrev pub value_at : LogicalType → Expression → Content → Content
@@ -102,11 +106,13 @@ abbrev pub is_free_of_backslash : Expression → Bool
 is_free_of_backslash (literal k (text form)) = not (has_backslash form)
 is_free_of_backslash e = true
 
--- The predicate has a truth. A comparison of floats, a test for NaN, a LIKE that ignores case and one whose pattern holds a backslash have none, nor has what is made of one.
+-- The predicate has a truth. A comparison of floats, a test for NaN, a LIKE that ignores case and
+-- one whose pattern holds a backslash have none, nor has what is made of one.
 abbrev pub has_truth : LogicalType → Expression → Bool
 has_truth k (literal l c) = true
 has_truth k (column xs) = true
-has_truth k (compare op x y) = not (is_of_floats k x || is_of_floats k y) && (has_truth k x && has_truth k y)
+has_truth k (compare op x y) =
+    not (is_of_floats k x || is_of_floats k y) && (has_truth k x && has_truth k y)
 has_truth k (both x y) = has_truth k x && has_truth k y
 has_truth k (either x y) = has_truth k x && has_truth k y
 has_truth k (negation x) = has_truth k x
@@ -114,8 +120,10 @@ has_truth k (is_null x) = has_truth k x
 has_truth k (is_not_null x) = has_truth k x
 has_truth k (is_nan x) = false
 has_truth k (between x lo hi lower_strict upper_strict) =
-    not (is_of_floats k x || is_of_floats k lo || is_of_floats k hi) && (has_truth k x && (has_truth k lo && has_truth k hi))
-has_truth k (like x form negated ignores_case) = not ignores_case && is_free_of_backslash form && (has_truth k x && has_truth k form)
+    not (is_of_floats k x || is_of_floats k lo || is_of_floats k hi) &&
+        (has_truth k x && (has_truth k lo && has_truth k hi))
+has_truth k (like x form negated ignores_case) =
+    not ignores_case && is_free_of_backslash form && (has_truth k x && has_truth k form)
 has_truth k row_count = true
 has_truth k (statistic x a) = has_truth k x
 

@@ -49,7 +49,8 @@ bounds_record k = struct (field (codes "min") k (field (codes "max") k no_fields
 abbrev pub count_type : LogicalType
 count_type = integer_type u64 nullable
 
--- The type of a placeholder over an expression of this type, where it takes the type. It is nullable, since a statistic may be missing.
+-- The type of a placeholder over an expression of this type, where it takes the type. It is
+-- nullable, since a statistic may be missing.
 abbrev pub type_of_aggregate : Aggregate → LogicalType → Option LogicalType
 type_of_aggregate min k = type_of_bound k
 type_of_aggregate max k = type_of_bound k

@@ -66,7 +66,8 @@ abbrev mutual
   -- pairs of a key and a value
   pub EntriesHave : LogicalType → LogicalType → Raws → Type 0
   EntriesHave k v no_raws = Unit {0}
-  EntriesHave k v (raw_first (raw_tuple (raw_first a (raw_first b no_raws))) rs) = Has (stored k) a × Has (stored v) b × EntriesHave k v rs
+  EntriesHave k v (raw_first (raw_tuple (raw_first a (raw_first b no_raws))) rs) =
+      Has (stored k) a × Has (stored v) b × EntriesHave k v rs
   EntriesHave k v rs = ⊥
 
   -- one value a field
@@ -101,7 +102,8 @@ abbrev mutual
 
   pub entries_have : LogicalType → LogicalType → Raws → Bool
   entries_have k v no_raws = true
-  entries_have k v (raw_first (raw_tuple (raw_first a (raw_first b no_raws))) rs) = has (stored k) a && has (stored v) b && entries_have k v rs
+  entries_have k v (raw_first (raw_tuple (raw_first a (raw_first b no_raws))) rs) =
+      has (stored k) a && has (stored v) b && entries_have k v rs
   entries_have k v rs = false
 
   pub fields_have : Fields → Raws → Bool
@@ -134,7 +136,8 @@ abbrev mutual
 
   pub EntriesHold : LogicalType → LogicalType → Contents → Type 0
   EntriesHold k v nothing = Unit {0}
-  EntriesHold k v (first (tuple (first a (first b nothing))) cs) = Holds (stored k) a × Holds (stored v) b × EntriesHold k v cs
+  EntriesHold k v (first (tuple (first a (first b nothing))) cs) =
+      Holds (stored k) a × Holds (stored v) b × EntriesHold k v cs
   EntriesHold k v cs = ⊥
 
   pub FieldsHold : Fields → Contents → Type 0

@@ -9,7 +9,8 @@ use Rattle.vortex_model.specs.Bounds.{low, high, is_longer}
 use Rattle.vortex_model.specs.Typing.{sum_kind}
 use Rattle.vortex_model.specs.Statistics.{Precision, exact, inexact, absent, Statistics, non_null, null_count_of, least_value, greatest_value, sum_of, is_constant}
 
--- Of the values of a column in some rows: a bound from below and one from above, how many are null and how many rows there are, the sum, and whether all are one value.
+-- Of the values of a column in some rows: a bound from below and one from above, how many are null
+-- and how many rows there are, the sum, and whether all are one value.
 pub record ZoneMap : Type 0 where
   pub low : Precision Content
   pub high : Precision Content
@@ -28,10 +29,12 @@ bound_of shortened b = if shortened then inexact b else exact b
 
 -- the low of the least value, and the high of the greatest
 abbrev pub low_of_values : ℕ → List Content → Precision Content
-low_of_values L cs = elim (least_value (non_null cs)) [ None ↦ absent | Some v ↦ bound_of (is_longer L v) (low L v) ]
+low_of_values L cs =
+    elim (least_value (non_null cs)) [ None ↦ absent | Some v ↦ bound_of (is_longer L v) (low L v) ]
 
 abbrev pub high_of_values : ℕ → List Content → Precision Content
-high_of_values L cs = elim (greatest_value (non_null cs)) [ None ↦ absent | Some v ↦ (elim (high L v) [ None ↦ absent | Some h ↦ bound_of (is_longer L v) h ]) ]
+high_of_values L cs = elim (greatest_value (non_null cs)) [ None ↦ absent
+    | Some v ↦ (elim (high L v) [ None ↦ absent | Some h ↦ bound_of (is_longer L v) h ]) ]
 
 -- the sum, where its type holds it
 abbrev pub sum_in : Option IntKind → ℤ → Precision ℤ
@@ -68,10 +71,13 @@ is_exactly v (exact b) = equal_content b v
 is_exactly v (inexact b) = false
 is_exactly v absent = false
 
--- The one that is chosen of the chunks' bounds, if each has one: exact where an exact one has that value.
-abbrev pub bound_among : (List Content → Option Content) → List (Precision Content) → Precision Content
+-- The one that is chosen of the chunks' bounds, if each has one: exact where an exact one has that
+-- value.
+abbrev pub bound_among : (List Content → Option Content) → List (Precision Content) →
+    Precision Content
 bound_among pick bounds = if list_any is_absent bounds then absent
-    else (elim (pick (filter_map value_in bounds)) [ None ↦ absent | Some v ↦ bound_of (not (list_any (is_exactly v) bounds)) v ])
+    else (elim (pick (filter_map value_in bounds)) [ None ↦ absent
+        | Some v ↦ bound_of (not (list_any (is_exactly v) bounds)) v ])
 
 -- the bounds and the counts of a group
 abbrev pub group_low : List ZoneMap → Precision Content
@@ -86,7 +92,8 @@ group_nulls zones = sum (map (λ z. z.nulls) zones)
 abbrev pub group_rows : List ZoneMap → ℕ
 group_rows zones = sum (map (λ z. z.rows) zones)
 
--- What a scan uses of a group, whatever joins made it. The sum and the constancy, which it doesn't use, are left open.
+-- What a scan uses of a group, whatever joins made it. The sum and the constancy, which it doesn't
+-- use, are left open.
 abbrev pub group_bounds : List ZoneMap → ZoneMap
 group_bounds zones = record {
   low = group_low zones;
@@ -106,12 +113,14 @@ total_of (z ∷ zs) = z +ℤ total_of zs
 
 -- the sum of each run of neighbours fits
 abbrev pub EachRunFits : IntKind → List ℤ → Type 0
-EachRunFits i sums = (before run after : List ℤ) → sums ≡ before ++ run ++ after → in_range i (total_of run) ≡ true
+EachRunFits i sums =
+    (before run after : List ℤ) → sums ≡ before ++ run ++ after → in_range i (total_of run) ≡ true
 
 -- It is the sum or missing, and is there where the sum of each run of the chunks fits.
 pub record IsGroupTotal (k : LogicalType) (sums : List ℤ) (total : Precision ℤ) : Type 0 where
   pub honest : (total ≡ absent) ⊎ (total ≡ sum_in (sum_kind k) (total_of sums))
-  pub exact_where_each_run_fits : (i : IntKind) → sum_kind k ≡ Some i → EachRunFits i sums → total ≡ exact (total_of sums)
+  pub exact_where_each_run_fits : (i : IntKind) → sum_kind k ≡ Some i → EachRunFits i sums →
+      total ≡ exact (total_of sums)
 
 abbrev pub is_known_constant : ZoneMap → Bool
 is_known_constant z = elim z.constant [ exact b ↦ b | inexact b ↦ false | absent ↦ false ]
@@ -121,12 +130,15 @@ has_exact_low z = elim z.low [ exact v ↦ true | inexact v ↦ false | absent �
 
 -- there is one chunk, or some chunk isn't constant, or each is and has an exact low
 abbrev pub constancy_shows : List ZoneMap → Bool
-constancy_shows zones = nat_le (length zones) 1 || not (list_all is_known_constant zones) || list_all has_exact_low zones
+constancy_shows zones = nat_le (length zones) 1 || not (list_all is_known_constant zones) ||
+    list_all has_exact_low zones
 
 -- it is right or missing, and is there where the chunks show it
-pub record IsGroupConstancy (cs : List Content) (zones : List ZoneMap) (constant : Precision Bool) : Type 0 where
+pub record IsGroupConstancy (cs : List Content) (zones : List ZoneMap)
+    (constant : Precision Bool) : Type 0 where
   pub honest : (constant ≡ absent) ⊎ (constant ≡ exact (is_constant cs))
-  pub exact_where_the_chunks_show_it : constancy_shows zones ≡ true → constant ≡ exact (is_constant cs)
+  pub exact_where_the_chunks_show_it : constancy_shows zones ≡ true →
+      constant ≡ exact (is_constant cs)
 
 -- ---- joins
 
@@ -136,7 +148,8 @@ joined_total (Some i) (exact a) (exact b) = sum_in (Some i) (a +ℤ b)
 joined_total i a b = absent
 
 -- exact false where a side is; of two exact true with exact lows, whether these are equal
-abbrev pub joined_constant : Precision Bool → Precision Bool → Precision Content → Precision Content → Precision Bool
+abbrev pub joined_constant : Precision Bool → Precision Bool → Precision Content →
+    Precision Content → Precision Bool
 joined_constant (exact false) b v w = exact false
 joined_constant a (exact false) v w = exact false
 joined_constant (exact true) (exact true) (exact v) (exact w) = exact (equal_content v w)

@@ -23,8 +23,10 @@ bound binder (negation x) = negation (bound binder x)
 bound binder (is_null x) = is_null (bound binder x)
 bound binder (is_not_null x) = is_not_null (bound binder x)
 bound binder (is_nan x) = is_nan (bound binder x)
-bound binder (between x lo hi lower_strict upper_strict) = between (bound binder x) (bound binder lo) (bound binder hi) lower_strict upper_strict
-bound binder (like x form negated ignores_case) = like (bound binder x) (bound binder form) negated ignores_case
+bound binder (between x lo hi lower_strict upper_strict) =
+    between (bound binder x) (bound binder lo) (bound binder hi) lower_strict upper_strict
+bound binder (like x form negated ignores_case) =
+    like (bound binder x) (bound binder form) negated ignores_case
 bound binder row_count = row_count
 bound binder (statistic x a) = binder x a
 
@@ -36,12 +38,19 @@ answered left rows binder x a = evaluate (of_proof left rows) (binder x a)
 abbrev pub IsHonestBinder : LogicalType → List Content → Placeholders → Binder → Type 0
 IsHonestBinder k rows left binder = AreHonest k rows (answered left rows binder)
 
--- A proof that may be believed may be believed when it is bound by an honest binder: where the bound falsifier is true, no row satisfies the predicate.
+-- A proof that may be believed may be believed when it is bound by an honest binder: where the
+-- bound falsifier is true, no row satisfies the predicate.
 abbrev pub BoundFalsifiersAreSound : Type 0
-BoundFalsifiersAreSound = (k : LogicalType) (e proof : Expression) (rows : List Content) (left : Placeholders) (binder : Binder) → IsSoundFalsifier k e proof →
-    AllByRecursion (IsContent k) rows → IsHonestBinder k rows left binder → Proves left rows (bound binder proof) → AllByRecursion (λ row. ¬ (Satisfies k e row)) rows
+BoundFalsifiersAreSound =
+    (k : LogicalType) (e proof : Expression) (rows : List Content) (left : Placeholders)
+    (binder : Binder) → IsSoundFalsifier k e proof →
+    AllByRecursion (IsContent k) rows → IsHonestBinder k rows left binder →
+        Proves left rows (bound binder proof) → AllByRecursion (λ row. ¬ (Satisfies k e row)) rows
 
 -- and where the bound satisfier is, each does
 abbrev pub BoundSatisfiersAreSound : Type 0
-BoundSatisfiersAreSound = (k : LogicalType) (e proof : Expression) (rows : List Content) (left : Placeholders) (binder : Binder) → IsSoundSatisfier k e proof →
-    AllByRecursion (IsContent k) rows → IsHonestBinder k rows left binder → Proves left rows (bound binder proof) → AllByRecursion (λ row. Satisfies k e row) rows
+BoundSatisfiersAreSound =
+    (k : LogicalType) (e proof : Expression) (rows : List Content) (left : Placeholders)
+    (binder : Binder) → IsSoundSatisfier k e proof →
+    AllByRecursion (IsContent k) rows → IsHonestBinder k rows left binder →
+        Proves left rows (bound binder proof) → AllByRecursion (λ row. Satisfies k e row) rows

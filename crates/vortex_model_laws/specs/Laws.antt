@@ -9,16 +9,19 @@ use Rattle.vortex_model.specs.Table.{Table, rows_of}
 use Rattle.vortex_model.specs.Scan.{chunk_zone, proofs, rows_tested}
 use Rattle.vortex_model.specs.Command.{retype, refusal, after}
 
--- Where retyping to one type and then to another is accepted, so is retyping at once, and it leaves the same table, rows included.
+-- Where retyping to one type and then to another is accepted, so is retyping at once, and it leaves
+-- the same table, rows included.
 abbrev pub RetypingTwiceIsRetypingAtOnce : Type 0
-RetypingTwiceIsRetypingAtOnce = (t : Table) (k l : LogicalType) → refusal t (retype k) ≡ None → refusal (after t (retype k)) (retype l) ≡ None →
+RetypingTwiceIsRetypingAtOnce = (t : Table) (k l : LogicalType) → refusal t (retype k) ≡ None →
+    refusal (after t (retype k)) (retype l) ≡ None →
     (refusal t (retype l) ≡ None) × (after t (retype l) ≡ after (after t (retype k)) (retype l))
 
 -- so many groups have two or more chunks
 abbrev pub groups_of_many : Table → ℕ
 groups_of_many t = count_by (nat_lt 1) t.groups
 
--- A scan tries at most one proof a group of two or more chunks and two a chunk, tests no row twice, and its counts stay below 2^64.
+-- A scan tries at most one proof a group of two or more chunks and two a chunk, tests no row twice,
+-- and its counts stay below 2^64.
 pub record IsCountedWithin (t : Table) (e : Expression) : Type 0 where
   pub proofs_bounded : proofs t e ≤ groups_of_many t + 2 * length t.chunks
   pub rows_bounded : rows_tested t e ≤ length (rows_of t)
@@ -35,7 +38,10 @@ pub record TellTheSame (y z : ZoneMap) : Type 0 where
   pub nulls : y.nulls ≡ z.nulls
   pub rows : y.rows ≡ z.rows
 
--- Of a leaf that stands at the same positions before and after a retype, under whatever names, the bounds and counts of each chunk are as before.
+-- Of a leaf that stands at the same positions before and after a retype, under whatever names, the
+-- bounds and counts of each chunk are as before.
 abbrev pub RetypingCarriesBounds : Type 0
-RetypingCarriesBounds = (t : Table) (k : LogicalType) (chunk : List Content) (xs ys : Names) (y z : ZoneMap) → positions t.kind xs ≡ positions k ys →
-    chunk_zone t chunk xs ≡ Some y → chunk_zone (after t (retype k)) chunk ys ≡ Some z → TellTheSame y z
+RetypingCarriesBounds = (t : Table) (k : LogicalType) (chunk : List Content) (xs ys : Names)
+    (y z : ZoneMap) → positions t.kind xs ≡ positions k ys →
+    chunk_zone t chunk xs ≡ Some y → chunk_zone (after t (retype k)) chunk ys ≡ Some z →
+        TellTheSame y z

@@ -22,12 +22,14 @@ IsLowered None q = Unit {0}
 IsLowered (Some v) None = ⊥
 IsLowered (Some v) (Some w) = (is_null w ≡ false) × IsNotAbove w v
 
--- The second zone map, of m rows, tells at least what the first, of n rows, does. Its bounds lie within those of the first, or are new, and its low is not above its high.
+-- The second zone map, of m rows, tells at least what the first, of n rows, does. Its bounds lie
+-- within those of the first, or are new, and its low is not above its high.
 -- Where the first tells that no row is null, or that each is, so does the second.
 pub record IsTighter (n m : ℕ) (wide narrow : ZoneMap) : Type 0 where
   pub low : IsRaised (value_in wide.low) (value_in narrow.low)
   pub high : IsLowered (value_in wide.high) (value_in narrow.high)
-  pub ordered : (v w : Content) → value_in narrow.low ≡ Some v → value_in narrow.high ≡ Some w → IsNotAbove v w
+  pub ordered : (v w : Content) → value_in narrow.low ≡ Some v → value_in narrow.high ≡ Some w →
+      IsNotAbove v w
   pub none_null : wide.nulls ≡ 0 → narrow.nulls ≡ 0
   pub only_null : wide.nulls ≡ n → narrow.nulls ≡ m
 
@@ -37,17 +39,22 @@ TellsMore n m None q = Unit {0}
 TellsMore n m (Some wide) None = ⊥
 TellsMore n m (Some wide) (Some narrow) = IsTighter n m wide narrow
 
--- Where a built-in proof is true of zone maps, it is true of those that tell more: of as many rows, or in place of two rows or more.
+-- Where a built-in proof is true of zone maps, it is true of those that tell more: of as many rows,
+-- or in place of two rows or more.
 -- (Of one row the literal null counts as all nulls, so there another number of rows would not do.)
 abbrev pub ProofsStayTrue : Type 0
-ProofsStayTrue = (k : LogicalType) (e : Expression) (n m : ℕ) (wide narrow : Names → Option ZoneMap) → ((xs : Names) → TellsMore n m (wide xs) (narrow xs)) → (n ≡ m) ⊎ (1 < n) →
-    (proves wide n (falsifier k e) ≡ true → proves narrow m (falsifier k e) ≡ true) × (proves wide n (satisfier k e) ≡ true → proves narrow m (satisfier k e) ≡ true)
+ProofsStayTrue = (k : LogicalType) (e : Expression) (n m : ℕ) (wide narrow : Names →
+    Option ZoneMap) → ((xs : Names) → TellsMore n m (wide xs) (narrow xs)) → (n ≡ m) ⊎ (1 < n) →
+    (proves wide n (falsifier k e) ≡ true → proves narrow m (falsifier k e) ≡ true) ×
+        (proves wide n (satisfier k e) ≡ true → proves narrow m (satisfier k e) ≡ true)
 
--- The chunks that a scan skips, takes whole and tests are those that it would skip, take whole and test if it looked at each alone, also where bounds are missing.
+-- The chunks that a scan skips, takes whole and tests are those that it would skip, take whole and
+-- test if it looked at each alone, also where bounds are missing.
 pub record IsAsEachAlone (t : Table) (e : Expression) : Type 0 where
   pub skipped : skipped_chunks t e ≡ numbers is_skipped 0 (map (chunk_outcome t e) t.chunks)
   pub whole : whole_chunks t e ≡ numbers is_whole 0 (map (chunk_outcome t e) t.chunks)
-  pub tested : rows_tested t e ≡ saturated (tested_lengths (map (chunk_outcome t e) t.chunks) t.chunks)
+  pub tested : rows_tested t e ≡
+      saturated (tested_lengths (map (chunk_outcome t e) t.chunks) t.chunks)
 
 abbrev pub GroupsChangeNothing : Type 0
 GroupsChangeNothing = (t : Table) (e : Expression) → IsTable t → IsAsEachAlone t e

@@ -10,7 +10,8 @@ use Rattle.vortex_model.specs.ZoneMap.{ZoneMap, low_of_values, high_of_values, s
 abbrev pub HoldTheSame : List Content → List Content → Type 0
 HoldTheSame cs ds = (v : Content) → is_null v ≡ false → Contains cs v ↔ Contains ds v
 
--- Bounds are those of the values, however often these stand there and in whatever order: so those of
+-- Bounds are those of the values, however often these stand there and in whatever order: so those
+-- of
 -- a dictionary's rows are those of the values that its codes reference.
 abbrev pub BoundsAreOfTheValues : Type 0
 BoundsAreOfTheValues = (L : ℕ) (cs ds : List Content) → HoldTheSame cs ds →

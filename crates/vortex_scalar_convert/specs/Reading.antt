@@ -52,14 +52,20 @@ abbrev pub says_or_null : {A : Type 0} → (A → Content) → Option A → Cont
 says_or_null says None = null
 says_or_null says (Some a) = says a
 
--- What is read says the content, which is one that is read, and a refusal means that it is none; no memory is taken.
+-- What is read says the content, which is one that is read, and a refusal means that it is none; no
+-- memory is taken.
 abbrev pub IsFound : {A : Type 0} → (A → Content) → Bool → Content → Result A ScalarError → Type 0
-IsFound says reads c r = (IfOk r (λ a. (reads ≡ true) × (says a ≡ c))) × (IfErr r (λ e. (e ≡ Invalid) × (reads ≡ false)))
+IsFound says reads c r =
+    (IfOk r (λ a. (reads ≡ true) × (says a ≡ c))) × (IfErr r (λ e. (e ≡ Invalid) × (reads ≡ false)))
 
 -- the same, where memory is
 abbrev pub IsRead : {A : Type 0} → (A → Content) → Bool → Content → Result A ScalarError → Type 0
-IsRead says reads c r = (IfOk r (λ a. (reads ≡ true) × (says a ≡ c))) × (IfErr r (λ e. e ≢ Memory → (e ≡ Invalid) × (reads ≡ false)))
+IsRead says reads c r = (IfOk r (λ a. (reads ≡ true) × (says a ≡ c))) ×
+    (IfErr r (λ e. e ≢ Memory → (e ≡ Invalid) × (reads ≡ false)))
 
 -- the same of several
-abbrev pub AreRead : {A : Type 0} → (A → Content) → Bool → Contents → Result (Vec A Global) ScalarError → Type 0
-AreRead says reads cs r = (IfOk r (λ all. (reads ≡ true) × (contents_from (map says all.items) ≡ cs))) × (IfErr r (λ e. e ≢ Memory → (e ≡ Invalid) × (reads ≡ false)))
+abbrev pub AreRead : {A : Type 0} → (A → Content) → Bool → Contents →
+    Result (Vec A Global) ScalarError → Type 0
+AreRead says reads cs r =
+    (IfOk r (λ all. (reads ≡ true) × (contents_from (map says all.items) ≡ cs))) ×
+    (IfErr r (λ e. e ≢ Memory → (e ≡ Invalid) × (reads ≡ false)))

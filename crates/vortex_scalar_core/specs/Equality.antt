@@ -13,7 +13,8 @@ use Rattle.vortex_scalar_ops.proofs.EqualityLemmas.{eq_equiv}
 use Rattle.vortex_scalar_core.specs.Scalar.{scalar_type, scalar_content}
 use Rattle.vortex_scalar_core.specs.declared.scalar.Scalar.{Scalar}
 
--- the types are equal up to nullability, and so are the contents up to the nullability of the types of variants' values
+-- the types are equal up to nullability, and so are the contents up to the nullability of the types
+-- of variants' values
 abbrev pub eq_typed : LogicalType → Content → LogicalType → Content → Bool
 eq_typed k c l d = equal_ignoring_nullability k l && eq_content c d
 
@@ -27,8 +28,13 @@ scalar_writes s = type_writes (scalar_type s) ++ content_writes (scalar_content 
 pub eq_scalar_equiv : IsEquivalence eq_scalar
 eq_scalar_equiv = and_equiv (on_equiv scalar_type equal_equiv) (on_equiv scalar_content eq_equiv)
 
-pub eq_scalars_hash_alike : (s t : Scalar) → IsTrue (eq_scalar s t) → scalar_writes s ≡ scalar_writes t
+pub eq_scalars_hash_alike : (s t : Scalar) → IsTrue (eq_scalar s t) →
+    scalar_writes s ≡ scalar_writes t
 eq_scalars_hash_alike s t h =
-    let kinds = first_so (equal_ignoring_nullability (scalar_type s) (scalar_type t)) (eq_content (scalar_content s) (scalar_content t)) h in
-    let contents = second_so (equal_ignoring_nullability (scalar_type s) (scalar_type t)) (eq_content (scalar_content s) (scalar_content t)) h in
-    λ i. hash_alike (scalar_type s) (scalar_type t) (kind_so (bare (scalar_type s)) (bare (scalar_type t)) kinds) i ++ eq_fed (scalar_content s) (scalar_content t) contents i
+    let kinds = first_so (equal_ignoring_nullability (scalar_type s) (scalar_type t))
+        (eq_content (scalar_content s) (scalar_content t)) h in
+    let contents = second_so (equal_ignoring_nullability (scalar_type s) (scalar_type t))
+        (eq_content (scalar_content s) (scalar_content t)) h in
+    λ i. hash_alike (scalar_type s) (scalar_type t)
+        (kind_so (bare (scalar_type s)) (bare (scalar_type t)) kinds) i ++
+        eq_fed (scalar_content s) (scalar_content t) contents i

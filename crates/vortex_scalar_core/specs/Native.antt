@@ -24,7 +24,8 @@ whole_within i r = None
 
 -- what is read, as `view` sees it, and a refusal where nothing is; memory may be refused too
 abbrev pub GivesCopy : {A B : Type 0} → (A → B) → Option B → Result A ScalarError → Type 0
-GivesCopy view part r = (IfOk r (λ a. part ≡ Some (view a))) × (IfErr r (λ e. e ≢ Memory → (e ≡ Invalid) × (part ≡ None)))
+GivesCopy view part r = (IfOk r (λ a. part ≡ Some (view a))) ×
+    (IfErr r (λ e. e ≢ Memory → (e ≡ Invalid) × (part ≡ None)))
 
 -- the value has this type and is this one
 abbrev pub IsMadeAs : LogicalType → Raw → Scalar → Type 0

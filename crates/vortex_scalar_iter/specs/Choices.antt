@@ -13,4 +13,5 @@ variant_name_at (choice x t k vs) (suc i) = variant_name_at vs i
 
 -- the name of the choice whose tag a union's value bears
 abbrev pub name_of_choice : Typed → Option (List ℕ)
-name_of_choice t = option_and_then (λ vs. option_and_then (λ i. variant_name_at vs i) (index_of_choice t)) (variants_in_type t.0)
+name_of_choice t = option_and_then
+    (λ vs. option_and_then (λ i. variant_name_at vs i) (index_of_choice t)) (variants_in_type t.0)

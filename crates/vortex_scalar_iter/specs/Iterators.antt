@@ -14,9 +14,13 @@ use Rattle.vortex_scalar_iter.specs.declared.map_values_iter.MapValuesIter.{MapV
 use Rattle.vortex_scalar_iter.specs.declared.map_entries_iter.MapEntriesIter.{MapEntriesIter}
 use Rattle.vortex_scalar_iter.specs.declared.struct_fields_iter.StructFieldsIter.{StructFieldsIter}
 
--- A call from s gives a copy of the first part that is left, and leaves the others. Where the copy is refused memory, the part is passed over.
-abbrev pub YieldsCopy : {S A B : Type 0} → (A → B) → (S → List B) → S → Option (Result A AllocError) → S → Type 0
-YieldsCopy view left s r t = MatchOption r ((left s ≡ []) × (left t ≡ [])) (λ item. (left t ≡ drop 1 (left s)) × (length (left t) < length (left s)) × IfOk item (λ part. left s ≡ view part ∷ left t))
+-- A call from s gives a copy of the first part that is left, and leaves the others. Where the copy
+-- is refused memory, the part is passed over.
+abbrev pub YieldsCopy : {S A B : Type 0} → (A → B) → (S → List B) → S →
+    Option (Result A AllocError) → S → Type 0
+YieldsCopy view left s r t =
+    MatchOption r ((left s ≡ []) × (left t ≡ [])) (λ item. (left t ≡ drop 1 (left s)) ×
+    (length (left t) < length (left s)) × IfOk item (λ part. left s ≡ view part ∷ left t))
 
 -- the fields that are left
 abbrev pub fields_left : StructFieldsIter → List Typed

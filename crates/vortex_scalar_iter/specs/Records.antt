@@ -30,19 +30,24 @@ fields_of_record t = option_and_then (λ fs. fields_under fs t.1) (fields_in_typ
 abbrev pub value_named : Fields → Raws → List ℕ → Option Raw
 value_named fs rs x = option_and_then (λ i. item_at rs i) (position_named fs x)
 
--- the value of the first field of each of these names, in their order, and none where a name has no field
+-- the value of the first field of each of these names, in their order, and none where a name has no
+-- field
 abbrev pub values_named : Fields → Raws → List (List ℕ) → Option Raws
 values_named fs rs [] = Some no_raws
-values_named fs rs (x ∷ xs) = option_and_then (λ r. option_map (raw_first r) (values_named fs rs xs)) (value_named fs rs x)
+values_named fs rs (x ∷ xs) =
+    option_and_then (λ r. option_map (raw_first r) (values_named fs rs xs)) (value_named fs rs x)
 
 -- the same of a record's value; null stays null
 abbrev pub raw_projected : Fields → Raw → List (List ℕ) → Option Raw
 raw_projected fs (raw_tuple rs) xs = option_map raw_tuple (values_named fs rs xs)
 raw_projected fs r xs = Some raw_null
 
--- the record of the first field of each of these names, in their order, with its type; none where a name has no field
+-- the record of the first field of each of these names, in their order, with its type; none where a
+-- name has no field
 abbrev pub record_projected : Typed → List (List ℕ) → Option Typed
-record_projected t xs = option_and_then (λ fs. both (option_map (λ gs. struct gs (nullability_of t.0)) (projected fs xs)) (raw_projected fs t.1 xs)) (fields_in_type t.0)
+record_projected t xs = option_and_then
+    (λ fs. both (option_map (λ gs. struct gs (nullability_of t.0)) (projected fs xs))
+    (raw_projected fs t.1 xs)) (fields_in_type t.0)
 
 -- where the value is that of a record, it has these fields
 abbrev pub holds_fields : Fields → Raw → Bool
@@ -51,4 +56,5 @@ holds_fields fs r = true
 
 -- the value of the record, or that a name has no field
 abbrev pub GivesProjection : Typed → List (List ℕ) → Result Scalar ScalarError → Type 0
-GivesProjection t xs result = (IfOk result (λ s. Some (typed_scalar s) ≡ record_projected t xs)) × (IfErr result (λ e. e ≢ Memory → (e ≡ Invalid) × (record_projected t xs ≡ None)))
+GivesProjection t xs result = (IfOk result (λ s. Some (typed_scalar s) ≡ record_projected t xs)) ×
+    (IfErr result (λ e. e ≢ Memory → (e ≡ Invalid) × (record_projected t xs ≡ None)))

@@ -18,7 +18,9 @@ typed_pair e p = ((e.key, p.0), (e.value, p.1))
 
 -- the entry of a map at this place; null has none
 abbrev pub entry_at : Typed → ℕ → Option (Typed × Typed)
-entry_at t i = option_and_then (λ e. option_map (typed_pair e) (option_and_then (λ r. pair_in r) (part_of t.1 i))) (entries_in_type t.0)
+entry_at t i =
+    option_and_then (λ e. option_map (typed_pair e)
+    (option_and_then (λ r. pair_in r) (part_of t.1 i))) (entries_in_type t.0)
 
 -- the key of an entry and its value, and null where it is no pair
 abbrev pub key_in : Raw → Raw

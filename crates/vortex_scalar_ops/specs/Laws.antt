@@ -18,16 +18,20 @@ EqualityIsAnEquivalence = IsEquivalence eq_content
 abbrev pub EqualValuesHashAlike : Type 0
 EqualValuesHashAlike = (c d : Content) → eq_content c d ≡ true → content_writes c ≡ content_writes d
 
--- Values without a variant's in them compare as equal exactly where they are the same. Those of a type without Variant anywhere are such values.
+-- Values without a variant's in them compare as equal exactly where they are the same. Those of a
+-- type without Variant anywhere are such values.
 abbrev pub TiedValuesAreTheSame : Type 0
-TiedValuesAreTheSame = (c d : Content) → holds_variant c ≡ false → (content_cmp c d ≡ Some Equal) ↔ (eq_content c d ≡ true)
+TiedValuesAreTheSame = (c d : Content) → holds_variant c ≡ false → (content_cmp c d ≡ Some Equal) ↔
+    (eq_content c d ≡ true)
 
 abbrev pub PlainTypesHavePlainValues : Type 0
-PlainTypesHavePlainValues = (k : LogicalType) (c : Content) → has_variant k ≡ false → IsContent k c → holds_variant c ≡ false
+PlainTypesHavePlainValues = (k : LogicalType) (c : Content) → has_variant k ≡ false →
+    IsContent k c → holds_variant c ≡ false
 
 -- two values of one type without Variant, nullability aside, compare
 abbrev pub ValuesOfATypeCompare : Type 0
-ValuesOfATypeCompare = (k l : LogicalType) (c d : Content) → EqualIgnoringNullability k l → has_variant k ≡ false → IsContent k c → IsContent l d → is_some (content_cmp c d) ≡ true
+ValuesOfATypeCompare = (k l : LogicalType) (c d : Content) → EqualIgnoringNullability k l →
+    has_variant k ≡ false → IsContent k c → IsContent l d → is_some (content_cmp c d) ≡ true
 
 -- the other way round the answer is reversed
 abbrev pub OrderTurns : Type 0
@@ -42,8 +46,10 @@ IsNotAbove c d = is_known is_le (content_cmp c d) ≡ true
 
 -- what is below chains, and what is not above
 abbrev pub OrderIsTransitive : Type 0
-OrderIsTransitive = (c d e : Content) → (IsBelow c d → IsBelow d e → IsBelow c e) × (IsNotAbove c d → IsNotAbove d e → IsNotAbove c e)
+OrderIsTransitive = (c d e : Content) → (IsBelow c d → IsBelow d e → IsBelow c e) ×
+    (IsNotAbove c d → IsNotAbove d e → IsNotAbove c e)
 
 -- values that are the same compare alike with any other
 abbrev pub EqualValuesCompareAlike : Type 0
-EqualValuesCompareAlike = (c d e : Content) → eq_content c d ≡ true → content_cmp c e ≡ content_cmp d e
+EqualValuesCompareAlike =
+    (c d e : Content) → eq_content c d ≡ true → content_cmp c e ≡ content_cmp d e

@@ -18,16 +18,21 @@ LowsAreUnique = (v l m : Content) (L : ℕ) → IsLow v L l → IsLow v L m → 
 abbrev pub HighsAreUnique : Type 0
 HighsAreUnique = (v : Content) (h k : Option Content) (L : ℕ) → IsHigh v L h → IsHigh v L k → h ≡ k
 
--- what is not below the least value is not below its low, and what is not above the greatest is not above its high
+-- what is not below the least value is not below its low, and what is not above the greatest is not
+-- above its high
 abbrev pub LowsStayBelow : Type 0
 LowsStayBelow = (least l v : Content) (L : ℕ) → IsLow least L l → IsAtMost least v → IsAtMost l v
 
 abbrev pub HighsStayAbove : Type 0
-HighsStayAbove = (greatest h v : Content) (L : ℕ) → IsHigh greatest L (Some h) → IsAtMost v greatest → IsAtMost v h
+HighsStayAbove = (greatest h v : Content) (L : ℕ) → IsHigh greatest L (Some h) →
+    IsAtMost v greatest → IsAtMost v h
 
 -- bounds are well formed, and have at most so many bytes
 abbrev pub BoundsAreWellFormed : Type 0
-BoundsAreWellFormed = (v : Content) (L : ℕ) → IsWellFormed v → ((l : Content) → IsLow v L l → IsWellFormed l) × ((h : Content) → IsHigh v L (Some h) → IsWellFormed h)
+BoundsAreWellFormed =
+    (v : Content) (L : ℕ) → IsWellFormed v → ((l : Content) → IsLow v L l → IsWellFormed l) ×
+    ((h : Content) → IsHigh v L (Some h) → IsWellFormed h)
 
 abbrev pub BoundsFit : Type 0
-BoundsFit = (v : Content) (L : ℕ) → ((l : Content) → IsLow v L l → length (bytes_of l) ≤ L) × ((h : Content) → IsHigh v L (Some h) → length (bytes_of h) ≤ L)
+BoundsFit = (v : Content) (L : ℕ) → ((l : Content) → IsLow v L l → length (bytes_of l) ≤ L) ×
+    ((h : Content) → IsHigh v L (Some h) → length (bytes_of h) ≤ L)

@@ -1,4 +1,5 @@
--- Integers of the eight kinds, and which numbers a kind of numbers has. No number of a float is kept, so a kind of floats has none.
+-- Integers of the eight kinds, and which numbers a kind of numbers has. No number of a float is
+-- kept, so a kind of floats has none.
 use Rattle.std.specs.Prelude.{◌≡◌, ℕ, ℤ, pos, List, Bool, false, ◌&&◌, Result, is_ok, IfOk, IfErr}
 use Rattle.vortex_model.specs.LogicalType.{IntKind, eq_int_kind, u8, u16, u32, u64, i8, i16, i32, i64}
 use Rattle.vortex_model.specs.Content.{Raw, raw_number}
@@ -68,4 +69,5 @@ HaveSameBytes i x j y = (bs : List ℕ) × (AreBytesOf i x bs × AreBytesOf j y 
 
 -- The same number of the kind, where the kind holds it. A number of the kind is read by `number`.
 abbrev pub GivesNumber : {A : Type 0} → IntKind → (A → ℤ) → PValue → Result A ScalarError → Type 0
-GivesNumber i number v r = (is_ok r ≡ in_range i (integer_of v)) × (IfOk r (λ n. number n ≡ integer_of v)) × (IfErr r (λ e. e ≡ Invalid))
+GivesNumber i number v r = (is_ok r ≡ in_range i (integer_of v)) ×
+    (IfOk r (λ n. number n ≡ integer_of v)) × (IfErr r (λ e. e ≡ Invalid))

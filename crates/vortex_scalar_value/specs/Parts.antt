@@ -59,13 +59,16 @@ abbrev pub whole_number_in : Raw → Option ℤ
 whole_number_in (raw_number i z) = Some z
 whole_number_in r = None
 
--- The integer of the raw value as a number of the kind, where the kind holds it. A number of the kind is read by `number`.
+-- The integer of the raw value as a number of the kind, where the kind holds it. A number of the
+-- kind is read by `number`.
 abbrev pub GivesWhole : {A : Type 0} → IntKind → (A → ℤ) → Raw → Result A ScalarError → Type 0
-GivesWhole i number v r = (is_ok r ≡ has_whole i v) × (IfOk r (λ n. whole_number_in v ≡ Some (number n))) × (IfErr r (λ e. e ≡ Invalid))
+GivesWhole i number v r = (is_ok r ≡ has_whole i v) ×
+    (IfOk r (λ n. whole_number_in v ≡ Some (number n))) × (IfErr r (λ e. e ≡ Invalid))
 
 -- what stands there, as `view` reads it, and a refusal where nothing does
 abbrev pub GivesPart : {A B : Type 0} → (A → B) → Option B → Result A ScalarError → Type 0
-GivesPart view part r = (IfOk r (λ a. part ≡ Some (view a))) × (IfErr r (λ e. (e ≡ Invalid) × (part ≡ None)))
+GivesPart view part r =
+    (IfOk r (λ a. part ≡ Some (view a))) × (IfErr r (λ e. (e ≡ Invalid) × (part ≡ None)))
 
 -- the raw value at this place, and null past the end
 abbrev pub raw_nth : Raws → ℕ → Raw

@@ -13,7 +13,8 @@ tag_of r = None
 
 -- the place of the choice whose tag a union's value bears
 abbrev pub index_of_choice : Typed → Option ℕ
-index_of_choice t = option_and_then (λ vs. option_and_then (λ tag. tag_position vs tag) (tag_of t.1)) (variants_in_type t.0)
+index_of_choice t = option_and_then
+    (λ vs. option_and_then (λ tag. tag_position vs tag) (tag_of t.1)) (variants_in_type t.0)
 
 -- what a union's value holds, of the type under its tag
 abbrev pub child_under : Variants → Raw → Option Typed

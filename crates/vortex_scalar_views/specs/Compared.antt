@@ -35,7 +35,9 @@ typed_writes t = content_writes (content_of t.1)
 -- ---- laws
 
 pub eq_views_equiv : IsEquivalence eq_views
-eq_views_equiv = and_equiv (on_equiv type_of_view (on_equiv bare eq_type_equiv)) (on_equiv content_of_view eq_equiv)
+eq_views_equiv = and_equiv (on_equiv type_of_view (on_equiv bare eq_type_equiv))
+    (on_equiv content_of_view eq_equiv)
 
 pub eq_views_alike : Alike eq_views typed_writes
-eq_views_alike = second_alike (on type_of_view equal_ignoring_nullability) (on_Alike content_of_view (record { fed = eq_fed }))
+eq_views_alike = second_alike (on type_of_view equal_ignoring_nullability)
+    (on_Alike content_of_view (record { fed = eq_fed }))

@@ -39,4 +39,5 @@ eq_bytes = on bytes_of_view (option_eq (pointwise nat_eq))
 
 -- the types are equal, nullability aside, and the two are both null, or both the same whole number
 abbrev pub eq_numbers : PrimitiveScalar → PrimitiveScalar → Bool
-eq_numbers = eq_of_both (on numbers_type equal_ignoring_nullability) (on number_of_view (option_eq int_eq))
+eq_numbers =
+    eq_of_both (on numbers_type equal_ignoring_nullability) (on number_of_view (option_eq int_eq))

@@ -26,14 +26,20 @@ raw_of_text o = raw_or_null raw_text o
 abbrev pub raw_of_bytes : Option (List ℕ) → Raw
 raw_of_bytes o = raw_or_null raw_byte_string o
 
--- A view of the value as one of the type, where the type is of the kind asked and has the value. `seen` says what a view stands for.
-abbrev pub GivesView : {V : Type 0} → (V → Typed) → (LogicalType → Bool) → LogicalType → Raw → Result V ScalarError → Type 0
-GivesView seen is_kind k r result = (is_ok result ≡ (is_kind k && valid k r)) × (IfOk result (λ v. seen v ≡ (k, r))) × (IfErr result (λ e. e ≡ Invalid))
+-- A view of the value as one of the type, where the type is of the kind asked and has the value.
+-- `seen` says what a view stands for.
+abbrev pub GivesView : {V : Type 0} → (V → Typed) → (LogicalType → Bool) → LogicalType → Raw →
+    Result V ScalarError → Type 0
+GivesView seen is_kind k r result = (is_ok result ≡ (is_kind k && valid k r)) ×
+    (IfOk result (λ v. seen v ≡ (k, r))) × (IfErr result (λ e. e ≡ Invalid))
 
 -- the value with its type, where the type is of the kind asked
 abbrev pub viewed : (LogicalType → Bool) → Typed → Option Typed
 viewed is_kind t = if is_kind t.0 then Some t else None
 
--- A view of the value with its type, where the type is of the kind asked. `seen` says what a view stands for.
-abbrev pub ViewsTyped : {V : Type 0} → (V → Typed) → (LogicalType → Bool) → Typed → Result V ScalarError → Type 0
-ViewsTyped seen is_kind t result = (is_ok result ≡ is_kind t.0) × (IfOk result (λ v. seen v ≡ t)) × (IfErr result (λ e. e ≡ Invalid))
+-- A view of the value with its type, where the type is of the kind asked. `seen` says what a view
+-- stands for.
+abbrev pub ViewsTyped : {V : Type 0} → (V → Typed) → (LogicalType → Bool) → Typed →
+    Result V ScalarError → Type 0
+ViewsTyped seen is_kind t result = (is_ok result ≡ is_kind t.0) × (IfOk result (λ v. seen v ≡ t)) ×
+    (IfErr result (λ e. e ≡ Invalid))

@@ -24,12 +24,14 @@ kinds_equiv : IsEquivalence equal_ignoring_nullability
 kinds_equiv = on_equiv bare eq_type_equiv
 
 pub numbers_equiv : IsEquivalence eq_numbers
-numbers_equiv = and_equiv (on_equiv numbers_type kinds_equiv) (on_equiv number_of_view (options_equiv int_eq_equiv))
+numbers_equiv = and_equiv (on_equiv numbers_type kinds_equiv)
+    (on_equiv number_of_view (options_equiv int_eq_equiv))
 
 -- ---- order
 
 -- what ties at an order ties where either may be missing
-module _ {K : Type 0} {E : K → K → Bool} (R : K → K → Ordering) (ties : (x y : K) → E x y ≡ eq_by_cmp R x y) where
+module _ {K : Type 0} {E : K → K → Bool} (R : K → K → Ordering) (ties : (x y : K) →
+    E x y ≡ eq_by_cmp R x y) where
   options_ties : (p q : Option K) → option_eq E p q ≡ eq_by_cmp (option_cmp R) p q
   options_ties None None = refl
   options_ties None (Some y) = refl
@@ -55,7 +57,8 @@ pub texts_total : IsTotalOrder texts_cmp
 texts_total = on_total text_of_view (options_total nat_list_cmp_total)
 
 pub texts_of_views_ties : (v w : Utf8Scalar) → eq_texts v w ≡ eq_by_cmp texts_cmp v w
-texts_of_views_ties v w = options_ties (slice_cmp nat_cmp) texts_ties (text_of_view v) (text_of_view w)
+texts_of_views_ties v w =
+    options_ties (slice_cmp nat_cmp) texts_ties (text_of_view v) (text_of_view w)
 
 pub texts_of_views_po : IsPartialOrder eq_texts (as_partial_cmp texts_cmp)
 texts_of_views_po = po texts_total texts_of_views_ties
@@ -94,20 +97,27 @@ module _ {K : Type 0} {E : K → K → Bool} (e : IsEquivalence E) where
     congr = λ x y z h. ap tied (e.congr x y z h);
   }
 
-either_way : (b : Bool) (o : Ordering) → partial_ordering_then (if b then Some Equal else None) (Some o) ≡ (if b then Some o else None)
+either_way : (b : Bool) (o : Ordering) →
+    partial_ordering_then (if b then Some Equal else None) (Some o) ≡ (if b then Some o else None)
 either_way true o = refl
 either_way false o = refl
 
 pub numbers_po : IsPartialOrder eq_numbers numbers_cmp
 numbers_po =
-    let types : IsPartialOrder (on numbers_type equal_ignoring_nullability) (on numbers_type (λ k l. if equal_ignoring_nullability k l then Some Equal else None)) = on_po numbers_type (tied_po kinds_equiv) in
-    let integers : IsPartialOrder (option_eq int_eq) (as_partial_cmp (option_cmp int_cmp)) = po (options_total int_cmp_total) (options_ties int_cmp (λ x y. refl)) in
-    subst (IsPartialOrder eq_numbers) (λ i v w. either_way (equal_ignoring_nullability (numbers_type v) (numbers_type w)) (option_cmp int_cmp (number_of_view v) (number_of_view w)) i)
+    let types : IsPartialOrder (on numbers_type equal_ignoring_nullability)
+        (on numbers_type (λ k l. if equal_ignoring_nullability k l then Some Equal else None)) =
+        on_po numbers_type (tied_po kinds_equiv) in
+    let integers : IsPartialOrder (option_eq int_eq) (as_partial_cmp (option_cmp int_cmp)) =
+        po (options_total int_cmp_total) (options_ties int_cmp (λ x y. refl)) in
+    subst (IsPartialOrder eq_numbers)
+        (λ i v w. either_way (equal_ignoring_nullability (numbers_type v) (numbers_type w))
+        (option_cmp int_cmp (number_of_view v) (number_of_view w)) i)
     (then_po types (on_po number_of_view integers))
 
 -- ---- hashing
 
-options_alike : {K : Type 0} {E : K → K → Bool} {F : K → HashWrites} → Alike E F → Alike (option_eq E) (fed.option F)
+options_alike : {K : Type 0} {E : K → K → Bool} {F : K → HashWrites} → Alike E F →
+    Alike (option_eq E) (fed.option F)
 options_alike {K} {E} {F} a = record { fed = both } where
   both : (p q : Option K) → option_eq E p q ≡ true → fed.option F p ≡ fed.option F q
   both None None h = refl
@@ -115,14 +125,18 @@ options_alike {K} {E} {F} a = record { fed = both } where
   both (Some x) None h = absurd (cc (h))
   both (Some x) (Some y) h = ap (λ ws. fed.isize (pos 1) ++ ws) (a.fed x y h)
 
-pub booleans_alike : (v w : BoolScalar) → eq_booleans v w ≡ true → boolean_writes v ≡ boolean_writes w
+pub booleans_alike : (v w : BoolScalar) → eq_booleans v w ≡ true →
+    boolean_writes v ≡ boolean_writes w
 booleans_alike = (on_Alike bool_of_view (options_alike (same_Alike fed.bool booleans_Decides))).fed
 
-pub numbers_alike : (v w : PrimitiveScalar) → eq_numbers v w ≡ true → number_writes v ≡ number_writes w
-numbers_alike = (second_alike (on numbers_type equal_ignoring_nullability) (on_Alike number_of_view (options_alike (same_Alike fed.i128 signed_Decides)))).fed
+pub numbers_alike : (v w : PrimitiveScalar) → eq_numbers v w ≡ true →
+    number_writes v ≡ number_writes w
+numbers_alike = (second_alike (on numbers_type equal_ignoring_nullability)
+    (on_Alike number_of_view (options_alike (same_Alike fed.i128 signed_Decides)))).fed
 
 pub texts_alike : (v w : Utf8Scalar) → eq_texts v w ≡ true → text_writes v ≡ text_writes w
 texts_alike = (on_Alike text_of_view (options_alike (same_Alike fed.str bytes_decides))).fed
 
 pub bytes_alike : (v w : BinaryScalar) → eq_bytes v w ≡ true → bytes_writes v ≡ bytes_writes w
-bytes_alike = (on_Alike bytes_of_view (options_alike (same_Alike (fed.slice fed.u8) bytes_decides))).fed
+bytes_alike =
+    (on_Alike bytes_of_view (options_alike (same_Alike (fed.slice fed.u8) bytes_decides))).fed

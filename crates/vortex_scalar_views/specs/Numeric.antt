@@ -20,10 +20,12 @@ whole_by operator.Div x y = if int_eq y (pos 0) then None else Some (int_div x y
 abbrev pub number_within : IntKind → ℤ → Option Raw
 number_within i z = if in_range i z then Some (raw_number i z) else None
 
--- What the operator makes of two integers of one kind: an integer of this kind, and none where it doesn't fit or isn't there.
+-- What the operator makes of two integers of one kind: an integer of this kind, and none where it
+-- doesn't fit or isn't there.
 -- It makes null of null and whatever else.
 abbrev pub raw_by : NumericOperator → Raw → Raw → Option Raw
-raw_by op (raw_number i x) (raw_number j y) = option_and_then (λ z. number_within i z) (whole_by op x y)
+raw_by op (raw_number i x) (raw_number j y) =
+    option_and_then (λ z. number_within i z) (whole_by op x y)
 raw_by op r s = Some raw_null
 
 -- the type of what is made: of the same numbers, with null where a side has it
@@ -34,7 +36,8 @@ kind_by k l = with_nullability (either_nullable (nullability_of k) (nullability_
 abbrev pub HaveSameNumbers : LogicalType → LogicalType → Type 0
 HaveSameNumbers k l = numbers_in_type k ≡ numbers_in_type l
 
--- what an operator asks of its two sides, each a type of numbers and a value of it, and what it gives
+-- what an operator asks of its two sides, each a type of numbers and a value of it, and what it
+-- gives
 abbrev pub CanMake : NumericOperator → Typed → Typed → Type 0
 CanMake op t u = HaveSameNumbers t.0 u.0 × IsTrue (is_some (raw_by op t.1 u.1))
 

@@ -25,7 +25,8 @@ bytes_cmp = on bytes_of_view (option_cmp (slice_cmp nat_cmp))
 
 -- as whole numbers, where the types are equal, nullability aside
 abbrev pub numbers_cmp : PrimitiveScalar → PrimitiveScalar → Option Ordering
-numbers_cmp v w = if equal_ignoring_nullability (numbers_type v) (numbers_type w) then Some (option_cmp int_cmp (number_of_view v) (number_of_view w)) else None
+numbers_cmp v w = if equal_ignoring_nullability (numbers_type v) (numbers_type w)
+    then Some (option_cmp int_cmp (number_of_view v) (number_of_view w)) else None
 
 -- types aren't told
 abbrev pub boolean_writes : BoolScalar → List (List ℕ)

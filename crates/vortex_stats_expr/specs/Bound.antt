@@ -30,8 +30,10 @@ bound_value (opposite x) row = kleene_not (bound_value x row)
 bound_value (null_test x) row = boolean (is_null_content (bound_value x row))
 bound_value (value_test x) row = boolean (not (is_null_content (bound_value x row)))
 bound_value (range_test x lo hi lower_strict upper_strict) row =
-    kleene_and (compared (end_of lower_strict) (bound_value lo row) (bound_value x row)) (compared (end_of upper_strict) (bound_value x row) (bound_value hi row))
-bound_value (match_test x form negated) row = liked (bound_value x row) (bound_value form row) negated
+    kleene_and (compared (end_of lower_strict) (bound_value lo row) (bound_value x row))
+        (compared (end_of upper_strict) (bound_value x row) (bound_value hi row))
+bound_value (match_test x form negated) row =
+    liked (bound_value x row) (bound_value form row) negated
 
 abbrev pub bound_column : Option Positions → Bound
 bound_column None = fixed null
@@ -48,7 +50,8 @@ bound_of k (negation x) = opposite (bound_of k x)
 bound_of k (is_null x) = null_test (bound_of k x)
 bound_of k (is_not_null x) = value_test (bound_of k x)
 bound_of k (is_nan x) = fixed null
-bound_of k (between x lo hi lower_strict upper_strict) = range_test (bound_of k x) (bound_of k lo) (bound_of k hi) lower_strict upper_strict
+bound_of k (between x lo hi lower_strict upper_strict) =
+    range_test (bound_of k x) (bound_of k lo) (bound_of k hi) lower_strict upper_strict
 bound_of k (like x form negated true) = fixed null
 bound_of k (like x form negated false) = match_test (bound_of k x) (bound_of k form) negated
 bound_of k row_count = fixed (integer (pos 1))

@@ -20,22 +20,38 @@ code_of (some x y) = gcons (gnum 4) (gcons (code_of x) (code_of y))
 code_of (opposite x) = gcons (gnum 5) (code_of x)
 code_of (null_test x) = gcons (gnum 6) (code_of x)
 code_of (value_test x) = gcons (gnum 7) (code_of x)
-code_of (range_test x l h s t) = gcons (gnum 8) (gcons (code_of x) (gcons (code_of l) (gcons (code_of h) (gcons (coded_bool.code s) (coded_bool.code t)))))
-code_of (match_test x f n) = gcons (gnum 9) (gcons (code_of x) (gcons (code_of f) (coded_bool.code n)))
+code_of (range_test x l h s t) =
+    gcons (gnum 8) (gcons (code_of x)
+    (gcons (code_of l) (gcons (code_of h) (gcons (coded_bool.code s) (coded_bool.code t)))))
+code_of (match_test x f n) =
+    gcons (gnum 9) (gcons (code_of x) (gcons (code_of f) (coded_bool.code n)))
 
 pub code_inj : (s t : Bound) → code_of s ≡ code_of t → s ≡ t
 code_inj (fixed c) (fixed d) p = ap fixed (content_inj c d (ap tail p))
 code_inj (place is) (place js) p = ap place (coded_positions.inj is js (ap tail p))
-code_inj (test o a b) (test q c d) p = λ i. test (comparison_inj o q (ap (λ g. head (tail g)) p) i) (code_inj a c (ap (λ g. head (tail (tail g))) p) i) (code_inj b d (ap (λ g. tail (tail (tail g))) p) i)
-code_inj (each a b) (each c d) p = λ i. each (code_inj a c (ap (λ g. head (tail g)) p) i) (code_inj b d (ap (λ g. tail (tail g)) p) i)
-code_inj (some a b) (some c d) p = λ i. some (code_inj a c (ap (λ g. head (tail g)) p) i) (code_inj b d (ap (λ g. tail (tail g)) p) i)
+code_inj (test o a b) (test q c d) p =
+    λ i. test (comparison_inj o q (ap (λ g. head (tail g)) p) i)
+    (code_inj a c (ap (λ g. head (tail (tail g))) p) i)
+    (code_inj b d (ap (λ g. tail (tail (tail g))) p) i)
+code_inj (each a b) (each c d) p =
+    λ i. each (code_inj a c (ap (λ g. head (tail g)) p) i)
+    (code_inj b d (ap (λ g. tail (tail g)) p) i)
+code_inj (some a b) (some c d) p =
+    λ i. some (code_inj a c (ap (λ g. head (tail g)) p) i)
+    (code_inj b d (ap (λ g. tail (tail g)) p) i)
 code_inj (opposite a) (opposite b) p = ap opposite (code_inj a b (ap tail p))
 code_inj (null_test a) (null_test b) p = ap null_test (code_inj a b (ap tail p))
 code_inj (value_test a) (value_test b) p = ap value_test (code_inj a b (ap tail p))
 code_inj (range_test x l h s t) (range_test x' l' h' s' t') p =
-    λ i. range_test (code_inj x x' (ap (λ g. head (tail g)) p) i) (code_inj l l' (ap (λ g. head (tail (tail g))) p) i) (code_inj h h' (ap (λ g. head (tail (tail (tail g)))) p) i)
-    (coded_bool.inj s s' (ap (λ g. head (tail (tail (tail (tail g))))) p) i) (coded_bool.inj t t' (ap (λ g. tail (tail (tail (tail (tail g))))) p) i)
-code_inj (match_test x f n) (match_test x' f' n') p = λ i. match_test (code_inj x x' (ap (λ g. head (tail g)) p) i) (code_inj f f' (ap (λ g. head (tail (tail g))) p) i) (coded_bool.inj n n' (ap (λ g. tail (tail (tail g))) p) i)
+    λ i. range_test (code_inj x x' (ap (λ g. head (tail g)) p) i)
+        (code_inj l l' (ap (λ g. head (tail (tail g))) p) i)
+        (code_inj h h' (ap (λ g. head (tail (tail (tail g)))) p) i)
+    (coded_bool.inj s s' (ap (λ g. head (tail (tail (tail (tail g))))) p) i)
+        (coded_bool.inj t t' (ap (λ g. tail (tail (tail (tail (tail g))))) p) i)
+code_inj (match_test x f n) (match_test x' f' n') p =
+    λ i. match_test (code_inj x x' (ap (λ g. head (tail g)) p) i)
+    (code_inj f f' (ap (λ g. head (tail (tail g))) p) i)
+    (coded_bool.inj n n' (ap (λ g. tail (tail (tail g))) p) i)
 code_inj s t p = absurd (omega (arith, ap tag p))
 
 abbrev pub bound_code : Coded Bound

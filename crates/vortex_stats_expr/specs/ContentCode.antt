@@ -29,11 +29,16 @@ mutual
   content_inj (text a) (text b) p = ap text (coded_bytes.inj a b (ap tail p))
   content_inj (byte_string a) (byte_string b) p = ap byte_string (coded_bytes.inj a b (ap tail p))
   content_inj (tuple cs) (tuple ds) p = ap tuple (contents_inj cs ds (ap tail p))
-  content_inj (tagged t c) (tagged u d) p = λ i. tagged (coded_ℤ.inj t u (ap (λ g. head (tail g)) p) i) (content_inj c d (ap (λ g. tail (tail g)) p) i)
-  content_inj (scalar k c) (scalar l d) p = λ i. scalar (type_inj k l (ap (λ g. head (tail g)) p) i) (content_inj c d (ap (λ g. tail (tail g)) p) i)
+  content_inj (tagged t c) (tagged u d) p =
+      λ i. tagged (coded_ℤ.inj t u (ap (λ g. head (tail g)) p) i)
+      (content_inj c d (ap (λ g. tail (tail g)) p) i)
+  content_inj (scalar k c) (scalar l d) p =
+      λ i. scalar (type_inj k l (ap (λ g. head (tail g)) p) i)
+      (content_inj c d (ap (λ g. tail (tail g)) p) i)
   content_inj c d p = absurd (omega (arith, ap tag p))
 
   pub contents_inj : (cs ds : Contents) → contents_code cs ≡ contents_code ds → cs ≡ ds
   contents_inj nothing nothing p = λ i. nothing
-  contents_inj (first c cs) (first d ds) p = λ i. first (content_inj c d (ap head p) i) (contents_inj cs ds (ap tail p) i)
+  contents_inj (first c cs) (first d ds) p =
+      λ i. first (content_inj c d (ap head p) i) (contents_inj cs ds (ap tail p) i)
   contents_inj cs ds p = cc

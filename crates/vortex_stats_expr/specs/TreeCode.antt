@@ -64,28 +64,49 @@ code_of (negation x) = gcons (gnum 5) (code_of x)
 code_of (is_null x) = gcons (gnum 6) (code_of x)
 code_of (is_not_null x) = gcons (gnum 7) (code_of x)
 code_of (is_nan x) = gcons (gnum 8) (code_of x)
-code_of (between x l h s t) = gcons (gnum 9) (gcons (code_of x) (gcons (code_of l) (gcons (code_of h) (gcons (coded_bool.code s) (coded_bool.code t)))))
-code_of (like x f n c) = gcons (gnum 10) (gcons (code_of x) (gcons (code_of f) (gcons (coded_bool.code n) (coded_bool.code c))))
+code_of (between x l h s t) =
+    gcons (gnum 9) (gcons (code_of x)
+    (gcons (code_of l) (gcons (code_of h) (gcons (coded_bool.code s) (coded_bool.code t)))))
+code_of (like x f n c) =
+    gcons (gnum 10) (gcons (code_of x)
+    (gcons (code_of f) (gcons (coded_bool.code n) (coded_bool.code c))))
 code_of row_count = gnum 11
 code_of (statistic x a) = gcons (gnum 12) (gcons (code_of x) (aggregate_code a))
 
 pub code_inj : (s t : Expression) → code_of s ≡ code_of t → s ≡ t
-code_inj (literal k c) (literal l d) p = λ i. literal (type_inj k l (ap (λ g. head (tail g)) p) i) (content_inj c d (ap (λ g. tail (tail g)) p) i)
+code_inj (literal k c) (literal l d) p =
+    λ i. literal (type_inj k l (ap (λ g. head (tail g)) p) i)
+    (content_inj c d (ap (λ g. tail (tail g)) p) i)
 code_inj (column xs) (column ys) p = ap column (coded_names.inj xs ys (ap tail p))
-code_inj (compare o a b) (compare q c d) p = λ i. compare (comparison_inj o q (ap (λ g. head (tail g)) p) i) (code_inj a c (ap (λ g. head (tail (tail g))) p) i) (code_inj b d (ap (λ g. tail (tail (tail g))) p) i)
-code_inj (both a b) (both c d) p = λ i. both (code_inj a c (ap (λ g. head (tail g)) p) i) (code_inj b d (ap (λ g. tail (tail g)) p) i)
-code_inj (either a b) (either c d) p = λ i. either (code_inj a c (ap (λ g. head (tail g)) p) i) (code_inj b d (ap (λ g. tail (tail g)) p) i)
+code_inj (compare o a b) (compare q c d) p =
+    λ i. compare (comparison_inj o q (ap (λ g. head (tail g)) p) i)
+    (code_inj a c (ap (λ g. head (tail (tail g))) p) i)
+    (code_inj b d (ap (λ g. tail (tail (tail g))) p) i)
+code_inj (both a b) (both c d) p =
+    λ i. both (code_inj a c (ap (λ g. head (tail g)) p) i)
+    (code_inj b d (ap (λ g. tail (tail g)) p) i)
+code_inj (either a b) (either c d) p =
+    λ i. either (code_inj a c (ap (λ g. head (tail g)) p) i)
+    (code_inj b d (ap (λ g. tail (tail g)) p) i)
 code_inj (negation a) (negation b) p = ap negation (code_inj a b (ap tail p))
 code_inj (is_null a) (is_null b) p = ap is_null (code_inj a b (ap tail p))
 code_inj (is_not_null a) (is_not_null b) p = ap is_not_null (code_inj a b (ap tail p))
 code_inj (is_nan a) (is_nan b) p = ap is_nan (code_inj a b (ap tail p))
 code_inj (between x l h s t) (between x' l' h' s' t') p =
-    λ i. between (code_inj x x' (ap (λ g. head (tail g)) p) i) (code_inj l l' (ap (λ g. head (tail (tail g))) p) i) (code_inj h h' (ap (λ g. head (tail (tail (tail g)))) p) i)
-    (coded_bool.inj s s' (ap (λ g. head (tail (tail (tail (tail g))))) p) i) (coded_bool.inj t t' (ap (λ g. tail (tail (tail (tail (tail g))))) p) i)
+    λ i. between (code_inj x x' (ap (λ g. head (tail g)) p) i)
+        (code_inj l l' (ap (λ g. head (tail (tail g))) p) i)
+        (code_inj h h' (ap (λ g. head (tail (tail (tail g)))) p) i)
+    (coded_bool.inj s s' (ap (λ g. head (tail (tail (tail (tail g))))) p) i)
+        (coded_bool.inj t t' (ap (λ g. tail (tail (tail (tail (tail g))))) p) i)
 code_inj (like x f n c) (like x' f' n' c') p =
-    λ i. like (code_inj x x' (ap (λ g. head (tail g)) p) i) (code_inj f f' (ap (λ g. head (tail (tail g))) p) i) (coded_bool.inj n n' (ap (λ g. head (tail (tail (tail g)))) p) i) (coded_bool.inj c c' (ap (λ g. tail (tail (tail (tail g)))) p) i)
+    λ i. like (code_inj x x' (ap (λ g. head (tail g)) p) i)
+        (code_inj f f' (ap (λ g. head (tail (tail g))) p) i)
+        (coded_bool.inj n n' (ap (λ g. head (tail (tail (tail g)))) p) i)
+        (coded_bool.inj c c' (ap (λ g. tail (tail (tail (tail g)))) p) i)
 code_inj row_count row_count p = λ i. row_count
-code_inj (statistic x a) (statistic y b) p = λ i. statistic (code_inj x y (ap (λ g. head (tail g)) p) i) (aggregate_inj a b (ap (λ g. tail (tail g)) p) i)
+code_inj (statistic x a) (statistic y b) p =
+    λ i. statistic (code_inj x y (ap (λ g. head (tail g)) p) i)
+    (aggregate_inj a b (ap (λ g. tail (tail g)) p) i)
 code_inj s t p = absurd (omega (arith, ap tag p))
 
 abbrev pub tree_code : Coded Expression

@@ -11,4 +11,6 @@ guard_of guard.Flag = no_nan_by_flag
 
 -- the proof, where the flagged sides hold no NaN by the count or by the flag
 abbrev pub kept_from_nan : Bool → Bool → Expression → Expression → Expression → Expression
-kept_from_nan f g l r proof = if f || g then either (guarded no_nan_by_count f g l r proof) (guarded no_nan_by_flag f g l r proof) else proof
+kept_from_nan f g l r proof =
+    if f || g then either (guarded no_nan_by_count f g l r proof)
+    (guarded no_nan_by_flag f g l r proof) else proof

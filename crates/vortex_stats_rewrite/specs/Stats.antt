@@ -12,7 +12,8 @@ IsAnswer None c = c ≡ null
 IsAnswer (Some (literal k d)) c = d ≡ c
 IsAnswer (Some e) c = ⊥
 
--- Whatever the columns are, the bound proof has the value that the proof has where placeholders stand for these. It has none left.
+-- Whatever the columns are, the bound proof has the value that the proof has where placeholders
+-- stand for these. It has none left.
 pub record IsBinding (given : Placeholders) (proof bound : Expression) : Type 0 where
   pub value : (columns : Names → Content) (left : Placeholders) (rows : ℕ) →
       evaluate (record { columns = columns; placeholders = left; rows = rows }) bound

@@ -26,7 +26,9 @@ parts_back (inexact c) = refl
 parts_back absent = refl
 
 abbrev pub coded_precision : {A : Type 0} → Coded A → Coded (Precision A)
-coded_precision {A} coded = code_by (Option (Bool × A)) (coded_option (coded× coded_bool coded)) parts_of of_parts parts_back
+coded_precision {A} coded =
+    code_by (Option (Bool × A)) (coded_option (coded× coded_bool coded)) parts_of of_parts
+    parts_back
 
 abbrev pub coded_bound : Coded (Precision Content)
 coded_bound = coded_precision coded_content

@@ -25,13 +25,15 @@ column_at is rows = values_at is (map row_content rows)
 -- one to one, the bounds are those of the rows' leaves at these positions, at this bound length
 abbrev pub AreBoundsOf : ℕ → List Positions → List ColumnBounds → List ScalarValue → Type 0
 AreBoundsOf L [] [] rows = Unit {0}
-AreBoundsOf L (is ∷ leaves) (b ∷ bounds) rows = IsBoundsOf L b (column_at is rows) × AreBoundsOf L leaves bounds rows
+AreBoundsOf L (is ∷ leaves) (b ∷ bounds) rows =
+    IsBoundsOf L b (column_at is rows) × AreBoundsOf L leaves bounds rows
 AreBoundsOf L leaves bounds rows = ⊥
 
 -- one to one, the sums are of the kinds of a type's leaves at these positions
 abbrev pub are_sums_of : LogicalType → List Positions → List ColumnBounds → Bool
 are_sums_of k [] [] = true
-are_sums_of k (is ∷ leaves) (b ∷ bounds) = eq_sum_kind (int_kind_of b.sum_type) (sum_kind (kind_at k is)) && are_sums_of k leaves bounds
+are_sums_of k (is ∷ leaves) (b ∷ bounds) =
+    eq_sum_kind (int_kind_of b.sum_type) (sum_kind (kind_at k is)) && are_sums_of k leaves bounds
 are_sums_of k leaves bounds = false
 
 pub IsBoundsOf-prop : (L : ℕ) (b : ColumnBounds) (cs : List Content) → IsProp (IsBoundsOf L b cs)
@@ -43,7 +45,10 @@ IsBoundsOf-prop L b cs = λ p q i. record {
   constant = λ c. Coded-set (coded_precision coded_bool) _ _ (p.constant c) (q.constant c) i;
 }
 
-pub AreBoundsOf-prop : (L : ℕ) (leaves : List Positions) (bounds : List ColumnBounds) (rows : List ScalarValue) → IsProp (AreBoundsOf L leaves bounds rows)
+pub AreBoundsOf-prop : (L : ℕ) (leaves : List Positions) (bounds : List ColumnBounds)
+    (rows : List ScalarValue) → IsProp (AreBoundsOf L leaves bounds rows)
 AreBoundsOf-prop L [] [] rows = λ p q i. tt
-AreBoundsOf-prop L (is ∷ leaves) (b ∷ bounds) rows = λ p q i. (IsBoundsOf-prop L b (column_at is rows) p.0 q.0 i, AreBoundsOf-prop L leaves bounds rows p.1 q.1 i)
+AreBoundsOf-prop L (is ∷ leaves) (b ∷ bounds) rows =
+    λ p q i. (IsBoundsOf-prop L b (column_at is rows) p.0 q.0 i,
+    AreBoundsOf-prop L leaves bounds rows p.1 q.1 i)
 AreBoundsOf-prop L leaves bounds rows = λ p q. absurd p

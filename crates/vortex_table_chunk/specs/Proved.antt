@@ -8,4 +8,6 @@ use Rattle.vortex_table_chunk.specs.declared.chunk.Chunk.{Chunk}
 
 abbrev pub proved_by : LogicalType → Chunk → Option Expression → Bool
 proved_by k chunk None = false
-proved_by k chunk (Some proof) = is_proved (bound_stat k chunk.leaves.value.items chunk.bounds.items (length chunk.rows.items)) (length chunk.rows.items) proof
+proved_by k chunk (Some proof) =
+    is_proved (bound_stat k chunk.leaves.value.items chunk.bounds.items (length chunk.rows.items))
+    (length chunk.rows.items) proof

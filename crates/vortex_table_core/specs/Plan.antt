@@ -28,7 +28,8 @@ abbrev pub predicate_in : Scan → Expression
 predicate_in plan = plan.predicate.now
 
 -- what is prepared is what the definitions make of a type, paths and a predicate without a fault
-pub record IsPreparedFor (k : LogicalType) (paths : List Names) (e : Expression) (made : ScanPlan) : Type 0 where
+pub record IsPreparedFor (k : LogicalType) (paths : List Names) (e : Expression)
+    (made : ScanPlan) : Type 0 where
   pub faultless : predicate_fault k e ≡ None
   pub no_like : has_no_like e ≡ true
   pub bound : (row : Content) → bound_value made.bound row ≡ value_at k e row
@@ -39,4 +40,5 @@ pub record IsPreparedFor (k : LogicalType) (paths : List Names) (e : Expression)
 
 -- the plan has what is prepared for its scan
 abbrev pub IsPlan : Scan → Type 0
-IsPlan plan = IsPreparedFor (table_in plan).kind (paths_in plan) (predicate_in plan) plan.prepared.now
+IsPlan plan =
+    IsPreparedFor (table_in plan).kind (paths_in plan) (predicate_in plan) plan.prepared.now

@@ -26,7 +26,8 @@ abbrev pub proofs_at : Bool → Bool → Outcome → ℕ
 proofs_at falsifies satisfies o = one_if falsifies + one_if satisfies * one_if (not (is_skipped o))
 
 -- the answer with one more chunk
-abbrev pub with_chunk : LogicalType → List Names → Expression → ℕ → List Content → Outcome → ScanAnswer → ScanAnswer
+abbrev pub with_chunk : LogicalType → List Names → Expression → ℕ → List Content → Outcome →
+    ScanAnswer → ScanAnswer
 with_chunk k paths e i chunk o a = record {
   rows = a.rows ++ found_rows k paths e chunk;
   kind = a.kind;
@@ -37,10 +38,13 @@ with_chunk k paths e i chunk o a = record {
 }
 
 -- the answer with these chunks, of which the first has this number
-abbrev pub with_chunks : LogicalType → List Names → Expression → (List Content → Outcome) → ℕ → List (List Content) → ScanAnswer → ScanAnswer
+abbrev pub with_chunks : LogicalType → List Names → Expression → (List Content → Outcome) → ℕ →
+    List (List Content) → ScanAnswer → ScanAnswer
 with_chunks k paths e outcome i [] a = a
-with_chunks k paths e outcome i (chunk ∷ chunks) a = with_chunks k paths e outcome (suc i) chunks (with_chunk k paths e i chunk (outcome chunk) a)
+with_chunks k paths e outcome i (chunk ∷ chunks) a =
+    with_chunks k paths e outcome (suc i) chunks (with_chunk k paths e i chunk (outcome chunk) a)
 
 -- the answer before any chunk
 abbrev pub no_answer : LogicalType → List Names → ScanAnswer
-no_answer k paths = record { rows = []; kind = cut_type paths k; skipped = []; whole = []; rows_tested = 0; proofs = 0 }
+no_answer k paths = record { rows = []; kind = cut_type paths k; skipped = []; whole = [];
+    rows_tested = 0; proofs = 0 }

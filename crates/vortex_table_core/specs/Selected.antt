@@ -24,4 +24,5 @@ selected_rows predicate rows = filter (is_selected predicate) rows
 -- each row can be cut to a value of the cut's type
 abbrev pub CanBeCut : RowProjection → List ScalarValue → Type 0
 CanBeCut cut rows = (i : ℕ) (d : ScalarValue) → i < length rows →
-    IsTrue (valid (type_of cut.dtype) (raw_cut (tree_of cut.projection) (raw_of (slice_index_or rows i d))))
+    IsTrue (valid (type_of cut.dtype)
+        (raw_cut (tree_of cut.projection) (raw_of (slice_index_or rows i d))))

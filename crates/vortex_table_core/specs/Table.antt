@@ -14,7 +14,10 @@ eq_leaves [] [] = true
 eq_leaves (is ∷ xs) (js ∷ ys) = eq_positions is js && eq_leaves xs ys
 eq_leaves xs ys = false
 
--- the chunk has rows, these are of the type, and its leaves and its bound length are those of the table
+-- the chunk has rows, these are of the type, and its leaves and its bound length are those of the
+-- table
 abbrev pub is_formed : ℕ → LogicalType → Chunk → Bool
 is_formed L k c =
-    nat_lt 0 (length c.rows.items) && (list_all (λ row. valid k (raw_of row)) c.rows.items && (eq_leaves c.leaves.value.items (leaf_positions k) && c.bound_length == L))
+    nat_lt 0 (length c.rows.items) &&
+        (list_all (λ row. valid k (raw_of row)) c.rows.items &&
+        (eq_leaves c.leaves.value.items (leaf_positions k) && c.bound_length == L))

@@ -11,7 +11,8 @@ abbrev pub ok_text : List ℕ
 ok_text = codes "{\"ok\":true}"
 
 -- Each line that was read was answered, in order, by a line of text.
-pub record AnswersAll {S : Type 0} (answers : Answers S (List ℕ)) (old : S) (read_old read_new written_old written_new : List ℕ) (new : S) : Type 0 where
+pub record AnswersAll {S : Type 0} (answers : Answers S (List ℕ)) (old : S)
+    (read_old read_new written_old written_new : List ℕ) (new : S) : Type 0 where
   pub input : List ℕ
   pub read : read_new ≡ read_old ++ input
   pub texts : List (List ℕ)
@@ -19,7 +20,8 @@ pub record AnswersAll {S : Type 0} (answers : Answers S (List ℕ)) (old : S) (r
   pub written : written_new ≡ written_old ++ flat_map with_lf texts
 
 -- What was written is a beginning of answers to the lines that were read.
-pub record AnswersPart {S : Type 0} (answers : Answers S (List ℕ)) (old : S) (read_old read_new written_old written_new : List ℕ) : Type 0 where
+pub record AnswersPart {S : Type 0} (answers : Answers S (List ℕ)) (old : S)
+    (read_old read_new written_old written_new : List ℕ) : Type 0 where
   pub input : List ℕ
   pub read : read_new ≡ read_old ++ input
   pub texts : List (List ℕ)
@@ -28,8 +30,10 @@ pub record AnswersPart {S : Type 0} (answers : Answers S (List ℕ)) (old : S) (
   pub rest : List ℕ
   pub begins : written_new ++ rest ≡ written_old ++ flat_map with_lf texts
 
--- For private clauses. Behind `held` came a piece, whole lines were answered, and `left` is held now.
-pub record FeedOk {S : Type 0} (answers : Answers S (List ℕ)) (old : S) (held piece left written_old written_new : List ℕ) (new : S) : Type 0 where
+-- For private clauses. Behind `held` came a piece, whole lines were answered, and `left` is held
+-- now.
+pub record FeedOk {S : Type 0} (answers : Answers S (List ℕ)) (old : S)
+    (held piece left written_old written_new : List ℕ) (new : S) : Type 0 where
   pub done : List (List ℕ)
   pub texts : List (List ℕ)
   pub cut : (more : List ℕ) → lines (held ++ (piece ++ more)) ≡ done ++ lines (left ++ more)
@@ -37,7 +41,8 @@ pub record FeedOk {S : Type 0} (answers : Answers S (List ℕ)) (old : S) (held 
   pub written : written_new ≡ written_old ++ flat_map with_lf texts
 
 -- The same, where a write failed.
-pub record FeedErr {S : Type 0} (answers : Answers S (List ℕ)) (old : S) (held piece written_old written_new : List ℕ) : Type 0 where
+pub record FeedErr {S : Type 0} (answers : Answers S (List ℕ)) (old : S)
+    (held piece written_old written_new : List ℕ) : Type 0 where
   pub done : List (List ℕ)
   pub texts : List (List ℕ)
   pub final : S
@@ -50,9 +55,11 @@ pub record FeedErr {S : Type 0} (answers : Answers S (List ℕ)) (old : S) (held
 -- The input has ended, with this line held: it is the last, if there is any of it.
 abbrev pub FinishOk : {S : Type 0} → Answers S (List ℕ) → S → List ℕ → List ℕ → List ℕ → S → Type 0
 FinishOk answers old [] written_old written_new new = (written_new ≡ written_old) × (new ≡ old)
-FinishOk answers old (b ∷ bs) written_old written_new new = (text : List ℕ) × answers old (b ∷ bs) text new × (written_new ≡ written_old ++ with_lf text)
+FinishOk answers old (b ∷ bs) written_old written_new new =
+    (text : List ℕ) × answers old (b ∷ bs) text new × (written_new ≡ written_old ++ with_lf text)
 
 -- The same, where a write failed.
 abbrev pub FinishErr : {S : Type 0} → Answers S (List ℕ) → S → List ℕ → List ℕ → List ℕ → Type 0
 FinishErr answers old [] written_old written_new = written_new ≡ written_old
-FinishErr {S} answers old (b ∷ bs) written_old written_new = (text rest : List ℕ) × (new : S) × answers old (b ∷ bs) text new × (written_new ++ rest ≡ written_old ++ with_lf text)
+FinishErr {S} answers old (b ∷ bs) written_old written_new = (text rest : List ℕ) × (new : S) ×
+    answers old (b ∷ bs) text new × (written_new ++ rest ≡ written_old ++ with_lf text)

@@ -8,7 +8,8 @@ use Rattle.vortex_table_io.specs.declared.line_handler.Response.TheVariants.{Wri
 
 -- what a handler answered, with its buffer
 abbrev pub Says : {S : Type 0} → Answers S (List ℕ) → S → List ℕ → Response → List ℕ → S → Type 0
-Says answers old line Written out new = (text : List ℕ) × answers old line text new × (out ≡ with_lf text)
+Says answers old line Written out new =
+    (text : List ℕ) × answers old line text new × (out ≡ with_lf text)
 Says answers old line (Short text) out new = answers old line text new
 Says answers old line Done out new = answers old line ok_text new
 Says answers old line NoMemory out new = answers old line memory_text new
@@ -21,4 +22,5 @@ response_line Done out = with_lf ok_text
 response_line NoMemory out = with_lf memory_text
 
 abbrev pub SaysLine : {S : Type 0} → Answers S (List ℕ) → S → List ℕ → List ℕ → S → Type 0
-SaysLine answers old line response new = (text : List ℕ) × answers old line text new × (response ≡ with_lf text)
+SaysLine answers old line response new =
+    (text : List ℕ) × answers old line text new × (response ≡ with_lf text)

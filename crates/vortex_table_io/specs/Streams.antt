@@ -20,7 +20,8 @@ abbrev pub is_failed_write : {E : Type 0} → Result ℕ E → ℕ → Bool
 is_failed_write (Ok n) len = n == 0 && nat_lt 0 len
 is_failed_write (Err e) len = true
 
--- What is flushed after a flush that returned this: at `Ok` all that was written, at `Err` what was flushed before.
+-- What is flushed after a flush that returned this: at `Ok` all that was written, at `Err` what was
+-- flushed before.
 abbrev pub flushed_after : {T E : Type 0} → Result T E → List ℕ → List ℕ → List ℕ
 flushed_after (Ok u) written flushed = written
 flushed_after (Err e) written flushed = flushed

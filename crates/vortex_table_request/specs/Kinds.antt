@@ -27,7 +27,8 @@ integer_of d = option_and_then as_i64 (as_number d)
 -- each item as such a number
 abbrev pub integers_of : Items → Option (List ℤ)
 integers_of no_items = Some []
-integers_of (item d ds) = option_and_then (λ z. option_map (λ zs. z ∷ zs) (integers_of ds)) (integer_of d)
+integers_of (item d ds) =
+    option_and_then (λ z. option_map (λ zs. z ∷ zs) (integers_of ds)) (integer_of d)
 
 -- a missing flag is false
 abbrev pub flag_in : Option Data → Option Bool
@@ -72,14 +73,16 @@ plain_named name =
     else (if bytes_eq name (codes "utf8") then Some texts
     else (if bytes_eq name (codes "binary") then Some byte_strings
     else (if bytes_eq name (codes "variant") then Some variants
-    else (if bytes_eq name (codes "list") then Some lists else option_map numbers (number_kind_named name))))))
+    else (if bytes_eq name (codes "list") then Some lists
+        else option_map numbers (number_kind_named name))))))
 
 abbrev pub one_if : Bool → ℕ
 one_if b = if b then 1 else 0
 
 -- how many of the keys are there that each kind may have
 abbrev pub common_keys : Data → ℕ
-common_keys d = 1 + one_if (is_some (get (codes "nullable") d)) + one_if (is_some (get (codes "children") d))
+common_keys d =
+    1 + one_if (is_some (get (codes "nullable") d)) + one_if (is_some (get (codes "children") d))
 
 abbrev pub plain_of : ℕ → Data → List ℕ → Option Form
 plain_of size d name = if size == common_keys d then plain_named name else None
@@ -87,7 +90,8 @@ plain_of size d name = if size == common_keys d then plain_named name else None
 abbrev pub decimal_of : ℕ → Data → Option Form
 decimal_of size d =
     if size == common_keys d + 2
-    then option_and_then (λ precision. option_map (λ scale. decimals precision scale) (option_and_then integer_of (get (codes "scale") d)))
+    then option_and_then (λ precision. option_map (λ scale. decimals precision scale)
+        (option_and_then integer_of (get (codes "scale") d)))
     (option_and_then integer_of (get (codes "precision") d))
     else None
 
@@ -95,19 +99,23 @@ decimal_of size d =
 abbrev pub fixed_list_of : ℕ → Data → Option Form
 fixed_list_of size d =
     if size == common_keys d + 1
-    then option_and_then (λ n. if nat_lt n (2 ^ 32) then Some (fixed_lists n) else None) (option_and_then natural_of (get (codes "size") d))
+    then option_and_then (λ n. if nat_lt n (2 ^ 32) then Some (fixed_lists n)
+        else None) (option_and_then natural_of (get (codes "size") d))
     else None
 
 abbrev pub map_of : ℕ → Data → Option Form
 map_of size d =
-    if size == common_keys d + 1 then option_map (λ sorted. maps sorted) (option_and_then as_bool (get (codes "sorted") d)) else None
+    if size == common_keys d + 1
+        then option_map (λ sorted. maps sorted) (option_and_then as_bool (get (codes "sorted") d))
+        else None
 
 -- the texts at `names`
 abbrev pub names_of : Data → Option (List (List ℕ))
 names_of d = option_and_then strings_of (option_and_then as_array (get (codes "names") d))
 
 abbrev pub struct_of : ℕ → Data → Option Form
-struct_of size d = if size == common_keys d + 1 then option_map (λ names. records names) (names_of d) else None
+struct_of size d =
+    if size == common_keys d + 1 then option_map (λ names. records names) (names_of d) else None
 
 -- the numbers at `tags`
 abbrev pub tags_of : Data → Option (List ℤ)
@@ -115,12 +123,15 @@ tags_of d = option_and_then integers_of (option_and_then as_array (get (codes "t
 
 abbrev pub union_of : ℕ → Data → Option Form
 union_of size d =
-    if size == common_keys d + 2 then option_and_then (λ names. option_map (λ tags. unions names tags) (tags_of d)) (names_of d) else None
+    if size == common_keys d + 2
+        then option_and_then (λ names. option_map (λ tags. unions names tags) (tags_of d))
+        (names_of d) else None
 
 abbrev pub extension_of : ℕ → Data → Option Form
 extension_of size d =
     if size == common_keys d + 1 + one_if (is_some (get (codes "metadata") d))
-    then option_and_then (λ id. option_map (λ metadata. extended id metadata) (metadata_in (get (codes "metadata") d)))
+    then option_and_then (λ id. option_map (λ metadata. extended id metadata)
+        (metadata_in (get (codes "metadata") d)))
     (option_and_then as_str (get (codes "id") d))
     else None
 
@@ -132,7 +143,8 @@ form_named size d name =
     else (if bytes_eq name (codes "map") then map_of size d
     else (if bytes_eq name (codes "struct") then struct_of size d
     else (if bytes_eq name (codes "union") then union_of size d
-    else (if bytes_eq name (codes "extension") then extension_of size d else plain_of size d name)))))
+    else (if bytes_eq name (codes "extension") then extension_of size d
+        else plain_of size d name)))))
 
 -- ---- trees and types
 
@@ -143,7 +155,8 @@ tree_with size d children =
     (option_and_then (form_named size d) (option_and_then as_str (get (codes "kind") d))))
     (flag_in (get (codes "nullable") d))
 
--- The message tree that a value is: an object with `kind` and the keys of that kind. Missing children are none.
+-- The message tree that a value is: an object with `kind` and the keys of that kind. Missing
+-- children are none.
 abbrev mutual
   pub tree_in : Data → Option Tree
   tree_in null = None
@@ -152,13 +165,15 @@ abbrev mutual
   tree_in (string s) = None
   tree_in (array ds) = None
   tree_in (object ms) =
-      option_and_then (λ size. option_and_then (λ children. tree_with size (object ms) children) (children_in ms)) (size_of (object ms))
+      option_and_then (λ size. option_and_then (λ children. tree_with size (object ms) children)
+          (children_in ms)) (size_of (object ms))
 
   -- what the member `children` is, read item by item
   pub children_in : Members → Option (List Tree)
   children_in no_members = Some []
   children_in (member k d ms) =
-      match_ordering (slice_cmp nat_cmp (codes "children") k) (children_in ms) (trees_in d) (children_in ms)
+      match_ordering (slice_cmp nat_cmp (codes "children") k) (children_in ms) (trees_in d)
+          (children_in ms)
 
   pub trees_in : Data → Option (List Tree)
   trees_in null = None
@@ -170,7 +185,8 @@ abbrev mutual
 
   pub trees_of_items : Items → Option (List Tree)
   trees_of_items no_items = Some []
-  trees_of_items (item d ds) = option_and_then (λ t. option_map (λ ts. t ∷ ts) (trees_of_items ds)) (tree_in d)
+  trees_of_items (item d ds) =
+      option_and_then (λ t. option_map (λ ts. t ∷ ts) (trees_of_items ds)) (tree_in d)
 
 -- what was read, where anything was
 abbrev pub type_read : Reading LogicalType → Option LogicalType

@@ -23,7 +23,9 @@ layout_named name =
 
 abbrev pub layouts_of : Items → Option (List LayoutName)
 layouts_of no_items = Some []
-layouts_of (item d ds) = option_and_then (λ l. option_map (λ ls. l ∷ ls) (layouts_of ds)) (option_and_then layout_named (as_str d))
+layouts_of (item d ds) =
+    option_and_then (λ l. option_map (λ ls. l ∷ ls) (layouts_of ds))
+    (option_and_then layout_named (as_str d))
 
 -- missing layouts are none
 abbrev pub layouts_in : Option Data → Option (List LayoutName)
@@ -34,7 +36,8 @@ layouts_in (Some d) = option_and_then layouts_of (as_array d)
 abbrev pub create_in : ℕ → Data → Option Command
 create_in size d =
     if size == 3
-    then option_and_then (λ k. option_map (λ n. create k n []) (option_and_then natural_of (get (codes "length") d)))
+    then option_and_then (λ k. option_map (λ n. create k n [])
+        (option_and_then natural_of (get (codes "length") d)))
     (option_and_then type_in (get (codes "dtype") d))
     else None
 
@@ -53,7 +56,8 @@ append_in size d =
 abbrev pub scan_in : ℕ → Data → Option Command
 scan_in size d =
     if size == 3
-    then option_and_then (λ paths. option_map (scan paths) (option_and_then predicate_in (get (codes "where") d)))
+    then option_and_then (λ paths. option_map (scan paths)
+        (option_and_then predicate_in (get (codes "where") d)))
     (option_and_then paths_in (option_and_then as_array (get (codes "paths") d)))
     else None
 
@@ -76,8 +80,10 @@ command_with scans size d = scan_in size d
 -- an object with `cmd` and exactly the keys of that command
 abbrev pub command_in : Data → Option Command
 command_in d =
-    option_and_then (λ size. option_and_then (λ verb. command_with verb size d) (option_and_then verb_named (option_and_then as_str (get (codes "cmd") d)))) (size_of d)
+    option_and_then (λ size. option_and_then (λ verb. command_with verb size d)
+        (option_and_then verb_named (option_and_then as_str (get (codes "cmd") d)))) (size_of d)
 
--- The command that a line is. A number that is no whole number of 64 bits makes the line bad wherever it stands.
+-- The command that a line is. A number that is no whole number of 64 bits makes the line bad
+-- wherever it stands.
 abbrev pub command_of : List ℕ → Option Command
 command_of line = option_and_then (λ d. if keeps_whole d then command_in d else None) (data_of line)

@@ -11,14 +11,16 @@ use Rattle.vortex_table_request.specs.Kinds.{bytes_of_digits}
 
 -- an integer of the kind
 abbrev pub number_at : IntKind → Num → Option Raw
-number_at i n = option_and_then (λ z. if in_range i z then Some (raw_number i z) else None) (as_integer n)
+number_at i n =
+    option_and_then (λ z. if in_range i z then Some (raw_number i z) else None) (as_integer n)
 
 -- no number of a float is kept
 abbrev pub number_of : NumberKind → Num → Option Raw
 number_of (integral i) n = number_at i n
 number_of (floating f) n = None
 
--- The reading of a value at a type: null anywhere, a truth value, a number in range at a kind of integers, a text, hexadecimal digits as bytes, and an array by
+-- The reading of a value at a type: null anywhere, a truth value, a number in range at a kind of
+-- integers, a text, hexadecimal digits as bytes, and an array by
 -- position at a record.
 abbrev mutual
   pub reading : LogicalType → Data → Option Raw
@@ -33,7 +35,8 @@ abbrev mutual
   -- a reading a field
   pub readings : Fields → Items → Option (List Raw)
   readings no_fields no_items = Some []
-  readings (field x k fs) (item d ds) = option_and_then (λ r. option_map (λ rs. r ∷ rs) (readings fs ds)) (reading k d)
+  readings (field x k fs) (item d ds) =
+      option_and_then (λ r. option_map (λ rs. r ∷ rs) (readings fs ds)) (reading k d)
   readings fs ds = None
 
 -- a row, and null where there is no reading

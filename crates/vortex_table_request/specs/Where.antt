@@ -35,7 +35,8 @@ paths_in (item d ds) = option_and_then (λ p. option_map (λ ps. p ∷ ps) (path
 
 -- a literal at a leaf, where its reading is valid
 abbrev pub literal_at : LogicalType → Data → Option Expression
-literal_at k d = option_and_then (λ r. if is_leaf k then (if valid k r then Some (literal k (content_of r)) else None) else None) (reading k d)
+literal_at k d = option_and_then (λ r. if is_leaf k
+    then (if valid k r then Some (literal k (content_of r)) else None) else None) (reading k d)
 
 abbrev pub behind_first : Items → Items
 behind_first no_items = no_items
@@ -47,11 +48,13 @@ literal_kind_in n d = if n == 3 then option_and_then type_in (at 1 d) else None
 
 -- `["lit",type,content]`
 abbrev pub literal_in : ℕ → Data → Option Expression
-literal_in n d = option_and_then (λ k. option_and_then (literal_at k) (at 2 d)) (literal_kind_in n d)
+literal_in n d =
+    option_and_then (λ k. option_and_then (literal_at k) (at 2 d)) (literal_kind_in n d)
 
 -- the same as a predicate, which no literal truth value is so far
 abbrev pub root_literal_in : ℕ → Data → Option Expression
-root_literal_in n d = option_and_then (λ k. if is_boolean_type k then None else option_and_then (literal_at k) (at 2 d)) (literal_kind_in n d)
+root_literal_in n d = option_and_then (λ k. if is_boolean_type k then None
+    else option_and_then (literal_at k) (at 2 d)) (literal_kind_in n d)
 
 -- `["col",name,..]`
 abbrev pub column_in : Data → Option Expression
@@ -63,7 +66,9 @@ operand_named op n d =
     else (if bytes_eq op (codes "col") then column_in d else None)
 
 abbrev pub operand_in : Data → Option Expression
-operand_in d = option_and_then (λ n. option_and_then (λ op. operand_named op n d) (option_and_then as_str (at 0 d))) (items_size d)
+operand_in d =
+    option_and_then (λ n. option_and_then (λ op. operand_named op n d)
+    (option_and_then as_str (at 0 d))) (items_size d)
 
 abbrev pub comparison_named : List ℕ → Option Comparison
 comparison_named op =
@@ -78,7 +83,8 @@ comparison_named op =
 abbrev pub comparison_in : Comparison → ℕ → Data → Option Expression
 comparison_in c n d =
     if n == 3
-    then option_and_then (λ x. option_map (λ y. compare c x y) (option_and_then operand_in (at 2 d))) (option_and_then operand_in (at 1 d))
+    then option_and_then (λ x. option_map (λ y. compare c x y)
+        (option_and_then operand_in (at 2 d))) (option_and_then operand_in (at 1 d))
     else None
 
 -- a literal or a column as a predicate
@@ -92,7 +98,9 @@ abbrev pub predicate_by : Option Comparison → List ℕ → ℕ → Data → Op
 predicate_by None op n d = root_named op n d
 predicate_by (Some c) op n d = comparison_in c n d
 
--- the predicate that a value is: a comparison of literals and columns, or one of these, but no literal truth value
+-- the predicate that a value is: a comparison of literals and columns, or one of these, but no
+-- literal truth value
 abbrev pub predicate_in : Data → Option Expression
 predicate_in d =
-    option_and_then (λ n. option_and_then (λ op. predicate_by (comparison_named op) op n d) (option_and_then as_str (at 0 d))) (items_size d)
+    option_and_then (λ n. option_and_then (λ op. predicate_by (comparison_named op) op n d)
+        (option_and_then as_str (at 0 d))) (items_size d)

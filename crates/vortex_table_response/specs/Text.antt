@@ -14,7 +14,8 @@ use Rattle.vortex_table_response.specs.type_texts.Text.{flag_text, comma, type_t
 abbrev pub bytes_text : List ℕ → List ℕ
 bytes_text bs = codes "\"" ++ encode_lower bs ++ codes "\""
 
--- A content as a table can hold it: null, a truth value, a number, a text, bytes, or an array by position.
+-- A content as a table can hold it: null, a truth value, a number, a text, bytes, or an array by
+-- position.
 abbrev mutual
   pub content_text : Content → List ℕ
   content_text null = codes "null"
@@ -75,7 +76,8 @@ place_text (Some i) = codes "\"at\":" ++ decimal i ++ codes ","
 -- a refusal of this number and name
 abbrev pub refusal_parts : Option ℕ → ℕ → List ℕ → List ℕ
 refusal_parts place number name =
-    codes "{" ++ place_text place ++ codes "\"error\":" ++ decimal number ++ codes ",\"name\":\"" ++ name ++ codes "\"}"
+    codes "{" ++ place_text place ++ codes "\"error\":" ++ decimal number ++ codes ",\"name\":\"" ++
+        name ++ codes "\"}"
 
 -- the answer to a line that is no command
 abbrev pub bad_line_text : List ℕ
@@ -87,12 +89,14 @@ refusal_text r = refusal_parts (place_of r) (number_of r) (name_of r)
 -- what stands in front of the rows
 abbrev pub scan_front_text : ScanAnswer → List ℕ
 scan_front_text a =
-    codes "{\"dtype\":" ++ type_text a.kind ++ codes ",\"ok\":true,\"proofs\":" ++ decimal a.proofs ++ codes ",\"rows\":["
+    codes "{\"dtype\":" ++ type_text a.kind ++ codes ",\"ok\":true,\"proofs\":" ++
+        decimal a.proofs ++ codes ",\"rows\":["
 
 -- what stands behind the rows
 abbrev pub scan_end_text : ScanAnswer → List ℕ
 scan_end_text a =
-    codes "],\"rows_tested\":" ++ decimal a.rows_tested ++ codes ",\"skipped\":[" ++ numbers_text false a.skipped
+    codes "],\"rows_tested\":" ++ decimal a.rows_tested ++ codes ",\"skipped\":[" ++
+        numbers_text false a.skipped
     ++ codes "],\"whole\":[" ++ numbers_text false a.whole ++ codes "]}"
 
 abbrev pub scan_text : ScanAnswer → List ℕ

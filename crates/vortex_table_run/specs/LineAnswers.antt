@@ -12,11 +12,13 @@ use Rattle.vortex_table_response.specs.Answers.{text_of}
 abbrev pub LacksMemory : Option Table → List ℕ → Option Table → Type 0
 LacksMemory old text new = (text ≡ memory_text) × (new ≡ old)
 
--- What is answered to a line by the command that it is. One that is no command is answered by BadLine, and nothing changes.
+-- What is answered to a line by the command that it is. One that is no command is answered by
+-- BadLine, and nothing changes.
 abbrev pub AnswersTo : Option Command → Option Table → List ℕ → Option Table → Type 0
 AnswersTo None old text new = (text ≡ bad_line_text) × (new ≡ old)
 AnswersTo (Some c) old text new = (a : Answer) × RespondsTo old c a new × (text ≡ text_of a)
 
--- From the table, or none, this text may be the answer to this line, and then this table is left. Want of memory may be the answer to any line.
+-- From the table, or none, this text may be the answer to this line, and then this table is left.
+-- Want of memory may be the answer to any line.
 abbrev pub LineAnswers : Option Table → List ℕ → List ℕ → Option Table → Type 0
 LineAnswers old line text new = LacksMemory old text new ⊎ AnswersTo (command_of line) old text new

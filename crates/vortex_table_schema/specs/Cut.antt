@@ -17,7 +17,8 @@ use Rattle.vortex_table_schema.specs.declared.projection.Projection.{Projection,
 use Rattle.vortex_table_schema.specs.declared.projection.Projection.TheOpen.{Projection-F, ProjectedField-F}
 use Rattle.vortex_table_schema.specs.declared.projection.ProjectedField.{ProjectedField, fold-ProjectedField}
 
--- A value is kept whole, or it is a record of which some parts are kept, each at its position and cut in turn.
+-- A value is kept whole, or it is a record of which some parts are kept, each at its position and
+-- cut in turn.
 mutual
   pub data Tree : Type 0 where
     whole : Tree
@@ -85,7 +86,8 @@ abbrev pub is_not_root : List Names → Bool
 is_not_root [] = false
 is_not_root (path ∷ paths) = true
 
--- what the paths keep of a value of the type, and of a record's fields, of which the first has this position
+-- what the paths keep of a value of the type, and of a record's fields, of which the first has this
+-- position
 abbrev mutual
   pub kept_by : List Names → LogicalType → Tree
   kept_by paths (struct fs n) = if ask_for_all paths then whole else parts (kept_parts paths 0 fs)
@@ -94,17 +96,22 @@ abbrev mutual
   pub kept_parts : List Names → ℕ → Fields → Parts
   kept_parts paths i no_fields = no_parts
   kept_parts paths i (field x k fs) =
-      if is_not_root (strip_all x paths) then part i (kept_by (strip_all x paths) k) (kept_parts paths (suc i) fs) else kept_parts paths (suc i) fs
+      if is_not_root (strip_all x paths)
+          then part i (kept_by (strip_all x paths) k) (kept_parts paths (suc i) fs)
+          else kept_parts paths (suc i) fs
 
 -- the same of a list of fields: those that are kept, each cut
 abbrev pub cut_named : List Names → List NamedType → List NamedType
 cut_named paths [] = []
-cut_named paths (f ∷ fs) = if is_not_root (strip_all f.0 paths) then (f.0, cut_kind (strip_all f.0 paths) [] f.1) ∷ cut_named paths fs else cut_named paths fs
+cut_named paths (f ∷ fs) = if is_not_root (strip_all f.0 paths)
+    then (f.0, cut_kind (strip_all f.0 paths) [] f.1) ∷ cut_named paths fs else cut_named paths fs
 
 -- and the parts that are kept, of fields of which the first has this position
 abbrev pub kept_list : List Names → ℕ → List NamedType → List KeptPart
 kept_list paths i [] = []
-kept_list paths i (f ∷ fs) = if is_not_root (strip_all f.0 paths) then (i, kept_by (strip_all f.0 paths) f.1) ∷ kept_list paths (suc i) fs else kept_list paths (suc i) fs
+kept_list paths i (f ∷ fs) =
+    if is_not_root (strip_all f.0 paths) then (i, kept_by (strip_all f.0 paths) f.1) ∷
+    kept_list paths (suc i) fs else kept_list paths (suc i) fs
 
 -- ---- a value that is cut
 

@@ -4,7 +4,8 @@ use Rattle.vortex_model.specs.LogicalType.{LogicalType, struct, Fields, no_field
 use Rattle.vortex_model.specs.Kept.{is_leaf}
 use Rattle.vortex_model.specs.Path.{Positions}
 
--- the leaves of the part at `here` that are reached through records alone, and those of a record's fields, of which the first has this position
+-- the leaves of the part at `here` that are reached through records alone, and those of a record's
+-- fields, of which the first has this position
 abbrev mutual
   pub leaves_in : Positions → LogicalType → List Positions
   leaves_in here (struct fs n) = leaves_among here 0 fs

@@ -40,4 +40,5 @@ pub record IsPlain (k : LogicalType) (rs : List Raw) (a : Layout) : Type 0 where
   pub sound : IsSound a
   pub len : len_of a ≡ length rs
   pub kind : array_type_of a ≡ k
-  pub content : (i : ℕ) → i < length rs → valid k (slice_index_or rs i raw_null) ≡ true → content_at a i ≡ content_of (slice_index_or rs i raw_null)
+  pub content : (i : ℕ) → i < length rs → valid k (slice_index_or rs i raw_null) ≡ true →
+      content_at a i ≡ content_of (slice_index_or rs i raw_null)

@@ -34,5 +34,7 @@ abbrev pub raw_entry : Raw → Raw → Raw
 raw_entry a b = raw_tuple (raw_first a (raw_first b no_raws))
 
 -- The value of the type, where the parts fit, and `Invalid` where they don't. Memory aside.
-abbrev pub GivesNested : {S : Type 0} → (S → LogicalType) → (S → Raw) → LogicalType → Raw → Bool → Result S ScalarError → Type 0
-GivesNested kind raw k r fit made = (IfOk made (λ s. (kind s ≡ k) × (raw s ≡ r))) × (OnOk made (IsTrue fit)) × (IfErr made (λ e. e ≢ Memory → (e ≡ Invalid) × (fit ≡ false)))
+abbrev pub GivesNested : {S : Type 0} → (S → LogicalType) → (S → Raw) → LogicalType → Raw → Bool →
+    Result S ScalarError → Type 0
+GivesNested kind raw k r fit made = (IfOk made (λ s. (kind s ≡ k) × (raw s ≡ r))) ×
+    (OnOk made (IsTrue fit)) × (IfErr made (λ e. e ≢ Memory → (e ≡ Invalid) × (fit ≡ false)))

@@ -8,17 +8,21 @@ use Rattle.vortex_scalar_convert.specs.defaults.Zero.{zero_of, default_of, is_ze
 
 -- a zero is a value of its type, is not null, and passes the test for zeros
 abbrev pub ZerosAreZero : Type 0
-ZerosAreZero = (k : LogicalType) (r : Raw) → zero_of k ≡ Some r → (valid k r ≡ true) × (is_null (content_of r) ≡ false) × (is_zero_value k r ≡ true)
+ZerosAreZero = (k : LogicalType) (r : Raw) → zero_of k ≡ Some r → (valid k r ≡ true) ×
+    (is_null (content_of r) ≡ false) × (is_zero_value k r ≡ true)
 
 -- of a type without Variant anywhere, only the zero passes the test
 abbrev pub OnlyZerosAreZero : Type 0
-OnlyZerosAreZero = (k : LogicalType) (r : Raw) → has_variant k ≡ false → valid k r ≡ true → is_zero_value k r ≡ true → zero_of k ≡ Some r
+OnlyZerosAreZero = (k : LogicalType) (r : Raw) → has_variant k ≡ false → valid k r ≡ true →
+    is_zero_value k r ≡ true → zero_of k ≡ Some r
 
 -- a default is a value of its type, and null exactly where the type has null
 abbrev pub DefaultsAreValues : Type 0
-DefaultsAreValues = (k : LogicalType) (r : Raw) → default_of k ≡ Some r → (valid k r ≡ true) × (is_null (content_of r) ≡ is_nullable (nullability_of k))
+DefaultsAreValues = (k : LogicalType) (r : Raw) → default_of k ≡ Some r → (valid k r ≡ true) ×
+    (is_null (content_of r) ≡ is_nullable (nullability_of k))
 
--- neither the type nor a part of it is one whose values can't be zero: of null alone, floats, decimals, variants, and unions without choices
+-- neither the type nor a part of it is one whose values can't be zero: of null alone, floats,
+-- decimals, variants, and unions without choices
 abbrev mutual
   pub can_be_zero : LogicalType → Bool
   can_be_zero null_only = false
@@ -45,4 +49,5 @@ abbrev mutual
 
 -- such a type has a zero and a default
 abbrev pub ZerosExist : Type 0
-ZerosExist = (k : LogicalType) → can_be_zero k ≡ true → (is_some (zero_of k) ≡ true) × (is_some (default_of k) ≡ true)
+ZerosExist = (k : LogicalType) → can_be_zero k ≡ true → (is_some (zero_of k) ≡ true) ×
+    (is_some (default_of k) ≡ true)

@@ -14,7 +14,8 @@ abbrev pub times : ℕ → Option Raw → Option Raws
 times zero r = Some no_raws
 times (suc m) r = before r (times m r)
 
--- False, 0 and what is empty; of a list of one length, of a record and of a union the zeros of their parts. The other types have none.
+-- False, 0 and what is empty; of a list of one length, of a record and of a union the zeros of
+-- their parts. The other types have none.
 abbrev mutual
   pub zero_of : LogicalType → Option Raw
   zero_of (boolean_type n) = Some (raw_boolean false)
@@ -47,7 +48,8 @@ abbrev pub is_empty : List ℕ → Bool
 is_empty [] = true
 is_empty (b ∷ bs) = false
 
--- The value is the zero of the type, which is no extension. A variant's is where it bears the zero of its own type.
+-- The value is the zero of the type, which is no extension. A variant's is where it bears the zero
+-- of its own type.
 abbrev mutual
   pub is_zero_in : LogicalType → Raw → Bool
   is_zero_in k raw_null = false

@@ -37,7 +37,8 @@ DoCompare cs = AllCompare (non_null cs)
 -- the least and the greatest of values that compare, and how many are null
 pub record IsMinMaxOf (e : MinMax) (cs : List Content) : Type 0 where
   pub least : DoCompare cs → option_map borrowed_content e.least ≡ least_value (non_null cs)
-  pub greatest : DoCompare cs → option_map borrowed_content e.greatest ≡ greatest_value (non_null cs)
+  pub greatest : DoCompare cs → option_map borrowed_content e.greatest ≡
+      greatest_value (non_null cs)
   pub nulls : e.null_count ≡ null_count_of cs
 
 -- what a bound says
@@ -62,7 +63,8 @@ abbrev pub high_at : ℕ → Option Content → Precision Content
 high_at L None = absent
 high_at L (Some v) = high_by L v (high L v)
 
--- the bounds, the sum and the constancy are those of the zone map of values that compare, at this bound length
+-- the bounds, the sum and the constancy are those of the zone map of values that compare, at this
+-- bound length
 pub record IsBoundsOf (L : ℕ) (b : ColumnBounds) (cs : List Content) : Type 0 where
   pub low : DoCompare cs → bound_in b.low ≡ low_of_values L cs
   pub high : DoCompare cs → bound_in b.high ≡ high_of_values L cs

@@ -25,7 +25,8 @@ int_kind_text i32 = codes "i32"
 int_kind_text i64 = codes "i64"
 
 abbrev pub plain_text : List ℕ → Nullability → List ℕ
-plain_text name n = codes "{\"kind\":\"" ++ name ++ codes "\",\"nullable\":" ++ flag_text (is_nullable n) ++ codes "}"
+plain_text name n = codes "{\"kind\":\"" ++ name ++ codes "\",\"nullable\":" ++
+    flag_text (is_nullable n) ++ codes "}"
 
 abbrev pub names_text : Bool → Fields → List ℕ
 names_text later no_fields = []
@@ -34,16 +35,19 @@ names_text later (field x k fs) = comma later ++ quoted x ++ names_text true fs
 -- what stands behind the children of a record
 abbrev pub struct_end_text : Fields → Nullability → List ℕ
 struct_end_text fs n =
-    codes "],\"kind\":\"struct\",\"names\":[" ++ names_text false fs ++ codes "],\"nullable\":" ++ flag_text (is_nullable n) ++ codes "}"
+    codes "],\"kind\":\"struct\",\"names\":[" ++ names_text false fs ++ codes "],\"nullable\":" ++
+        flag_text (is_nullable n) ++ codes "}"
 
 -- behind the child of a list
 abbrev pub list_end_text : Nullability → List ℕ
-list_end_text n = codes "],\"kind\":\"list\",\"nullable\":" ++ flag_text (is_nullable n) ++ codes "}"
+list_end_text n =
+    codes "],\"kind\":\"list\",\"nullable\":" ++ flag_text (is_nullable n) ++ codes "}"
 
 -- and of a list of so many elements
 abbrev pub fixed_list_end_text : ℕ → Nullability → List ℕ
 fixed_list_end_text m n =
-    codes "],\"kind\":\"fixed_size_list\",\"nullable\":" ++ flag_text (is_nullable n) ++ codes ",\"size\":" ++ decimal m ++ codes "}"
+    codes "],\"kind\":\"fixed_size_list\",\"nullable\":" ++ flag_text (is_nullable n) ++
+        codes ",\"size\":" ++ decimal m ++ codes "}"
 
 -- A type as a table can hold it.
 abbrev mutual
@@ -53,11 +57,14 @@ abbrev mutual
   type_text (utf8 n) = plain_text (codes "utf8") n
   type_text (binary n) = plain_text (codes "binary") n
   type_text (list k n) =
-      codes "{\"children\":[" ++ type_text k ++ codes "],\"kind\":\"list\",\"nullable\":" ++ flag_text (is_nullable n) ++ codes "}"
+      codes "{\"children\":[" ++ type_text k ++ codes "],\"kind\":\"list\",\"nullable\":" ++
+          flag_text (is_nullable n) ++ codes "}"
   type_text (fixed_list k m n) =
-      codes "{\"children\":[" ++ type_text k ++ codes "],\"kind\":\"fixed_size_list\",\"nullable\":" ++ flag_text (is_nullable n)
+      codes "{\"children\":[" ++ type_text k ++
+          codes "],\"kind\":\"fixed_size_list\",\"nullable\":" ++ flag_text (is_nullable n)
       ++ codes ",\"size\":" ++ decimal m ++ codes "}"
-  type_text (struct fs n) = codes "{\"children\":[" ++ children_text false fs ++ struct_end_text fs n
+  type_text (struct fs n) =
+      codes "{\"children\":[" ++ children_text false fs ++ struct_end_text fs n
   type_text k = []
 
   pub children_text : Bool → Fields → List ℕ
