@@ -49,7 +49,7 @@ EqualRowsRebuildEqually =
     (e o s : Layout) (v : Valid) (r : Layout) (a b c : Layout) (w : Valid) (t : Layout)
     (h : IsLaidOut e o s v r) (k : IsLaidOut a b c w t) →
     rows_of (list_views e o s false v) ≡ rows_of (list_views a b c false w) →
-        (h.offsets ≡ k.offsets) × (h.sizes ≡ k.sizes) × (rows_of h.elements ≡ rows_of k.elements)
+    (h.offsets ≡ k.offsets) × (h.sizes ≡ k.sizes) × (rows_of h.elements ≡ rows_of k.elements)
 
 -- a trimmed list view has the same rows and the same type
 abbrev pub TrimmingKeepsRows : Type 0
@@ -70,7 +70,7 @@ abbrev pub ColumnsStepDown : Type 0
 ColumnsStepDown =
     (cs : Columns) (n : ℕ) (v : Valid) (x : List ℕ) (xs : Names) (k : ℕ) (b t r : Layout) →
     IsSound (records cs n v) → position_named (fields_of cs) x ≡ Some k → array_at cs k ≡ Some b →
-        IsColumn b xs t → IsMasked v t r → IsColumn (records cs n v) (x ∷ xs) r
+    IsColumn b xs t → IsMasked v t r → IsColumn (records cs n v) (x ∷ xs) r
 
 -- a content but null stands in the rows of a dictionary exactly where it stands at a value that a
 -- code names

@@ -18,10 +18,10 @@ TellsOf v n = Unit {0}
 
 -- as many names as fields, and n rows in each part
 pub record FitTogether (names : List (List ℕ)) (fields : List Layout) (n : ℕ) (v : Valid) : Type 0
-    where
-  pub named : length names ≡ length fields
-  pub rows : All (λ a. len_of a ≡ n) fields
-  pub validity : TellsOf v n
+  where
+    pub named : length names ≡ length fields
+    pub rows : All (λ a. len_of a ≡ n) fields
+    pub validity : TellsOf v n
 
 -- the type of the validity is told before any length
 abbrev pub IsRecordsFault : ArrayError → List (List ℕ) → List Layout → ℕ → Valid → Type 0

@@ -10,17 +10,17 @@ use Rattle.vortex_arrays_view.specs.Lengths.{counts_of, AddUp}
 -- A view of the value beside these buffers, behind so many others. It is the value itself where
 -- that is short.
 pub record IsViewOf (value : List ℕ) (first : ℕ) (buffers : List (List ℕ)) (view : List ℕ) : Type 0
-    where
-  pub short : length value ≤ 12 → view ≡ short_view value
-  pub reads : (others : List (List ℕ)) → length others ≡ first → HasValue view (others ++ buffers) ×
-      (value_of view (others ++ buffers) ≡ value)
+  where
+    pub short : length value ≤ 12 → view ≡ short_view value
+    pub reads : (others : List (List ℕ)) → length others ≡ first → HasValue view (others ++ buffers) ×
+        (value_of view (others ++ buffers) ≡ value)
 
 -- a view for each of the values
 pub record AreViews (bytes lengths : List ℕ) (first : ℕ) (buffers views : List (List ℕ)) : Type 0
-    where
-  pub count : length views ≡ length lengths
-  pub each : (i : ℕ) → i < length lengths →
-      IsViewOf (value_in bytes lengths i) first buffers (slice_index_or views i [])
+  where
+    pub count : length views ≡ length lengths
+    pub each : (i : ℕ) → i < length lengths →
+        IsViewOf (value_in bytes lengths i) first buffers (slice_index_or views i [])
 
 -- The bytes in the fewest buffers, whose indices from the first on are numbers of 32 bits, and
 -- views of the values.

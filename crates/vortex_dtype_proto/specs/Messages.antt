@@ -101,8 +101,8 @@ row s (records names) flag ks =
     length ks) (struct (fields_from (zip names ks)) (nullability_flagged flag))
 row s (unions names tags) flag ks =
     read_if (are_tags tags &&
-        is_union_shape (length names) (length ks) tags)
-        (union (variants_from (zip names (zip tags ks))) (nullability_flagged flag))
+    is_union_shape (length names) (length ks) tags)
+    (union (variants_from (zip names (zip tags ks))) (nullability_flagged flag))
 row s (extended id metadata) flag ks =
     one_child ks (λ k. if is_flag_of flag k then admitted_as id k (admit s id metadata k)
     else malformed)

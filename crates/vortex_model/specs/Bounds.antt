@@ -151,8 +151,10 @@ next_character c =
 -- the latest character that can be raised is raised, and what follows it is dropped
 abbrev pub raise_characters : List ℕ → Option (List ℕ)
 raise_characters [] = None
-raise_characters (c ∷ cs) = elim (raise_characters cs) [ Some ds ↦ Some (c ∷ ds)
-    | None ↦ option_map (λ d. d ∷ []) (next_character c) ]
+raise_characters (c ∷ cs) = elim (raise_characters cs) [
+  | Some ds ↦ Some (c ∷ ds)
+  | None ↦ option_map (λ d. d ∷ []) (next_character c)
+]
 
 -- the same of a text in UTF-8
 abbrev pub raise : List ℕ → Option (List ℕ)
@@ -161,8 +163,10 @@ raise p = option_map encode_utf8_all (raise_characters (chars p))
 -- one more, as one number, with a carry
 abbrev pub count_up : List ℕ → Option (List ℕ)
 count_up [] = None
-count_up (b ∷ bs) = elim (count_up bs) [ Some ds ↦ Some (b ∷ ds)
-    | None ↦ (if nat_lt b 255 then Some (suc b ∷ replicate (length bs) 0) else None) ]
+count_up (b ∷ bs) = elim (count_up bs) [
+  | Some ds ↦ Some (b ∷ ds)
+  | None ↦ (if nat_lt b 255 then Some (suc b ∷ replicate (length bs) 0) else None)
+]
 
 -- the high of a value at length L, where there is one
 abbrev pub high : ℕ → Content → Option Content

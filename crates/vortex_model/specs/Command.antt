@@ -65,14 +65,14 @@ abbrev pub entry_fault : ℕ → LogicalType → List Positions → List Step �
 entry_fault i k earlier path =
     or_else (path_fault i k path) (or_else (leaf_fault k path)
     (if list_any (eq_positions (positions_of k path)) earlier then Some (repeated_path i)
-        else None))
+    else None))
 
 -- the first fault of a list of bound lengths, which begins at index i
 abbrev pub entries_fault : ℕ → LogicalType → List Positions → List (List Step × ℕ) → Option Refusal
 entries_fault i k earlier [] = None
 entries_fault i k earlier (entry ∷ entries) =
     or_else (entry_fault i k earlier entry.0) (entries_fault (suc i) k (positions_of k entry.0 ∷
-        earlier) entries)
+    earlier) entries)
 
 -- the type is judged before the bound lengths
 abbrev pub create_fault : LogicalType → List (List Step × ℕ) → Option Refusal
@@ -80,8 +80,13 @@ create_fault k entries = or_else (type_fault_so_far k) (entries_fault 0 k [] ent
 
 -- a table without chunks
 abbrev pub created : LogicalType → ℕ → List (List Step × ℕ) → Table
-created k default entries = record { kind = k; default = default;
-    lengths = map (λ entry. (positions_of k entry.0, entry.1)) entries; chunks = []; groups = [] }
+created k default entries = record {
+  kind = k;
+  default = default;
+  lengths = map (λ entry. (positions_of k entry.0, entry.1)) entries;
+  chunks = [];
+  groups = [];
+}
 
 -- ---- append, retype
 
@@ -162,16 +167,16 @@ expression_fault k (literal l c) = unless (is_leaf l) unsupported_predicate
 expression_fault k (column xs) = column_fault (type_of_column k xs)
 expression_fault k (compare op x y) =
     or_else (expression_fault k x)
-        (or_else (expression_fault k y)
-        (unless (eq_optional_type (expression_type k x) (expression_type k y)) unequal_types))
+    (or_else (expression_fault k y)
+    (unless (eq_optional_type (expression_type k x) (expression_type k y)) unequal_types))
 expression_fault k (both x y) =
     or_else (expression_fault k x)
-        (or_else (expression_fault k y) (unless (is_boolean (expression_type k x) &&
-        is_boolean (expression_type k y)) not_boolean))
+    (or_else (expression_fault k y) (unless (is_boolean (expression_type k x) &&
+    is_boolean (expression_type k y)) not_boolean))
 expression_fault k (either x y) =
     or_else (expression_fault k x)
-        (or_else (expression_fault k y) (unless (is_boolean (expression_type k x) &&
-        is_boolean (expression_type k y)) not_boolean))
+    (or_else (expression_fault k y) (unless (is_boolean (expression_type k x) &&
+    is_boolean (expression_type k y)) not_boolean))
 expression_fault k (negation x) =
     or_else (expression_fault k x) (unless (is_boolean (expression_type k x)) not_boolean)
 expression_fault k (is_null x) = expression_fault k x
@@ -180,11 +185,11 @@ expression_fault k (is_nan x) = or_else (expression_fault k x) (Some unsupported
 expression_fault k (between x lo hi lower_strict upper_strict) =
     or_else (expression_fault k x) (or_else (expression_fault k lo) (or_else (expression_fault k hi)
     (unless (eq_optional_type (expression_type k x) (expression_type k lo) &&
-        eq_optional_type (expression_type k x) (expression_type k hi)) unequal_types)))
+    eq_optional_type (expression_type k x) (expression_type k hi)) unequal_types)))
 expression_fault k (like x form negated ignores_case) =
     or_else (expression_fault k x) (or_else (expression_fault k form) (or_else
     (unless (is_utf8_type (expression_type k x) &&
-        is_utf8_type (expression_type k form)) unequal_types)
+    is_utf8_type (expression_type k form)) unequal_types)
     (unless (is_supported_like form ignores_case) unsupported_like)))
 expression_fault k row_count = Some unsupported_predicate
 expression_fault k (statistic x a) = or_else (expression_fault k x) (Some placeholder)
@@ -204,7 +209,7 @@ scan_fault t paths e = or_else (paths_fault 0 t.kind paths) (predicate_fault t.k
 abbrev pub describe_fault : Table → List Step → ℕ → Option Refusal
 describe_fault t path i =
     or_else (path_fault 0 t.kind path)
-        (or_else (leaf_fault t.kind path) (unless (nat_lt i (length t.groups)) no_such_group))
+    (or_else (leaf_fault t.kind path) (unless (nat_lt i (length t.groups)) no_such_group))
 
 -- ---- all commands
 

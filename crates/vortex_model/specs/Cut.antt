@@ -23,8 +23,8 @@ abbrev mutual
   cut_fields paths here no_fields = no_fields
   cut_fields paths here (field x k fs) =
       if is_kept paths (here ++ x ∷ [])
-          then field x (cut_kind paths (here ++ x ∷ []) k) (cut_fields paths here fs)
-          else cut_fields paths here fs
+      then field x (cut_kind paths (here ++ x ∷ []) k) (cut_fields paths here fs)
+      else cut_fields paths here fs
 
 -- the same of a row, where null stays null
 abbrev mutual
@@ -35,8 +35,8 @@ abbrev mutual
   pub cut_contents : List Names → Names → Fields → Contents → Contents
   cut_contents paths here (field x k fs) (first c cs) =
       if is_kept paths (here ++ x ∷ [])
-          then first (cut_content paths (here ++ x ∷ []) k c) (cut_contents paths here fs cs)
-          else cut_contents paths here fs cs
+      then first (cut_content paths (here ++ x ∷ []) k c) (cut_contents paths here fs cs)
+      else cut_contents paths here fs cs
   cut_contents paths here fs cs = nothing
 
 -- the type of an answer's rows

@@ -120,7 +120,7 @@ KeptTypesCanBeHeld = (k : LogicalType) → type_fault_so_far k ≡ None → type
 abbrev pub BuiltInProofsReadNoColumns : Type 0
 BuiltInProofsReadNoColumns = (k : LogicalType) (e : Expression) →
     IfSome (falsifier k e) (λ proof. reads_columns proof ≡ false) ×
-        IfSome (satisfier k e) (λ proof. reads_columns proof ≡ false)
+    IfSome (satisfier k e) (λ proof. reads_columns proof ≡ false)
 
 -- The shape of a pattern is an exact text where its signs are that text's letters, and a beginning
 -- where a wildcard stands behind them.
@@ -128,7 +128,7 @@ abbrev pub ShapesAreSpelled : Type 0
 ShapesAreSpelled = (form t : List ℕ) →
     ((shape_of form ≡ exact_text t) ↔ (signs_of form ≡ Some (map letter t)))
     × ((shape_of form ≡ beginning t) ↔
-        ((rest : List Sign) × (signs_of form ≡ Some (map letter t ++ wildcard ∷ rest))))
+    ((rest : List Sign) × (signs_of form ≡ Some (map letter t ++ wildcard ∷ rest))))
 
 -- the rows of an array that is handed in are of its type
 abbrev pub IsFormed : Command → Type 0

@@ -64,28 +64,28 @@ abbrev pub SkippedChunksHoldNone : Type 0
 SkippedChunksHoldNone = (t : Table) (e : Expression) (chunk : List Content) → IsAsked t e →
     AllByRecursion (IsContent t.kind) chunk →
     proves (chunk_zone t chunk) (length chunk) (falsifier t.kind e) ≡ true →
-        filter (selects t.kind e) chunk ≡ []
+    filter (selects t.kind e) chunk ≡ []
 
 -- nor has one whose box is hopeless, where the predicate is of the wide class
 abbrev pub HopelessChunksHoldNone : Type 0
 HopelessChunksHoldNone = (t : Table) (e : Expression) (chunk : List Content) →
     predicate_fault t.kind e ≡ None → is_wide e ≡ true →
     AllByRecursion (IsContent t.kind) chunk → Hopeless t.kind e (box_of (chunk_zone t chunk)) →
-        filter (selects t.kind e) chunk ≡ []
+    filter (selects t.kind e) chunk ≡ []
 
 -- one whose zone maps satisfy it has no other
 abbrev pub WholeChunksHoldAll : Type 0
 WholeChunksHoldAll = (t : Table) (e : Expression) (chunk : List Content) → IsAsked t e →
     AllByRecursion (IsContent t.kind) chunk →
     proves (chunk_zone t chunk) (length chunk) (satisfier t.kind e) ≡ true →
-        filter (selects t.kind e) chunk ≡ chunk
+    filter (selects t.kind e) chunk ≡ chunk
 
 -- so a scan that skips chunks, or takes them whole, finds the rows that one without zone maps does
 abbrev pub SkippingLosesNone : Type 0
 SkippingLosesNone = (t : Table) (e : Expression) → IsAsked t e →
     AllByRecursion (λ chunk. AllByRecursion (IsContent t.kind) chunk) t.chunks →
     filter (selects t.kind e) (rows_of t) ≡
-        flat_map (λ chunk. found_in (selects t.kind e) (chunk_outcome t e chunk) chunk) t.chunks
+    flat_map (λ chunk. found_in (selects t.kind e) (chunk_outcome t e chunk) chunk) t.chunks
 
 -- tables of one type with the same rows in order answer each scan with the same rows, whatever
 -- their chunks
@@ -98,4 +98,4 @@ ChunksDoNotShow = (t u : Table) (paths : List Names) (e : Expression) → t.kind
 abbrev pub AppendsAnswerBehind : Type 0
 AppendsAnswerBehind = (t : Table) (rows : List Content) (paths : List Names) (e : Expression) →
     answer (appended t rows) paths e ≡ answer t paths e ++
-        map (cut_row paths t.kind) (filter (selects t.kind e) rows)
+    map (cut_row paths t.kind) (filter (selects t.kind e) rows)

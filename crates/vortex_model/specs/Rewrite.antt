@@ -77,9 +77,9 @@ comparison_falsifiers k op l r =
     if not (is_comparable k l && is_comparable k r) then []
     else (if is_float_placeholder k l || is_float_placeholder k r
     then guarded no_nan_by_count (is_float_placeholder k l) (is_float_placeholder k r) l r
-        (comparison_falsifier op l r)
+    (comparison_falsifier op l r)
     ∷ guarded no_nan_by_flag (is_float_placeholder k l) (is_float_placeholder k r) l r
-        (comparison_falsifier op l r) ∷ []
+    (comparison_falsifier op l r) ∷ []
     else comparison_falsifier op l r ∷ [])
 
 -- ---- LIKE
@@ -208,7 +208,7 @@ falsifier k (both x y) = either_there (falsifier k x) (falsifier k y)
 falsifier k (either x y) = both_there (falsifier k x) (falsifier k y)
 falsifier k (between x lo hi lower_strict upper_strict) =
     either_there (joined_proofs (falsifiers k (compare (end_of lower_strict) lo x)))
-        (joined_proofs (falsifiers k (compare (end_of upper_strict) x hi)))
+    (joined_proofs (falsifiers k (compare (end_of upper_strict) x hi)))
 falsifier k e = joined_proofs (falsifiers k e)
 
 -- the proofs that the built-in rules give that every row does

@@ -69,8 +69,11 @@ known zones rows e a = null
 abbrev pub proves : (Names → Option ZoneMap) → ℕ → Option Expression → Bool
 proves zones rows None = false
 proves zones rows (Some proof) =
-    is_true (evaluate (record { columns = λ xs. null; placeholders = known zones rows;
-    rows = rows }) proof)
+    is_true (evaluate (record {
+      columns = λ xs. null;
+      placeholders = known zones rows;
+      rows = rows;
+    }) proof)
 
 -- ---- chunks
 
@@ -157,7 +160,7 @@ one_if b = if b then 1 else 0
 abbrev pub proofs_for : Table → Expression → List Outcome → ℕ
 proofs_for t e os =
     one_if (is_some (falsifier t.kind e)) *
-        (count_by (nat_lt 1) t.groups + count_by (λ o. not (is_in_group o)) os)
+    (count_by (nat_lt 1) t.groups + count_by (λ o. not (is_in_group o)) os)
     + one_if (is_some (satisfier t.kind e)) * count_by (λ o. not (is_skipped o)) os
 
 -- how many proofs were tried

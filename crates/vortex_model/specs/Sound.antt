@@ -16,7 +16,7 @@ Placeholders = Expression → Aggregate → Content
 abbrev pub AreHonest : LogicalType → List Content → Placeholders → Type 0
 AreHonest k rows given = (x : Expression) (a : Aggregate) →
     (given x a ≡ null) ⊎ ((s : Statistics) × IsHonest s (map (value_at k x) rows) ×
-        (given x a ≡ placeholder_value a s (length rows)))
+    (given x a ≡ placeholder_value a s (length rows)))
 
 -- what a proof reads: placeholders, and null for a column
 abbrev pub of_proof : Placeholders → List Content → Given

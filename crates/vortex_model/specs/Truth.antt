@@ -49,7 +49,7 @@ end_of strict = if strict then less else at_most
 abbrev pub liked : Content → Content → Bool → Content
 liked (text value) (text form) negated =
     if has_backslash form then null
-        else (if negated then boolean (not (is_like form value)) else boolean (is_like form value))
+    else (if negated then boolean (not (is_like form value)) else boolean (is_like form value))
 liked c d negated = null
 
 -- what the columns are, what placeholders stand for, and how many rows there are
@@ -72,7 +72,7 @@ evaluate g (is_not_null x) = boolean (not (is_null_content (evaluate g x)))
 evaluate g (is_nan x) = null
 evaluate g (between x lo hi lower_strict upper_strict) =
     kleene_and (compared (end_of lower_strict) (evaluate g lo) (evaluate g x))
-        (compared (end_of upper_strict) (evaluate g x) (evaluate g hi))
+    (compared (end_of upper_strict) (evaluate g x) (evaluate g hi))
 evaluate g (like x form negated true) = null
 evaluate g (like x form negated false) = liked (evaluate g x) (evaluate g form) negated
 evaluate g row_count = integer (pos g.rows)
@@ -121,7 +121,7 @@ has_truth k (is_not_null x) = has_truth k x
 has_truth k (is_nan x) = false
 has_truth k (between x lo hi lower_strict upper_strict) =
     not (is_of_floats k x || is_of_floats k lo || is_of_floats k hi) &&
-        (has_truth k x && (has_truth k lo && has_truth k hi))
+    (has_truth k x && (has_truth k lo && has_truth k hi))
 has_truth k (like x form negated ignores_case) =
     not ignores_case && is_free_of_backslash form && (has_truth k x && has_truth k form)
 has_truth k row_count = true

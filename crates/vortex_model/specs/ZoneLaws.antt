@@ -24,7 +24,7 @@ abbrev pub GroupBoundsAreHonest : Type 0
 GroupBoundsAreHonest = (k : LogicalType) (L : ℕ) (chunks : List (List Content)) → is_leaf k ≡ true →
     AllByRecursion (λ chunk. AllByRecursion (IsContent k) chunk) chunks →
     IsHonest (statistics_of (group_bounds (map (zone_of k L) chunks)))
-        (flat_map (λ chunk. chunk) chunks)
+    (flat_map (λ chunk. chunk) chunks)
 
 -- what the table tells of the leaf columns of a chunk is honest, and so it is of the chunks of a
 -- group
@@ -37,14 +37,14 @@ abbrev pub GroupBindersAreHonest : Type 0
 GroupBindersAreHonest = (t : Table) (chunks : List (List Content)) →
     AllByRecursion (λ chunk. AllByRecursion (IsContent t.kind) chunk) chunks →
     AreHonest t.kind (flat_map (λ chunk. chunk) chunks)
-        (known (group_zone t chunks) (sum (map length chunks)))
+    (known (group_zone t chunks) (sum (map length chunks)))
 
 -- what a scan takes of the chunks by their outcomes, groups looked at first, are the rows that the
 -- predicate selects
 abbrev pub SkippingGroupsLosesNone : Type 0
 SkippingGroupsLosesNone = (t : Table) (e : Expression) → IsAsked t e → IsTable t →
     filter (selects t.kind e) (rows_of t) ≡
-        flat_map (λ pair. found_in (selects t.kind e) pair.0 pair.1) (zip (outcomes t e) t.chunks)
+    flat_map (λ pair. found_in (selects t.kind e) pair.0 pair.1) (zip (outcomes t e) t.chunks)
 
 -- any two of the values compare
 abbrev pub AllCompare : List Content → Type 0
@@ -62,7 +62,7 @@ pub record HasBoundsOf (zones : List ZoneMap) (z : ZoneMap) : Type 0 where
 abbrev pub JoinsGiveTheBounds : Type 0
 JoinsGiveTheBounds = (k : LogicalType) (joins : Joins) →
     AllCompare (filter_map value_in (map (λ z. z.low) (all_joined joins))) →
-        AllCompare (filter_map value_in (map (λ z. z.high) (all_joined joins))) →
+    AllCompare (filter_map value_in (map (λ z. z.high) (all_joined joins))) →
     HasBoundsOf (all_joined joins) (made_by k joins)
 
 -- so do joins of the zone maps of a leaf column of chunks
@@ -71,7 +71,7 @@ JoinsOfAColumnGiveTheBounds =
     (k : LogicalType) (L : ℕ) (chunks : List (List Content)) (joins : Joins) → is_leaf k ≡ true →
     AllByRecursion (λ chunk. AllByRecursion (IsContent k) chunk) chunks →
     all_joined joins ≡ map (zone_of k L) chunks →
-        HasBoundsOf (map (zone_of k L) chunks) (made_by k joins)
+    HasBoundsOf (map (zone_of k L) chunks) (made_by k joins)
 
 -- and so does the zone map of a group whose chunks are joined from the left
 abbrev pub GroupsJoinedFromTheLeftHaveTheBounds : Type 0
@@ -79,5 +79,5 @@ GroupsJoinedFromTheLeftHaveTheBounds =
     (k : LogicalType) (L : ℕ) (chunk : List Content) (chunks : List (List Content)) →
     is_leaf k ≡ true →
     AllByRecursion (λ cs. AllByRecursion (IsContent k) cs) (chunk ∷ chunks) →
-        HasBoundsOf (map (zone_of k L) (chunk ∷ chunks))
-        (zone_of_group k (map (zone_of k L) (chunk ∷ chunks)))
+    HasBoundsOf (map (zone_of k L) (chunk ∷ chunks))
+    (zone_of_group k (map (zone_of k L) (chunk ∷ chunks)))

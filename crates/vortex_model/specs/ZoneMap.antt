@@ -33,8 +33,10 @@ low_of_values L cs =
     elim (least_value (non_null cs)) [ None ↦ absent | Some v ↦ bound_of (is_longer L v) (low L v) ]
 
 abbrev pub high_of_values : ℕ → List Content → Precision Content
-high_of_values L cs = elim (greatest_value (non_null cs)) [ None ↦ absent
-    | Some v ↦ (elim (high L v) [ None ↦ absent | Some h ↦ bound_of (is_longer L v) h ]) ]
+high_of_values L cs = elim (greatest_value (non_null cs)) [
+  | None ↦ absent
+  | Some v ↦ (elim (high L v) [ None ↦ absent | Some h ↦ bound_of (is_longer L v) h ])
+]
 
 -- the sum, where its type holds it
 abbrev pub sum_in : Option IntKind → ℤ → Precision ℤ
@@ -76,8 +78,10 @@ is_exactly v absent = false
 abbrev pub bound_among : (List Content → Option Content) → List (Precision Content) →
     Precision Content
 bound_among pick bounds = if list_any is_absent bounds then absent
-    else (elim (pick (filter_map value_in bounds)) [ None ↦ absent
-        | Some v ↦ bound_of (not (list_any (is_exactly v) bounds)) v ])
+    else (elim (pick (filter_map value_in bounds)) [
+      | None ↦ absent
+      | Some v ↦ bound_of (not (list_any (is_exactly v) bounds)) v
+    ])
 
 -- the bounds and the counts of a group
 abbrev pub group_low : List ZoneMap → Precision Content

@@ -45,7 +45,7 @@ BoundFalsifiersAreSound =
     (k : LogicalType) (e proof : Expression) (rows : List Content) (left : Placeholders)
     (binder : Binder) → IsSoundFalsifier k e proof →
     AllByRecursion (IsContent k) rows → IsHonestBinder k rows left binder →
-        Proves left rows (bound binder proof) → AllByRecursion (λ row. ¬ (Satisfies k e row)) rows
+    Proves left rows (bound binder proof) → AllByRecursion (λ row. ¬ (Satisfies k e row)) rows
 
 -- and where the bound satisfier is, each does
 abbrev pub BoundSatisfiersAreSound : Type 0
@@ -53,4 +53,4 @@ BoundSatisfiersAreSound =
     (k : LogicalType) (e proof : Expression) (rows : List Content) (left : Placeholders)
     (binder : Binder) → IsSoundSatisfier k e proof →
     AllByRecursion (IsContent k) rows → IsHonestBinder k rows left binder →
-        Proves left rows (bound binder proof) → AllByRecursion (λ row. Satisfies k e row) rows
+    Proves left rows (bound binder proof) → AllByRecursion (λ row. Satisfies k e row) rows

@@ -44,4 +44,4 @@ abbrev pub RetypingCarriesBounds : Type 0
 RetypingCarriesBounds = (t : Table) (k : LogicalType) (chunk : List Content) (xs ys : Names)
     (y z : ZoneMap) → positions t.kind xs ≡ positions k ys →
     chunk_zone t chunk xs ≡ Some y → chunk_zone (after t (retype k)) chunk ys ≡ Some z →
-        TellTheSame y z
+    TellTheSame y z

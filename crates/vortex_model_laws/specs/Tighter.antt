@@ -46,7 +46,7 @@ abbrev pub ProofsStayTrue : Type 0
 ProofsStayTrue = (k : LogicalType) (e : Expression) (n m : ℕ) (wide narrow : Names →
     Option ZoneMap) → ((xs : Names) → TellsMore n m (wide xs) (narrow xs)) → (n ≡ m) ⊎ (1 < n) →
     (proves wide n (falsifier k e) ≡ true → proves narrow m (falsifier k e) ≡ true) ×
-        (proves wide n (satisfier k e) ≡ true → proves narrow m (satisfier k e) ≡ true)
+    (proves wide n (satisfier k e) ≡ true → proves narrow m (satisfier k e) ≡ true)
 
 -- The chunks that a scan skips, takes whole and tests are those that it would skip, take whole and
 -- test if it looked at each alone, also where bounds are missing.

@@ -32,9 +32,9 @@ pub eq_scalars_hash_alike : (s t : Scalar) → IsTrue (eq_scalar s t) →
     scalar_writes s ≡ scalar_writes t
 eq_scalars_hash_alike s t h =
     let kinds = first_so (equal_ignoring_nullability (scalar_type s) (scalar_type t))
-        (eq_content (scalar_content s) (scalar_content t)) h in
+    (eq_content (scalar_content s) (scalar_content t)) h in
     let contents = second_so (equal_ignoring_nullability (scalar_type s) (scalar_type t))
-        (eq_content (scalar_content s) (scalar_content t)) h in
+    (eq_content (scalar_content s) (scalar_content t)) h in
     λ i. hash_alike (scalar_type s) (scalar_type t)
-        (kind_so (bare (scalar_type s)) (bare (scalar_type t)) kinds) i ++
-        eq_fed (scalar_content s) (scalar_content t) contents i
+    (kind_so (bare (scalar_type s)) (bare (scalar_type t)) kinds) i ++
+    eq_fed (scalar_content s) (scalar_content t) contents i

@@ -105,13 +105,13 @@ either_way false o = refl
 pub numbers_po : IsPartialOrder eq_numbers numbers_cmp
 numbers_po =
     let types : IsPartialOrder (on numbers_type equal_ignoring_nullability)
-        (on numbers_type (λ k l. if equal_ignoring_nullability k l then Some Equal else None)) =
-        on_po numbers_type (tied_po kinds_equiv) in
+    (on numbers_type (λ k l. if equal_ignoring_nullability k l then Some Equal else None)) =
+    on_po numbers_type (tied_po kinds_equiv) in
     let integers : IsPartialOrder (option_eq int_eq) (as_partial_cmp (option_cmp int_cmp)) =
-        po (options_total int_cmp_total) (options_ties int_cmp (λ x y. refl)) in
+    po (options_total int_cmp_total) (options_ties int_cmp (λ x y. refl)) in
     subst (IsPartialOrder eq_numbers)
-        (λ i v w. either_way (equal_ignoring_nullability (numbers_type v) (numbers_type w))
-        (option_cmp int_cmp (number_of_view v) (number_of_view w)) i)
+    (λ i v w. either_way (equal_ignoring_nullability (numbers_type v) (numbers_type w))
+    (option_cmp int_cmp (number_of_view v) (number_of_view w)) i)
     (then_po types (on_po number_of_view integers))
 
 -- ---- hashing

@@ -31,7 +31,7 @@ bound_value (null_test x) row = boolean (is_null_content (bound_value x row))
 bound_value (value_test x) row = boolean (not (is_null_content (bound_value x row)))
 bound_value (range_test x lo hi lower_strict upper_strict) row =
     kleene_and (compared (end_of lower_strict) (bound_value lo row) (bound_value x row))
-        (compared (end_of upper_strict) (bound_value x row) (bound_value hi row))
+    (compared (end_of upper_strict) (bound_value x row) (bound_value hi row))
 bound_value (match_test x form negated) row =
     liked (bound_value x row) (bound_value form row) negated
 

@@ -44,10 +44,10 @@ code_inj (null_test a) (null_test b) p = ap null_test (code_inj a b (ap tail p))
 code_inj (value_test a) (value_test b) p = ap value_test (code_inj a b (ap tail p))
 code_inj (range_test x l h s t) (range_test x' l' h' s' t') p =
     λ i. range_test (code_inj x x' (ap (λ g. head (tail g)) p) i)
-        (code_inj l l' (ap (λ g. head (tail (tail g))) p) i)
-        (code_inj h h' (ap (λ g. head (tail (tail (tail g)))) p) i)
+    (code_inj l l' (ap (λ g. head (tail (tail g))) p) i)
+    (code_inj h h' (ap (λ g. head (tail (tail (tail g)))) p) i)
     (coded_bool.inj s s' (ap (λ g. head (tail (tail (tail (tail g))))) p) i)
-        (coded_bool.inj t t' (ap (λ g. tail (tail (tail (tail (tail g))))) p) i)
+    (coded_bool.inj t t' (ap (λ g. tail (tail (tail (tail (tail g))))) p) i)
 code_inj (match_test x f n) (match_test x' f' n') p =
     λ i. match_test (code_inj x x' (ap (λ g. head (tail g)) p) i)
     (code_inj f f' (ap (λ g. head (tail (tail g))) p) i)

@@ -94,15 +94,15 @@ code_inj (is_not_null a) (is_not_null b) p = ap is_not_null (code_inj a b (ap ta
 code_inj (is_nan a) (is_nan b) p = ap is_nan (code_inj a b (ap tail p))
 code_inj (between x l h s t) (between x' l' h' s' t') p =
     λ i. between (code_inj x x' (ap (λ g. head (tail g)) p) i)
-        (code_inj l l' (ap (λ g. head (tail (tail g))) p) i)
-        (code_inj h h' (ap (λ g. head (tail (tail (tail g)))) p) i)
+    (code_inj l l' (ap (λ g. head (tail (tail g))) p) i)
+    (code_inj h h' (ap (λ g. head (tail (tail (tail g)))) p) i)
     (coded_bool.inj s s' (ap (λ g. head (tail (tail (tail (tail g))))) p) i)
-        (coded_bool.inj t t' (ap (λ g. tail (tail (tail (tail (tail g))))) p) i)
+    (coded_bool.inj t t' (ap (λ g. tail (tail (tail (tail (tail g))))) p) i)
 code_inj (like x f n c) (like x' f' n' c') p =
     λ i. like (code_inj x x' (ap (λ g. head (tail g)) p) i)
-        (code_inj f f' (ap (λ g. head (tail (tail g))) p) i)
-        (coded_bool.inj n n' (ap (λ g. head (tail (tail (tail g)))) p) i)
-        (coded_bool.inj c c' (ap (λ g. tail (tail (tail (tail g)))) p) i)
+    (code_inj f f' (ap (λ g. head (tail (tail g))) p) i)
+    (coded_bool.inj n n' (ap (λ g. head (tail (tail (tail g)))) p) i)
+    (coded_bool.inj c c' (ap (λ g. tail (tail (tail (tail g)))) p) i)
 code_inj row_count row_count p = λ i. row_count
 code_inj (statistic x a) (statistic y b) p =
     λ i. statistic (code_inj x y (ap (λ g. head (tail g)) p) i)

@@ -49,6 +49,8 @@ pub AreBoundsOf-prop : (L : ℕ) (leaves : List Positions) (bounds : List Column
     (rows : List ScalarValue) → IsProp (AreBoundsOf L leaves bounds rows)
 AreBoundsOf-prop L [] [] rows = λ p q i. tt
 AreBoundsOf-prop L (is ∷ leaves) (b ∷ bounds) rows =
-    λ p q i. (IsBoundsOf-prop L b (column_at is rows) p.0 q.0 i,
-    AreBoundsOf-prop L leaves bounds rows p.1 q.1 i)
+    λ p q i. (
+      IsBoundsOf-prop L b (column_at is rows) p.0 q.0 i,
+      AreBoundsOf-prop L leaves bounds rows p.1 q.1 i,
+    )
 AreBoundsOf-prop L leaves bounds rows = λ p q. absurd p

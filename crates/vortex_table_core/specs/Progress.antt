@@ -46,5 +46,11 @@ with_chunks k paths e outcome i (chunk ∷ chunks) a =
 
 -- the answer before any chunk
 abbrev pub no_answer : LogicalType → List Names → ScanAnswer
-no_answer k paths = record { rows = []; kind = cut_type paths k; skipped = []; whole = [];
-    rows_tested = 0; proofs = 0 }
+no_answer k paths = record {
+  rows = [];
+  kind = cut_type paths k;
+  skipped = [];
+  whole = [];
+  rows_tested = 0;
+  proofs = 0;
+}

@@ -25,4 +25,4 @@ selected_rows predicate rows = filter (is_selected predicate) rows
 abbrev pub CanBeCut : RowProjection → List ScalarValue → Type 0
 CanBeCut cut rows = (i : ℕ) (d : ScalarValue) → i < length rows →
     IsTrue (valid (type_of cut.dtype)
-        (raw_cut (tree_of cut.projection) (raw_of (slice_index_or rows i d))))
+    (raw_cut (tree_of cut.projection) (raw_of (slice_index_or rows i d))))

@@ -19,5 +19,5 @@ eq_leaves xs ys = false
 abbrev pub is_formed : ℕ → LogicalType → Chunk → Bool
 is_formed L k c =
     nat_lt 0 (length c.rows.items) &&
-        (list_all (λ row. valid k (raw_of row)) c.rows.items &&
-        (eq_leaves c.leaves.value.items (leaf_positions k) && c.bound_length == L))
+    (list_all (λ row. valid k (raw_of row)) c.rows.items &&
+    (eq_leaves c.leaves.value.items (leaf_positions k) && c.bound_length == L))

@@ -74,7 +74,7 @@ plain_named name =
     else (if bytes_eq name (codes "binary") then Some byte_strings
     else (if bytes_eq name (codes "variant") then Some variants
     else (if bytes_eq name (codes "list") then Some lists
-        else option_map numbers (number_kind_named name))))))
+    else option_map numbers (number_kind_named name))))))
 
 abbrev pub one_if : Bool → ℕ
 one_if b = if b then 1 else 0
@@ -91,7 +91,7 @@ abbrev pub decimal_of : ℕ → Data → Option Form
 decimal_of size d =
     if size == common_keys d + 2
     then option_and_then (λ precision. option_map (λ scale. decimals precision scale)
-        (option_and_then integer_of (get (codes "scale") d)))
+    (option_and_then integer_of (get (codes "scale") d)))
     (option_and_then integer_of (get (codes "precision") d))
     else None
 
@@ -100,14 +100,14 @@ abbrev pub fixed_list_of : ℕ → Data → Option Form
 fixed_list_of size d =
     if size == common_keys d + 1
     then option_and_then (λ n. if nat_lt n (2 ^ 32) then Some (fixed_lists n)
-        else None) (option_and_then natural_of (get (codes "size") d))
+    else None) (option_and_then natural_of (get (codes "size") d))
     else None
 
 abbrev pub map_of : ℕ → Data → Option Form
 map_of size d =
     if size == common_keys d + 1
-        then option_map (λ sorted. maps sorted) (option_and_then as_bool (get (codes "sorted") d))
-        else None
+    then option_map (λ sorted. maps sorted) (option_and_then as_bool (get (codes "sorted") d))
+    else None
 
 -- the texts at `names`
 abbrev pub names_of : Data → Option (List (List ℕ))
@@ -124,14 +124,14 @@ tags_of d = option_and_then integers_of (option_and_then as_array (get (codes "t
 abbrev pub union_of : ℕ → Data → Option Form
 union_of size d =
     if size == common_keys d + 2
-        then option_and_then (λ names. option_map (λ tags. unions names tags) (tags_of d))
-        (names_of d) else None
+    then option_and_then (λ names. option_map (λ tags. unions names tags) (tags_of d))
+    (names_of d) else None
 
 abbrev pub extension_of : ℕ → Data → Option Form
 extension_of size d =
     if size == common_keys d + 1 + one_if (is_some (get (codes "metadata") d))
     then option_and_then (λ id. option_map (λ metadata. extended id metadata)
-        (metadata_in (get (codes "metadata") d)))
+    (metadata_in (get (codes "metadata") d)))
     (option_and_then as_str (get (codes "id") d))
     else None
 
@@ -144,7 +144,7 @@ form_named size d name =
     else (if bytes_eq name (codes "struct") then struct_of size d
     else (if bytes_eq name (codes "union") then union_of size d
     else (if bytes_eq name (codes "extension") then extension_of size d
-        else plain_of size d name)))))
+    else plain_of size d name)))))
 
 -- ---- trees and types
 
@@ -166,14 +166,14 @@ abbrev mutual
   tree_in (array ds) = None
   tree_in (object ms) =
       option_and_then (λ size. option_and_then (λ children. tree_with size (object ms) children)
-          (children_in ms)) (size_of (object ms))
+      (children_in ms)) (size_of (object ms))
 
   -- what the member `children` is, read item by item
   pub children_in : Members → Option (List Tree)
   children_in no_members = Some []
   children_in (member k d ms) =
       match_ordering (slice_cmp nat_cmp (codes "children") k) (children_in ms) (trees_in d)
-          (children_in ms)
+      (children_in ms)
 
   pub trees_in : Data → Option (List Tree)
   trees_in null = None

@@ -37,7 +37,7 @@ abbrev pub create_in : ℕ → Data → Option Command
 create_in size d =
     if size == 3
     then option_and_then (λ k. option_map (λ n. create k n [])
-        (option_and_then natural_of (get (codes "length") d)))
+    (option_and_then natural_of (get (codes "length") d)))
     (option_and_then type_in (get (codes "dtype") d))
     else None
 
@@ -57,7 +57,7 @@ abbrev pub scan_in : ℕ → Data → Option Command
 scan_in size d =
     if size == 3
     then option_and_then (λ paths. option_map (scan paths)
-        (option_and_then predicate_in (get (codes "where") d)))
+    (option_and_then predicate_in (get (codes "where") d)))
     (option_and_then paths_in (option_and_then as_array (get (codes "paths") d)))
     else None
 
@@ -81,7 +81,7 @@ command_with scans size d = scan_in size d
 abbrev pub command_in : Data → Option Command
 command_in d =
     option_and_then (λ size. option_and_then (λ verb. command_with verb size d)
-        (option_and_then verb_named (option_and_then as_str (get (codes "cmd") d)))) (size_of d)
+    (option_and_then verb_named (option_and_then as_str (get (codes "cmd") d)))) (size_of d)
 
 -- The command that a line is. A number that is no whole number of 64 bits makes the line bad
 -- wherever it stands.

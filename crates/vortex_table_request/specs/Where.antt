@@ -84,7 +84,7 @@ abbrev pub comparison_in : Comparison → ℕ → Data → Option Expression
 comparison_in c n d =
     if n == 3
     then option_and_then (λ x. option_map (λ y. compare c x y)
-        (option_and_then operand_in (at 2 d))) (option_and_then operand_in (at 1 d))
+    (option_and_then operand_in (at 2 d))) (option_and_then operand_in (at 1 d))
     else None
 
 -- a literal or a column as a predicate
@@ -103,4 +103,4 @@ predicate_by (Some c) op n d = comparison_in c n d
 abbrev pub predicate_in : Data → Option Expression
 predicate_in d =
     option_and_then (λ n. option_and_then (λ op. predicate_by (comparison_named op) op n d)
-        (option_and_then as_str (at 0 d))) (items_size d)
+    (option_and_then as_str (at 0 d))) (items_size d)

@@ -77,7 +77,7 @@ place_text (Some i) = codes "\"at\":" ++ decimal i ++ codes ","
 abbrev pub refusal_parts : Option ℕ → ℕ → List ℕ → List ℕ
 refusal_parts place number name =
     codes "{" ++ place_text place ++ codes "\"error\":" ++ decimal number ++ codes ",\"name\":\"" ++
-        name ++ codes "\"}"
+    name ++ codes "\"}"
 
 -- the answer to a line that is no command
 abbrev pub bad_line_text : List ℕ
@@ -90,13 +90,13 @@ refusal_text r = refusal_parts (place_of r) (number_of r) (name_of r)
 abbrev pub scan_front_text : ScanAnswer → List ℕ
 scan_front_text a =
     codes "{\"dtype\":" ++ type_text a.kind ++ codes ",\"ok\":true,\"proofs\":" ++
-        decimal a.proofs ++ codes ",\"rows\":["
+    decimal a.proofs ++ codes ",\"rows\":["
 
 -- what stands behind the rows
 abbrev pub scan_end_text : ScanAnswer → List ℕ
 scan_end_text a =
     codes "],\"rows_tested\":" ++ decimal a.rows_tested ++ codes ",\"skipped\":[" ++
-        numbers_text false a.skipped
+    numbers_text false a.skipped
     ++ codes "],\"whole\":[" ++ numbers_text false a.whole ++ codes "]}"
 
 abbrev pub scan_text : ScanAnswer → List ℕ

@@ -97,8 +97,8 @@ abbrev mutual
   kept_parts paths i no_fields = no_parts
   kept_parts paths i (field x k fs) =
       if is_not_root (strip_all x paths)
-          then part i (kept_by (strip_all x paths) k) (kept_parts paths (suc i) fs)
-          else kept_parts paths (suc i) fs
+      then part i (kept_by (strip_all x paths) k) (kept_parts paths (suc i) fs)
+      else kept_parts paths (suc i) fs
 
 -- the same of a list of fields: those that are kept, each cut
 abbrev pub cut_named : List Names → List NamedType → List NamedType

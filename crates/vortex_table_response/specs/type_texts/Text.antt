@@ -36,7 +36,7 @@ names_text later (field x k fs) = comma later ++ quoted x ++ names_text true fs
 abbrev pub struct_end_text : Fields → Nullability → List ℕ
 struct_end_text fs n =
     codes "],\"kind\":\"struct\",\"names\":[" ++ names_text false fs ++ codes "],\"nullable\":" ++
-        flag_text (is_nullable n) ++ codes "}"
+    flag_text (is_nullable n) ++ codes "}"
 
 -- behind the child of a list
 abbrev pub list_end_text : Nullability → List ℕ
@@ -47,7 +47,7 @@ list_end_text n =
 abbrev pub fixed_list_end_text : ℕ → Nullability → List ℕ
 fixed_list_end_text m n =
     codes "],\"kind\":\"fixed_size_list\",\"nullable\":" ++ flag_text (is_nullable n) ++
-        codes ",\"size\":" ++ decimal m ++ codes "}"
+    codes ",\"size\":" ++ decimal m ++ codes "}"
 
 -- A type as a table can hold it.
 abbrev mutual
@@ -58,10 +58,10 @@ abbrev mutual
   type_text (binary n) = plain_text (codes "binary") n
   type_text (list k n) =
       codes "{\"children\":[" ++ type_text k ++ codes "],\"kind\":\"list\",\"nullable\":" ++
-          flag_text (is_nullable n) ++ codes "}"
+      flag_text (is_nullable n) ++ codes "}"
   type_text (fixed_list k m n) =
       codes "{\"children\":[" ++ type_text k ++
-          codes "],\"kind\":\"fixed_size_list\",\"nullable\":" ++ flag_text (is_nullable n)
+      codes "],\"kind\":\"fixed_size_list\",\"nullable\":" ++ flag_text (is_nullable n)
       ++ codes ",\"size\":" ++ decimal m ++ codes "}"
   type_text (struct fs n) =
       codes "{\"children\":[" ++ children_text false fs ++ struct_end_text fs n
