@@ -1,0 +1,23 @@
+-- Which statistics a column of a type has.
+use Rattle.std.specs.Prelude.{List, Bool, true, false}
+use Rattle.std.specs.List.{list_all}
+use Rattle.std.specs.Option.{option_map_or}
+use Rattle.vortex_model.specs.LogicalType.{LogicalType}
+use Rattle.vortex_model.specs.Content.{Raw}
+use Rattle.vortex_model.specs.Valid.{valid}
+use Rattle.vortex_model.specs.Statistics.{Precision, exact, inexact, absent}
+use Rattle.vortex_stats_stat.specs.declared.stat.Stat.{Stat}
+use Rattle.vortex_stats_stat.specs.Stats.{stat_type}
+
+-- the statistic of a column of this type has a type, and the value is one of it
+abbrev pub is_value_of : LogicalType → Stat → Raw → Bool
+is_value_of k s r = option_map_or (λ l. valid l r) (stat_type s k) false
+
+-- the value is, if there is one
+abbrev pub is_known_of : LogicalType → Stat → Precision Raw → Bool
+is_known_of k s (exact r) = is_value_of k s r
+is_known_of k s (inexact r) = is_value_of k s r
+is_known_of k s absent = true
+
+abbrev pub are_valid_for : LogicalType → List (Stat × Precision Raw) → Bool
+are_valid_for k xs = list_all (λ e. is_known_of k e.0 e.1) xs
