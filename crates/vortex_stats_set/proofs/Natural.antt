@@ -1,5 +1,5 @@
 -- Unions and intersections of bounds, seen through a view of the values by which they compare.
-use Rattle.std.proofs.Common.{◌≡◌, refl, Bool, true, false, Option, Some, None, option_map, if◌then◌else◌}
+use Rattle.std.proofs.Common.{◌≡◌, refl, Option, Some, None, option_map, if◌then◌else◌}
 use Rattle.std.specs.declared.cmp.Ordering.{Ordering}
 use Rattle.std.specs.declared.cmp.Ordering.TheVariants.{Less, Equal, Greater}
 use Rattle.std.specs.Ordering.{is_eq, is_lt, is_gt}
