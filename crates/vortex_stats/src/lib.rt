@@ -21,6 +21,7 @@ pub use vortex_stats_expr::operator::Operator;
 pub use vortex_stats_rewrite::rewrite::{falsify, satisfy};
 pub use vortex_stats_rewrite::stats::{StatBinder, bind_stats, prove, prove_with};
 pub use vortex_stats_set::stats_set::{StatsSet, StatsSetIntoIter};
+pub use vortex_stats_set::typed::{MutTypedStatsSetRef, TypedStatsSetRef};
 pub use vortex_stats_stat::bitset::{
     PRUNING_STATS, as_stat_bitset_bytes, stats_from_bitset_bytes, written_statistics_are_read,
 };

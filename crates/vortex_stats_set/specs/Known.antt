@@ -1,5 +1,6 @@
 -- What a set of statistics knows of each, as raw values.
-use Rattle.std.specs.Prelude.{List, Option, Some, None}
+use Rattle.std.specs.Prelude.{List, map, Option, Some, None}
+use Rattle.std.specs.Borrow.{Bor}
 use Rattle.vortex_model.specs.Content.{Raw}
 use Rattle.vortex_model.specs.Statistics.{Precision, absent}
 use Rattle.vortex_scalar_value.specs.View.{raw_of}
@@ -21,3 +22,14 @@ or_absent (Some p) = raw_precision p
 -- what is known of the statistic
 abbrev pub known_in : List (Stat × known.Precision ScalarValue) → Stat → Precision Raw
 known_in xs s = or_absent (value_in xs s)
+
+-- the statistic with its raw value, and the list of them
+abbrev pub raw_pair : Stat × known.Precision ScalarValue → Stat × Precision Raw
+raw_pair e = (e.0, raw_precision e.1)
+
+abbrev pub raw_pairs : List (Stat × known.Precision ScalarValue) → List (Stat × Precision Raw)
+raw_pairs xs = map raw_pair xs
+
+-- the raw value that is behind a `&`, as precise
+abbrev pub raw_precision_at : known.Precision (Bor ScalarValue) → Precision Raw
+raw_precision_at p = precision_map (λ v. raw_of v.now) (precision_of p)

@@ -1,3 +1,6 @@
+pub mod Combine
 pub mod Known
+pub mod Merge
+pub mod Pairs
 pub mod Sets
 pub mod Valid

@@ -1,12 +1,13 @@
 //! What is known of a column: statistics, each with its value.
-ghost use Rattle.std.specs.Prelude.{◌≡◌, ◌++◌, [], ◌∷◌, List, IsTrue, IfOk, IfErr, OnOk, OnErr, IsOk, length, position, true, ◌↔◌};
+ghost use Rattle.std.specs.Prelude.{◌≡◌, ◌++◌, [], ◌∷◌, List, IsTrue, IfOk, IfErr, OnOk, OnErr, IsOk, length, position, true, ◌↔◌, option_map};
 ghost use Rattle.vortex_stats_stat.specs.declared.error.StatsError.TheVariants.{Memory};
 ghost use Rattle.vortex_stats_stat.specs.Stats.{number_of_stat};
 ghost use Rattle.vortex_stats_stat.specs.Bitsets.{has_number};
 ghost use Rattle.vortex_stats_set.specs.Sets.{is_of, has_stat, is_set, set_in, set_in_turn, without, only};
 ghost use Rattle.std.specs.Iterator.{YieldsFirst, item_count};
 ghost use Rattle.std.specs.Slice.Iter.{iter_rest};
-ghost use Rattle.vortex_stats_set.specs.Known.{raw_precision, known_in};
+ghost use Rattle.vortex_stats_set.specs.Known.{raw_precision, raw_precision_at, known_in, raw_pairs};
+ghost use Rattle.vortex_stats_set.specs.Pairs.{known, put};
 
 use std::alloc::Global;
 use std::marker::Model;
@@ -124,6 +125,37 @@ impl StatsSet {
         }
     }
 
+    // What is known of the statistic, where it stands.
+    #[tactic(auto, using(crate::proofs::Seen::read))]
+    pub(crate) fn get_ref(&self, stat: Stat) -> Precision<&ScalarValue>
+        ensures { raw_precision_at result ≡ known (raw_pairs self.now) stat }
+    {
+        match self.position(stat) {
+            Some(i) => ref_of(&self.values[i].1),
+            None => Precision::Absent,
+        }
+    }
+
+    // The statistic has this value, or is taken out where there is none.
+    #[tactic(auto, using(crate::proofs::Seen::written))]
+    pub(crate) fn put(
+        &mut self,
+        stat: Stat,
+        value: Option<Precision<ScalarValue>>,
+    ) -> Result<(), StatsError>
+        ensures ok { OnOk result (raw_pairs self.new
+            ≡ put (raw_pairs self.old) stat (option_map raw_precision value)) }
+        ensures refused { IfErr result (λ e. e ≡ Memory) }
+    {
+        match value {
+            Some(value) => self.set(stat, value),
+            None => {
+                self.clear(stat);
+                Ok(())
+            }
+        }
+    }
+
     /// The pairs in their order.
     pub fn iter(&self) -> Iter<'_, (Stat, Precision<ScalarValue>)>
         ensures pairs { iter_rest result ≡ self.now }
@@ -139,7 +171,20 @@ fn is_among(stats: &[Stat], stat: Stat) -> bool
     stats.iter().any(|one| *one == stat)
 }
 
-fn clone_precision(known: &Precision<ScalarValue>) -> Result<Precision<ScalarValue>, StatsError>
+// the value by reference, as precise
+fn ref_of(known: &Precision<ScalarValue>) -> Precision<&ScalarValue>
+    ensures { raw_precision_at result ≡ raw_precision known.now }
+{
+    match known {
+        Precision::Exact(value) => Precision::Exact(value),
+        Precision::Inexact(value) => Precision::Inexact(value),
+        Precision::Absent => Precision::Absent,
+    }
+}
+
+pub(crate) fn clone_precision(
+    known: &Precision<ScalarValue>,
+) -> Result<Precision<ScalarValue>, StatsError>
     ensures value { IfOk result (λ copy. raw_precision copy ≡ raw_precision known.now) }
     ensures refused { IfErr result (λ e. e ≡ Memory) }
 {
@@ -147,6 +192,33 @@ fn clone_precision(known: &Precision<ScalarValue>) -> Result<Precision<ScalarVal
         Precision::Exact(value) => Ok(Precision::Exact(value.clone()?)),
         Precision::Inexact(value) => Ok(Precision::Inexact(value.clone()?)),
         Precision::Absent => Ok(Precision::Absent),
+    }
+}
+
+// The pairs again.
+fn clone_pairs(
+    alloc: Global,
+    pairs: &[(Stat, Precision<ScalarValue>)],
+) -> Result<StatsArray, StatsError>
+    ensures value { IfOk result (λ copies. raw_pairs copies.items ≡ raw_pairs pairs.now) }
+    ensures refused { IfErr result (λ e. e ≡ Memory) }
+{
+    let mut copies = Vec::with_capacity(alloc, pairs.len())?;
+    for pair in pairs {
+        let copy = clone_precision(&pair.1)?;
+        copies.push((pair.0, copy))?;
+    }
+    Ok(copies)
+}
+
+impl StatsSet {
+    // The set again.
+    pub(crate) fn copy(&self) -> Result<StatsSet, StatsError>
+        ensures value { IfOk result (λ copy. raw_pairs copy ≡ raw_pairs self.now) }
+        ensures refused { IfErr result (λ e. e ≡ Memory) }
+    {
+        let values = clone_pairs(*self.values.allocator(), self.values.as_slice())?;
+        Ok(StatsSet { values })
     }
 }
 
