@@ -12,8 +12,8 @@ use Rattle.vortex_arrays_view.specs.Lengths.{counts_of, AddUp}
 pub record IsViewOf (value : List ℕ) (first : ℕ) (buffers : List (List ℕ)) (view : List ℕ) : Type 0
   where
     pub short : length value ≤ 12 → view ≡ short_view value
-    pub reads : (others : List (List ℕ)) → length others ≡ first → HasValue view (others ++ buffers) ×
-        (value_of view (others ++ buffers) ≡ value)
+    pub reads : (others : List (List ℕ)) → length others ≡ first →
+        HasValue view (others ++ buffers) × (value_of view (others ++ buffers) ≡ value)
 
 -- a view for each of the values
 pub record AreViews (bytes lengths : List ℕ) (first : ℕ) (buffers views : List (List ℕ)) : Type 0

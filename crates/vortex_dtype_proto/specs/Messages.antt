@@ -8,9 +8,8 @@ use Rattle.vortex_dtype_core.specs.Parts.{is_union_shape}
 use Rattle.vortex_dtype_proto.specs.Sessions.{Session, admit}
 
 -- What a node says that it is, with the fields of its own: decimals have a precision and a scale,
--- lists of one size that size, maps whether
--- their keys are sorted, records names, unions names and tags, and extensions an id and perhaps
--- metadata.
+-- lists of one size that size, maps whether their keys are sorted, records names, unions names and
+-- tags, and extensions an id and perhaps metadata.
 pub data Form : Type 0 where
   nulls : Form
   booleans : Form

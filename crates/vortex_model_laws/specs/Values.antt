@@ -11,8 +11,7 @@ abbrev pub HoldTheSame : List Content → List Content → Type 0
 HoldTheSame cs ds = (v : Content) → is_null v ≡ false → Contains cs v ↔ Contains ds v
 
 -- Bounds are those of the values, however often these stand there and in whatever order: so those
--- of
--- a dictionary's rows are those of the values that its codes reference.
+-- of a dictionary's rows are those of the values that its codes reference.
 abbrev pub BoundsAreOfTheValues : Type 0
 BoundsAreOfTheValues = (L : ℕ) (cs ds : List Content) → HoldTheSame cs ds →
     (low_of_values L cs ≡ low_of_values L ds) × (high_of_values L cs ≡ high_of_values L ds)

@@ -10,7 +10,8 @@ use Rattle.vortex_stats_stat.specs.declared.stat.Stat.TheVariants as stat
 use Rattle.vortex_stats_set.specs.Pairs.{Pairs, known, put}
 use Rattle.vortex_stats_set.specs.Merge.{raw_order}
 
--- A minimum is a lower bound; a maximum, a count and a size are upper bounds; a sum and a truth are neither.
+-- A minimum is a lower bound; a maximum, a count and a size are upper bounds; a sum and a truth are
+-- neither.
 abbrev pub intersection_of : Stat → Bool → Intersection Raw
 intersection_of stat.IsConstant one p q = intersection_plain raw_order p q
 intersection_of stat.IsSorted one p q = intersection_plain raw_order p q
@@ -46,8 +47,8 @@ abbrev pub IsAfterOne : Bool → Pairs → Stat × Precision Raw → Pairs → B
 IsAfterOne one xs e ys true = after_one one xs e ≡ Some ys
 IsAfterOne one xs e ys false = (after_one one xs e ≡ None) × (ys ≡ xs)
 
--- The second list's statistics in their order, up to the first that is refused. The truth value says
--- whether none is.
+-- The second list's statistics in their order, up to the first that is refused. The truth value
+-- says whether none is.
 abbrev pub combined_in_turn : Bool → Pairs → Pairs → Pairs × Bool
 combined_in_turn one xs [] = (xs, true)
 combined_in_turn one xs (e ∷ es) =

@@ -1,5 +1,6 @@
 -- What stays known when the rows of a second column are set behind those of a first, or among them.
--- `one` says that the two columns are of one type, nullability aside: else their values don't compare.
+-- `one` says that the two columns are of one type, nullability aside: else their values don't
+-- compare.
 use Rattle.std.specs.Prelude.{ℤ, ◌+ℤ◌, List, [], ◌∷◌, Bool, true, false, ◌&&◌, if◌then◌else◌, Option, Some, None, option_map, option_and_then}
 use Rattle.std.specs.declared.cmp.Ordering.{Ordering}
 use Rattle.std.specs.Ordering.{is_lt, is_le}
@@ -22,7 +23,8 @@ use Rattle.vortex_stats_set.specs.Pairs.{Pairs, known, put}
 abbrev pub raw_order : Comparison Raw
 raw_order a b = content_cmp (content_of a) (content_of b)
 
--- ---- each statistic, from what is known of it on either side; None where nothing is known any more
+-- ---- each statistic, from what is known of it on either side; None where nothing is known any
+-- more
 
 -- the lesser minimum: exact if an exact side has it
 abbrev pub merged_min : Bool → Precision Raw → Precision Raw → Option (Precision Raw)
