@@ -372,28 +372,34 @@ fn texts(alloc: Global, checks: &mut Checks<'_>) -> Done {
     Ok(())
 }
 
-/// To copy a sequence takes memory.
+/// To copy a sequence takes memory, so a merge can be refused between its statistics.
 fn sequences(alloc: Global, checks: &mut Checks<'_>) -> Done {
     let dtype = DType::List(Rc::new(alloc, integers())?, Nullability::NonNullable);
     let bounds = |min: ScalarValue, max: ScalarValue| {
         [
             (Stat::NullCount, Exact(count(1))),
+            (Stat::IsSorted, Exact(truth(true))),
             (Stat::Min, Exact(min)),
             (Stat::Max, Exact(max)),
         ]
     };
-    let before = bounds(sequence(alloc, [1, 2])?, sequence(alloc, [3])?);
-    let pairs = bounds(sequence(alloc, [1, 2])?, sequence(alloc, [3])?);
-    let mut set = set_of(alloc, pairs)?;
-    let pairs = bounds(sequence(alloc, [1])?, sequence(alloc, [2, 9, 9])?);
+    let pairs = bounds(sequence(alloc, [1])?, sequence(alloc, [3, 0])?);
     let other = set_of(alloc, pairs)?;
-    merge(checks, &mut set, (&other, &dtype), true, &before)?;
-    let wanted = [
-        (Stat::NullCount, Exact(count(2))),
-        (Stat::Min, Exact(sequence(alloc, [1])?)),
-        (Stat::Max, Exact(sequence(alloc, [3])?)),
-    ];
-    checks.holds("a merge of sequences", has(&set, &wanted));
+    for is_ordered in [true, false] {
+        let before = bounds(sequence(alloc, [1, 2])?, sequence(alloc, [3])?);
+        let pairs = bounds(sequence(alloc, [1, 2])?, sequence(alloc, [3])?);
+        let mut set = set_of(alloc, pairs)?;
+        merge(checks, &mut set, (&other, &dtype), is_ordered, &before)?;
+        let sorted = if is_ordered { Inexact(false) } else { Absent };
+        checks.holds("sorted sequences", is_flag(&set, Stat::IsSorted, sorted));
+        set.clear(Stat::IsSorted);
+        let wanted = [
+            (Stat::NullCount, Exact(count(2))),
+            (Stat::Min, Exact(sequence(alloc, [1])?)),
+            (Stat::Max, Exact(sequence(alloc, [3, 0])?)),
+        ];
+        checks.holds("a merge of sequences", has(&set, &wanted));
+    }
     Ok(())
 }
 
