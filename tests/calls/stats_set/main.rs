@@ -3,9 +3,14 @@
 
 mod bitsets;
 mod checks;
+mod combining;
+mod merges;
+mod pairs;
 mod sets;
 mod stats;
+mod typed_sets;
 mod types;
+mod values;
 
 use crate::checks::Checks;
 use std::alloc::Global;
@@ -25,6 +30,12 @@ fn run(alloc: Global, checks: &mut Checks<'_>) -> Done {
     checks.end_part("statistics as bits");
     sets::run(alloc, checks)?;
     checks.end_part("sets of statistics");
+    typed_sets::run(alloc, checks)?;
+    checks.end_part("sets of typed columns");
+    merges::run(alloc, checks)?;
+    checks.end_part("merges of sets");
+    combining::run(alloc, checks)?;
+    checks.end_part("combined sets");
     Ok(())
 }
 

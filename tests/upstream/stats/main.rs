@@ -3,8 +3,10 @@
 
 mod bound;
 mod checks;
+mod merges;
 mod stat;
 mod stats_set;
+mod values;
 
 use crate::checks::Checks;
 use std::alloc::Global;
@@ -21,6 +23,7 @@ fn run(alloc: Global, checks: &mut Checks<'_>) -> Done {
     bound::run(checks);
     checks.end_part("expr/stats/bound.rs");
     stats_set::run(alloc, checks)?;
+    merges::run(alloc, checks)?;
     checks.end_part("stats/stats_set.rs");
     Ok(())
 }
