@@ -1,0 +1,10 @@
+mod Added
+mod Bounded
+mod Examples
+mod Flags
+mod Known
+mod Reordered
+mod Shared
+mod Told
+mod Typed
+mod Walk

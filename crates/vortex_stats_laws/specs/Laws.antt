@@ -1,0 +1,95 @@
+-- What a set of statistics says of rows, and that merges and intersections of honest sets are
+-- honest.
+use Rattle.std.specs.Prelude.{◌≡◌, ℕ, ℤ, pos, List, [], ◌∷◌, ◌++◌, map, flat_map, Bool, true}
+use Rattle.std.specs.List.{AllByRecursion}
+use Rattle.std.specs.List.Sorted.{IsPermutation}
+use Rattle.vortex_model.specs.LogicalType.{LogicalType}
+use Rattle.vortex_model.specs.Content.{Content, Raw, raw_boolean, raw_number, content_of}
+use Rattle.vortex_model.specs.Statistics.{Precision, exact, inexact, absent, Statistics, IsHonest}
+use Rattle.vortex_stats_bound.specs.Precision.{precision_map}
+use Rattle.vortex_stats_bound.specs.Typed.{is_precision_of}
+use Rattle.vortex_stats_bound.specs.declared.precision.Precision as declared
+use Rattle.vortex_scalar_value.specs.declared.scalar_value.ScalarValue.{ScalarValue}
+use Rattle.vortex_stats_stat.specs.declared.stat.Stat.{Stat}
+use Rattle.vortex_stats_stat.specs.Stats.{number_type}
+use Rattle.vortex_stats_stat.specs.declared.stat.Stat.TheVariants as stat
+use Rattle.vortex_stats_set.specs.Sets.{is_set}
+use Rattle.vortex_stats_set.specs.Pairs.{Pairs, known}
+use Rattle.vortex_stats_set.specs.Known.{raw_pairs}
+use Rattle.vortex_stats_set.specs.Valid.{are_valid_for}
+use Rattle.vortex_stats_set.specs.Merge.{merged_ordered, merged_unordered}
+use Rattle.vortex_stats_set.specs.Combine.{combined_in_turn}
+
+-- ---- what the raw values say; one of another form says nothing
+
+abbrev pub said_number : Precision Raw → Precision ℤ
+said_number (exact (raw_number i z)) = exact z
+said_number (inexact (raw_number i z)) = inexact z
+said_number p = absent
+
+abbrev pub said_count : Precision Raw → Precision ℕ
+said_count (exact (raw_number i (pos n))) = exact n
+said_count (inexact (raw_number i (pos n))) = inexact n
+said_count p = absent
+
+abbrev pub said_truth : Precision Raw → Precision Bool
+said_truth (exact (raw_boolean b)) = exact b
+said_truth (inexact (raw_boolean b)) = inexact b
+said_truth p = absent
+
+abbrev pub statistics_in : Pairs → Statistics
+statistics_in xs = record {
+  least = precision_map content_of (known xs stat.Min);
+  greatest = precision_map content_of (known xs stat.Max);
+  total = said_number (known xs stat.Sum);
+  nulls = said_count (known xs stat.NullCount);
+  nans = said_count (known xs stat.NaNCount);
+  bytes = said_count (known xs stat.UncompressedSizeInBytes);
+  constant = said_truth (known xs stat.IsConstant);
+  sorted = said_truth (known xs stat.IsSorted);
+  strictly_sorted = said_truth (known xs stat.IsStrictSorted);
+}
+
+-- What the set knows of how many rows are null is a number of rows, not below 0.
+abbrev pub CountsNulls : Pairs → Type 0
+CountsNulls xs = is_precision_of number_type (known xs stat.NullCount) ≡ true
+
+-- What the set says of the rows is true. A number of nulls below 0 says nothing, and would yet be
+-- added.
+pub record IsHonestOf (xs : Pairs) (cs : List Content) : Type 0 where
+  pub counted : CountsNulls xs
+  pub honest : IsHonest (statistics_in xs) cs
+
+-- ---- laws, of rows of whatever type
+
+-- Sets that are valid for a column count nulls so.
+abbrev pub ValidSetsCountNulls : Type 0
+ValidSetsCountNulls = (k : LogicalType) (xs : List (Stat × declared.Precision ScalarValue)) →
+    are_valid_for k xs ≡ true → CountsNulls (raw_pairs xs)
+
+abbrev pub MergesAreHonest : Type 0
+MergesAreHonest = (xs ys : Pairs) (cs ds : List Content) →
+    IsHonestOf xs cs → IsHonestOf ys ds → IsHonestOf (merged_ordered true xs ys) (cs ++ ds)
+
+-- the sets of further rows merged one after the other
+abbrev pub merged_behind : Pairs → List Pairs → Pairs
+merged_behind xs [] = xs
+merged_behind xs (ys ∷ more) = merged_behind (merged_ordered true xs ys) more
+
+-- so it is of any number of sets, each with its rows
+abbrev pub MergesOfManyAreHonest : Type 0
+MergesOfManyAreHonest = (xs : Pairs) (cs : List Content) (others : List (Pairs × List Content)) →
+    IsHonestOf xs cs → AllByRecursion (λ e. IsHonestOf e.0 e.1) others →
+    IsHonestOf (merged_behind xs (map (λ e. e.0) others)) (cs ++ flat_map (λ e. e.1) others)
+
+-- the rows of both, in any order
+abbrev pub UnorderedMergesAreHonest : Type 0
+UnorderedMergesAreHonest = (xs ys : Pairs) (cs ds rows : List Content) →
+    IsPermutation (cs ++ ds) rows → IsHonestOf xs cs → IsHonestOf ys ds →
+    IsHonestOf (merged_unordered true xs ys) rows
+
+-- The set is taken in up to the statistic that is refused, if one is. In a list that has a
+-- statistic twice the second one could say anything.
+abbrev pub CombinedSetsAreHonest : Type 0
+CombinedSetsAreHonest = (one : Bool) (xs ys : Pairs) (cs : List Content) → is_set ys ≡ true →
+    IsHonestOf xs cs → IsHonestOf ys cs → IsHonestOf (combined_in_turn one xs ys).0 cs
