@@ -1,5 +1,6 @@
 pub mod Added
 pub mod Appends
+pub mod Copied
 pub mod Counts
 pub mod Explained
 pub mod Formed

@@ -5,7 +5,7 @@ use Rattle.vortex_model.specs.Valid.{valid}
 use Rattle.vortex_model.specs.Command.{first_unconvertible}
 use Rattle.vortex_dtype_core.specs.View.{type_of}
 use Rattle.vortex_scalar_value.specs.View.{raw_in, raw_at, content_in, content_at}
-use Rattle.vortex_table_schema.proofs.Projections.{raw_copied}
+use Rattle.vortex_table_core.proofs.Copied.{raw_copied}
 use Rattle.vortex_table_core.specs.Error.{Explains}
 use Rattle.vortex_table_core.proofs.Appends.{said, next_of, first_valid, rest_valid, refused_here, left_behind, row_moved}
 use Rattle.vortex_table_core.proofs.append.convert_rows.Goals as goal

@@ -3,7 +3,7 @@ use Rattle.vortex_model.specs.Valid.{valid}
 use Rattle.vortex_dtype_core.specs.View.{type_of}
 use Rattle.vortex_scalar_value.specs.View.{raw_in, raw_at}
 use Rattle.vortex_table_core.proofs.Appends.{invalid_here, valid_here}
-use Rattle.vortex_table_schema.proofs.Projections.{raw_copied}
+use Rattle.vortex_table_core.proofs.Copied.{raw_copied}
 use Rattle.vortex_table_core.proofs.append.first_invalid.Goals as goal
 
 pub returns-then-not-validate : goal.returns-then-not-validate
