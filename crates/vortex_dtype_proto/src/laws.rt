@@ -1,11 +1,12 @@
 //! Laws of messages and the types that they mean. Each function makes the calls that its law speaks
 //! of, and answers what each of them gave.
-ghost use Rattle.std.specs.Prelude.{◌≡◌, ◌≢◌, ◌&&◌, map, true, false, IfOk, OnOk, IfErr, IsTrue};
+ghost use Rattle.std.specs.Prelude.{◌≡◌, ◌≢◌, ◌&&◌, length, map, true, false, IfOk, OnOk, IfErr, IsTrue};
 ghost use Rattle.std.specs.List.{zip};
-ghost use Rattle.vortex_model.specs.LogicalType.{decimal, mapping, union};
+ghost use Rattle.vortex_model.specs.LogicalType.{decimal, mapping, union, nullable, non_nullable, nullability_of};
 ghost use Rattle.vortex_dtype_ptype.specs.View.{nullability_of_flag};
-ghost use Rattle.vortex_dtype_ptype.specs.declared.error.DTypeError.TheVariants.{Memory, Malformed};
+ghost use Rattle.vortex_dtype_ptype.specs.declared.error.DTypeError.TheVariants.{Memory, Malformed, MapShape, UnionShape};
 ghost use Rattle.vortex_dtype_core.specs.View.{type_of, variants_from};
+ghost use Rattle.vortex_dtype_core.specs.Parts.{is_union_shape};
 ghost use Rattle.vortex_dtype_proto.specs.Laws.{ReadTypesAreShaped, WrittenTreesReadAlike};
 ghost use Rattle.vortex_dtype_proto.specs.Messages.{are_tags, read, reading, written};
 ghost use Rattle.vortex_dtype_proto.specs.Sessions.{no_plugins, session_of};
@@ -64,7 +65,7 @@ pub fn decimals_are_shaped(shape: DecimalDType, nullability: Nullability) -> DTy
 }
 
 /// The map type that `MapDType::try_new` makes, which is shaped where the types of its keys and its
-/// values are. The refusals are those of the call.
+/// values are. `MapShape` where a key may be null.
 pub fn maps_are_shaped(
     alloc: Global,
     key: DType,
@@ -76,13 +77,16 @@ pub fn maps_are_shaped(
         ≡ mapping (type_of key) (type_of value) keys_sorted (nullability_of_flag nullability)) }
     ensures shaped { IfOk result (λ dtype. is_shaped (type_of dtype)
         ≡ (is_shaped (type_of key) && is_shaped (type_of value))) }
+    ensures accepted { OnOk result (nullability_of (type_of key) ≡ non_nullable) }
+    ensures refused { IfErr result (λ e. e ≢ Memory → (e ≡ MapShape)
+        × (nullability_of (type_of key) ≡ nullable)) }
 {
     let entries = MapDType::try_new(alloc, key, value, keys_sorted)?;
     Ok(DType::Map(entries, nullability))
 }
 
 /// The union type that `UnionVariants::try_new` makes, which is shaped where the types of its
-/// choices are. The refusals are those of the call.
+/// choices are. `UnionShape` where the lists aren't equally long, or a tag is repeated.
 pub fn unions_are_shaped(
     names: FieldNames,
     dtypes: Vec<DType>,
@@ -94,6 +98,10 @@ pub fn unions_are_shaped(
         (nullability_of_flag nullability)) }
     ensures shaped { IfOk result (λ dtype. is_shaped (type_of dtype)
         ≡ are_shaped (map type_of dtypes.items)) }
+    ensures accepted { OnOk result
+        (IsTrue (is_union_shape (length names) (length dtypes.items) tags.items)) }
+    ensures refused { IfErr result (λ e. e ≢ Memory → (e ≡ UnionShape)
+        × (is_union_shape (length names) (length dtypes.items) tags.items ≡ false)) }
 {
     have_byte_tags(&tags);
     let variants = UnionVariants::try_new(names, dtypes, tags)?;
