@@ -1,7 +1,7 @@
 //! Arrays: columns of values of one type, in eight layouts, with the buffers, masks and views of
 //! sixteen bytes that they are made of.
 //!
-//! The layer stands in eight crates, and this one gathers their items. A caller of arrays alone
+//! The layer stands in nine crates, and this one gathers their items. A caller of arrays alone
 //! depends on it; nothing below does.
 #![tactic(auto)]
 
@@ -27,6 +27,7 @@ pub use vortex_arrays_rebuild::rebuild::{ListViewRebuild, ListViewRebuildMode};
 pub use vortex_arrays_struct::column::column_at;
 pub use vortex_arrays_struct::mask::mask;
 pub use vortex_arrays_struct::struct_array::StructArray;
+pub use vortex_arrays_validity::validity_ext::ValidityExt;
 pub use vortex_arrays_view::build::{MAX_BUFFER_LEN, build_views, build_views_from_offsets};
 pub use vortex_arrays_view::inlined::Inlined;
 pub use vortex_arrays_view::lengths::offsets_to_lengths;

@@ -1,5 +1,5 @@
 //! Truth values in packed bits.
-ghost use Rattle.std.specs.Prelude.{◌≡◌, ◌<◌, ◌==◌, ◌↔◌, length, All, IsTrue, IfOk, IfErr, MatchResult};
+ghost use Rattle.std.specs.Prelude.{◌≡◌, ◌<◌, ◌==◌, length, All, IfOk, IfErr, MatchOption, MatchResult};
 ghost use Rattle.vortex_model.specs.LogicalType.{nullability_of};
 ghost use Rattle.vortex_dtype_ptype.specs.View.{nullability_of_flag};
 ghost use Rattle.vortex_dtype_core.specs.View.{type_of};
@@ -122,7 +122,7 @@ impl BoolArray {
             (λ a. (a ≡ array) × IsBools array)
             (λ other. (other ≡ array) × (IsBools array → ⊥)) }
     {
-        if is_bool(&array) {
+        if parts_of(&array).is_some() {
             Ok(BoolArray { array })
         } else {
             Err(array)
@@ -207,16 +207,10 @@ impl BoolArray {
     fn parts(&self) -> (&BitBuffer, &Validity)
         ensures { self.now ≡ bools result.0.now (valid_of result.1.now) }
     {
-        match self.array.layout() {
-            ArrayLayout::Bool(bits, validity) => (bits, validity),
-            ArrayLayout::Primitive(_, _) => unreachable!(),
-            ArrayLayout::VarBinView(_, _, _, _) => unreachable!(),
-            ArrayLayout::Constant(_, _) => unreachable!(),
-            ArrayLayout::Dict(_, _, _) => unreachable!(),
-            ArrayLayout::FixedSizeList(_, _, _, _) => unreachable!(),
-            ArrayLayout::ListView(_, _, _, _, _) => unreachable!(),
-            ArrayLayout::Struct(_, _, _, _) => unreachable!(),
-        }
+        let Some(parts) = parts_of(&self.array) else {
+            unreachable!()
+        };
+        parts
     }
 }
 
@@ -229,18 +223,14 @@ impl Clone for BoolArray {
     }
 }
 
-/// Whether the array is one of truth values in packed bits.
-fn is_bool(array: &ArrayRef) -> bool
-    ensures { IsTrue result ↔ IsBools array.now }
+/// The bits and the validity, where the array is one of truth values in packed bits.
+fn parts_of(array: &ArrayRef) -> Option<(&BitBuffer, &Validity)>
+    ensures { MatchOption result
+        (IsBools array.now → ⊥)
+        (λ parts. array.now ≡ bools parts.0.now (valid_of parts.1.now)) }
 {
     match array.layout() {
-        ArrayLayout::Bool(_, _) => true,
-        ArrayLayout::Primitive(_, _) => false,
-        ArrayLayout::VarBinView(_, _, _, _) => false,
-        ArrayLayout::Constant(_, _) => false,
-        ArrayLayout::Dict(_, _, _) => false,
-        ArrayLayout::FixedSizeList(_, _, _, _) => false,
-        ArrayLayout::ListView(_, _, _, _, _) => false,
-        ArrayLayout::Struct(_, _, _, _) => false,
+        ArrayLayout::Bool(bits, validity) => Some((bits, validity)),
+        _ => None,
     }
 }

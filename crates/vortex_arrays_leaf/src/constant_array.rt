@@ -1,5 +1,5 @@
 //! One value, so many times.
-ghost use Rattle.std.specs.Prelude.{◌≡◌, ◌==◌, ◌↔◌, IsTrue, IfOk, MatchResult};
+ghost use Rattle.std.specs.Prelude.{◌≡◌, ◌==◌, IfOk, MatchOption, MatchResult};
 ghost use Rattle.vortex_model.specs.LogicalType.{nullability_of};
 ghost use Rattle.vortex_dtype_ptype.specs.View.{nullability_of_flag};
 ghost use Rattle.vortex_dtype_core.specs.View.{type_of};
@@ -49,7 +49,7 @@ impl ConstantArray {
             (λ a. (a ≡ array) × IsConstant array)
             (λ other. (other ≡ array) × (IsConstant array → ⊥)) }
     {
-        if is_constant(&array) {
+        if scalar_of(&array).is_some() {
             Ok(ConstantArray { array })
         } else {
             Err(array)
@@ -105,16 +105,10 @@ impl ConstantArray {
         ensures { self.now ≡ constant (scalar_type result.now) (scalar_raw result.now)
             (len_of self.now) }
     {
-        match self.array.layout() {
-            ArrayLayout::Constant(scalar, _) => scalar,
-            ArrayLayout::Bool(_, _) => unreachable!(),
-            ArrayLayout::Primitive(_, _) => unreachable!(),
-            ArrayLayout::VarBinView(_, _, _, _) => unreachable!(),
-            ArrayLayout::Dict(_, _, _) => unreachable!(),
-            ArrayLayout::FixedSizeList(_, _, _, _) => unreachable!(),
-            ArrayLayout::ListView(_, _, _, _, _) => unreachable!(),
-            ArrayLayout::Struct(_, _, _, _) => unreachable!(),
-        }
+        let Some(scalar) = scalar_of(&self.array) else {
+            unreachable!()
+        };
+        scalar
     }
 
     /// The value, as Vortex's `ConstantData::into_parts`.
@@ -135,18 +129,15 @@ impl Clone for ConstantArray {
     }
 }
 
-/// Whether the array is one of one value.
-fn is_constant(array: &ArrayRef) -> bool
-    ensures { IsTrue result ↔ IsConstant array.now }
+/// The value, where the array is one of one value.
+fn scalar_of(array: &ArrayRef) -> Option<&Scalar>
+    ensures { MatchOption result
+        (IsConstant array.now → ⊥)
+        (λ scalar. array.now ≡ constant (scalar_type scalar.now) (scalar_raw scalar.now)
+        (len_of array.now)) }
 {
     match array.layout() {
-        ArrayLayout::Constant(_, _) => true,
-        ArrayLayout::Bool(_, _) => false,
-        ArrayLayout::Primitive(_, _) => false,
-        ArrayLayout::VarBinView(_, _, _, _) => false,
-        ArrayLayout::Dict(_, _, _) => false,
-        ArrayLayout::FixedSizeList(_, _, _, _) => false,
-        ArrayLayout::ListView(_, _, _, _, _) => false,
-        ArrayLayout::Struct(_, _, _, _) => false,
+        ArrayLayout::Constant(scalar, _) => Some(scalar),
+        _ => None,
     }
 }

@@ -1,5 +1,5 @@
 //! Integers of one kind.
-ghost use Rattle.std.specs.Prelude.{◌≡◌, ◌≢◌, ◌==◌, ◌↔◌, [], length, map, IsTrue, IfOk, IfErr, MatchOption, MatchResult};
+ghost use Rattle.std.specs.Prelude.{◌≡◌, ◌≢◌, ◌==◌, [], length, map, IfOk, IfErr, MatchOption, MatchResult};
 ghost use Rattle.vortex_model.specs.LogicalType.{nullability_of};
 ghost use Rattle.vortex_dtype_ptype.specs.Numbers.{integral};
 ghost use Rattle.vortex_dtype_ptype.specs.View.{nullability_of_flag, number_kind_of};
@@ -129,7 +129,7 @@ impl PrimitiveArray {
             (λ a. (a ≡ array) × IsNumbers array)
             (λ other. (other ≡ array) × (IsNumbers array → ⊥)) }
     {
-        if is_primitive(&array) {
+        if parts_of(&array).is_some() {
             Ok(PrimitiveArray { array })
         } else {
             Err(array)
@@ -229,16 +229,10 @@ impl PrimitiveArray {
         ensures { self.now ≡ numbers (kind_of_numbers result.0.now) (integers_of result.0.now)
             (valid_of result.1.now) }
     {
-        match self.array.layout() {
-            ArrayLayout::Primitive(items, validity) => (items, validity),
-            ArrayLayout::Bool(_, _) => unreachable!(),
-            ArrayLayout::VarBinView(_, _, _, _) => unreachable!(),
-            ArrayLayout::Constant(_, _) => unreachable!(),
-            ArrayLayout::Dict(_, _, _) => unreachable!(),
-            ArrayLayout::FixedSizeList(_, _, _, _) => unreachable!(),
-            ArrayLayout::ListView(_, _, _, _, _) => unreachable!(),
-            ArrayLayout::Struct(_, _, _, _) => unreachable!(),
-        }
+        let Some(parts) = parts_of(&self.array) else {
+            unreachable!()
+        };
+        parts
     }
 }
 
@@ -261,18 +255,15 @@ fn all_valid(nullability: Nullability) -> Validity
     }
 }
 
-/// Whether the array is one of integers of one kind.
-fn is_primitive(array: &ArrayRef) -> bool
-    ensures { IsTrue result ↔ IsNumbers array.now }
+/// The integers and the validity, where the array is one of integers of one kind.
+fn parts_of(array: &ArrayRef) -> Option<(&PrimitiveBuffer, &Validity)>
+    ensures { MatchOption result
+        (IsNumbers array.now → ⊥)
+        (λ parts. array.now ≡ numbers (kind_of_numbers parts.0.now) (integers_of parts.0.now)
+        (valid_of parts.1.now)) }
 {
     match array.layout() {
-        ArrayLayout::Primitive(_, _) => true,
-        ArrayLayout::Bool(_, _) => false,
-        ArrayLayout::VarBinView(_, _, _, _) => false,
-        ArrayLayout::Constant(_, _) => false,
-        ArrayLayout::Dict(_, _, _) => false,
-        ArrayLayout::FixedSizeList(_, _, _, _) => false,
-        ArrayLayout::ListView(_, _, _, _, _) => false,
-        ArrayLayout::Struct(_, _, _, _) => false,
+        ArrayLayout::Primitive(items, validity) => Some((items, validity)),
+        _ => None,
     }
 }

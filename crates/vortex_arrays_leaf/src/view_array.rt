@@ -1,5 +1,5 @@
 //! Texts and bytes by views of sixteen bytes.
-ghost use Rattle.std.specs.Prelude.{◌≡◌, ◌≢◌, ◌<◌, ◌==◌, ◌↔◌, [], length, slice_index_or, IsTrue, IfOk, IfErr, MatchResult};
+ghost use Rattle.std.specs.Prelude.{◌≡◌, ◌≢◌, ◌<◌, ◌==◌, ◌↔◌, [], length, slice_index_or, IsTrue, IfOk, IfErr, IfSome, MatchOption, MatchResult};
 ghost use Rattle.vortex_arrays_view.specs.Views.{value_of};
 ghost use Rattle.vortex_dtype_core.specs.View.{type_of};
 ghost use Rattle.vortex_arrays_model.specs.Layout.{strings, len_of, array_type_of, is_valid, IsSound};
@@ -126,7 +126,7 @@ impl VarBinViewArray {
         ensures { MatchResult result (λ a. (a ≡ array) × IsStrings array) (λ other. (other ≡ array)
             × (IsStrings array → ⊥)) }
     {
-        if is_strings(&array) {
+        if parts_of(&array).is_some() {
             Ok(VarBinViewArray { array })
         } else {
             Err(array)
@@ -218,18 +218,10 @@ impl VarBinViewArray {
         ensures layout { IsStrings self.now }
         ensures sound { IsSound self.now }
     {
-        match self.array.layout() {
-            ArrayLayout::VarBinView(_, views, buffers, validity) => {
-                (views.as_slice(), buffers.as_slice(), validity)
-            }
-            ArrayLayout::Bool(_, _) => unreachable!(),
-            ArrayLayout::Primitive(_, _) => unreachable!(),
-            ArrayLayout::Constant(_, _) => unreachable!(),
-            ArrayLayout::Dict(_, _, _) => unreachable!(),
-            ArrayLayout::FixedSizeList(_, _, _, _) => unreachable!(),
-            ArrayLayout::ListView(_, _, _, _, _) => unreachable!(),
-            ArrayLayout::Struct(_, _, _, _) => unreachable!(),
-        }
+        let Some(parts) = parts_of(&self.array) else {
+            unreachable!()
+        };
+        parts
     }
 }
 
@@ -263,18 +255,18 @@ fn is_string_type(dtype: &DType, validity: &Validity) -> bool
     is_string && dtype.nullability() == validity.nullability()
 }
 
-/// Whether the array is one of texts or bytes by views.
-fn is_strings(array: &ArrayRef) -> bool
-    ensures { IsTrue result ↔ IsStrings array.now }
+/// The views, the buffers and the validity, where the array is one of texts or bytes by views.
+fn parts_of(array: &ArrayRef) -> Option<(&[BinaryView], &[Bytes], &Validity)>
+    ensures layout { MatchOption result (IsStrings array.now → ⊥) (λ _. IsStrings array.now) }
+    ensures views { IfSome result (λ parts. parts.0.now ≡ views_in array.now) }
+    ensures buffers { IfSome result (λ parts. parts.1.now ≡ buffers_in array.now) }
+    ensures valid { IfSome result (λ parts. valid_of parts.2.now ≡ valid_in array.now) }
+    ensures sound { IsSound array.now }
 {
     match array.layout() {
-        ArrayLayout::VarBinView(_, _, _, _) => true,
-        ArrayLayout::Bool(_, _) => false,
-        ArrayLayout::Primitive(_, _) => false,
-        ArrayLayout::Constant(_, _) => false,
-        ArrayLayout::Dict(_, _, _) => false,
-        ArrayLayout::FixedSizeList(_, _, _, _) => false,
-        ArrayLayout::ListView(_, _, _, _, _) => false,
-        ArrayLayout::Struct(_, _, _, _) => false,
+        ArrayLayout::VarBinView(_, views, buffers, validity) => {
+            Some((views.as_slice(), buffers.as_slice(), validity))
+        }
+        _ => None,
     }
 }

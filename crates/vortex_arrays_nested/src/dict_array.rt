@@ -1,5 +1,5 @@
 //! Values that stand once and are named by codes.
-ghost use Rattle.std.specs.Prelude.{◌≡◌, ◌==◌, ◌↔◌, false, IsTrue, IfOk, IfErr, MatchResult};
+ghost use Rattle.std.specs.Prelude.{◌≡◌, ◌==◌, false, IsTrue, IfOk, IfErr, MatchOption, MatchResult};
 ghost use Rattle.vortex_model.specs.LogicalType.{nullability_of};
 ghost use Rattle.vortex_dtype_ptype.specs.View.{nullability_of_flag};
 ghost use Rattle.vortex_dtype_core.specs.View.{type_of};
@@ -114,7 +114,7 @@ impl DictArray {
             (λ a. (a ≡ array) × IsDictionary array)
             (λ other. (other ≡ array) × (IsDictionary array → ⊥)) }
     {
-        if is_dict(&array) {
+        if parts_of(&array).is_some() {
             Ok(DictArray { array })
         } else {
             Err(array)
@@ -219,16 +219,10 @@ impl DictArray {
         ensures parts { self.now ≡ dictionary result.0.now result.1.now result.2 }
         ensures sound { IsSound (dictionary result.0.now result.1.now result.2) }
     {
-        match self.array.layout() {
-            ArrayLayout::Dict(codes, values, all_referenced) => (codes, values, *all_referenced),
-            ArrayLayout::Bool(_, _) => unreachable!(),
-            ArrayLayout::Primitive(_, _) => unreachable!(),
-            ArrayLayout::VarBinView(_, _, _, _) => unreachable!(),
-            ArrayLayout::Constant(_, _) => unreachable!(),
-            ArrayLayout::FixedSizeList(_, _, _, _) => unreachable!(),
-            ArrayLayout::ListView(_, _, _, _, _) => unreachable!(),
-            ArrayLayout::Struct(_, _, _, _) => unreachable!(),
-        }
+        let Some(parts) = parts_of(&self.array) else {
+            unreachable!()
+        };
+        parts
     }
 }
 
@@ -241,18 +235,16 @@ impl Clone for DictArray {
     }
 }
 
-/// Whether the array is a dictionary.
-fn is_dict(array: &ArrayRef) -> bool
-    ensures { IsTrue result ↔ IsDictionary array.now }
+/// The codes, the values and whether each value is known to be named, where the array is a
+/// dictionary.
+fn parts_of(array: &ArrayRef) -> Option<(&ArrayRef, &ArrayRef, bool)>
+    ensures parts { MatchOption result
+        (IsDictionary array.now → ⊥)
+        (λ parts. array.now ≡ dictionary parts.0.now parts.1.now parts.2) }
+    ensures sound { IsSound array.now }
 {
     match array.layout() {
-        ArrayLayout::Dict(_, _, _) => true,
-        ArrayLayout::Bool(_, _) => false,
-        ArrayLayout::Primitive(_, _) => false,
-        ArrayLayout::VarBinView(_, _, _, _) => false,
-        ArrayLayout::Constant(_, _) => false,
-        ArrayLayout::FixedSizeList(_, _, _, _) => false,
-        ArrayLayout::ListView(_, _, _, _, _) => false,
-        ArrayLayout::Struct(_, _, _, _) => false,
+        ArrayLayout::Dict(codes, values, all_referenced) => Some((codes, values, *all_referenced)),
+        _ => None,
     }
 }

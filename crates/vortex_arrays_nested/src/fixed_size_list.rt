@@ -1,5 +1,5 @@
 //! Lists of one size.
-ghost use Rattle.std.specs.Prelude.{◌≡◌, ◌≢◌, ◌<◌, ◌+◌, ◌*◌, ◌==◌, ◌↔◌, IsTrue, OnOk, IfOk, IfErr, MatchResult};
+ghost use Rattle.std.specs.Prelude.{◌≡◌, ◌≢◌, ◌<◌, ◌+◌, ◌*◌, ◌==◌, OnOk, IfOk, IfErr, MatchOption, MatchResult};
 ghost use Rattle.vortex_model.specs.LogicalType.{nullability_of};
 ghost use Rattle.vortex_dtype_ptype.specs.View.{nullability_of_flag};
 ghost use Rattle.vortex_dtype_core.specs.View.{type_of};
@@ -147,7 +147,7 @@ impl FixedSizeListArray {
         ensures { MatchResult result (λ a. (a ≡ array) × IsFixedLists array)
             (λ other. (other ≡ array) × (¬ IsFixedLists array)) }
     {
-        if is_fixed_size_list(&array) {
+        if slots_of(&array).is_some() {
             Ok(FixedSizeListArray { array })
         } else {
             Err(array)
@@ -208,20 +208,10 @@ impl FixedSizeListArray {
         ensures sound { IsSound (fixed_lists (elements_of self.now) (size_of_each self.now)
             (len_of self.now) (valid_in self.now)) }
     {
-        match self.array.layout() {
-            ArrayLayout::FixedSizeList(elements, list_size, _, validity) => FixedSizeListSlots {
-                elements,
-                list_size: *list_size,
-                validity,
-            },
-            ArrayLayout::Bool(_, _) => unreachable!(),
-            ArrayLayout::Primitive(_, _) => unreachable!(),
-            ArrayLayout::VarBinView(_, _, _, _) => unreachable!(),
-            ArrayLayout::Constant(_, _) => unreachable!(),
-            ArrayLayout::Dict(_, _, _) => unreachable!(),
-            ArrayLayout::ListView(_, _, _, _, _) => unreachable!(),
-            ArrayLayout::Struct(_, _, _, _) => unreachable!(),
-        }
+        let Some(slots) = slots_of(&self.array) else {
+            unreachable!()
+        };
+        slots
     }
 
     /// The elements of all lists.
@@ -293,18 +283,20 @@ impl Clone for FixedSizeListArray {
     }
 }
 
-/// Whether the array's lists are of one size.
-fn is_fixed_size_list(array: &ArrayRef) -> bool
-    ensures { IsTrue result ↔ IsFixedLists array.now }
+/// All parts, where the array's lists are of one size.
+fn slots_of(array: &ArrayRef) -> Option<FixedSizeListSlots<'_>>
+    ensures parts { MatchOption result
+        (IsFixedLists array.now → ⊥)
+        (λ slots. array.now ≡ fixed_lists slots.elements.now slots.list_size (len_of array.now)
+        (valid_of slots.validity.now)) }
+    ensures sound { IsSound array.now }
 {
     match array.layout() {
-        ArrayLayout::FixedSizeList(_, _, _, _) => true,
-        ArrayLayout::Bool(_, _) => false,
-        ArrayLayout::Primitive(_, _) => false,
-        ArrayLayout::VarBinView(_, _, _, _) => false,
-        ArrayLayout::Constant(_, _) => false,
-        ArrayLayout::Dict(_, _, _) => false,
-        ArrayLayout::ListView(_, _, _, _, _) => false,
-        ArrayLayout::Struct(_, _, _, _) => false,
+        ArrayLayout::FixedSizeList(elements, list_size, _, validity) => Some(FixedSizeListSlots {
+            elements,
+            list_size: *list_size,
+            validity,
+        }),
+        _ => None,
     }
 }

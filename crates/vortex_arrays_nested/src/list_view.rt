@@ -186,7 +186,7 @@ impl ListViewArray {
         ensures { MatchResult result (λ a. (a ≡ array) × IsListViews array)
             (λ other. (other ≡ array) × (¬ IsListViews array)) }
     {
-        if is_list_view(&array) {
+        if slots_of(&array).is_some() {
             Ok(ListViewArray { array })
         } else {
             Err(array)
@@ -249,22 +249,10 @@ impl ListViewArray {
         ensures sound { IsSound (list_views (elements_of self.now) (offsets_of self.now)
             (sizes_of self.now) (is_flagged self.now) (valid_in self.now)) }
     {
-        match self.array.layout() {
-            ArrayLayout::ListView(elements, offsets, sizes, flag, validity) => ListViewSlots {
-                elements,
-                offsets,
-                sizes,
-                is_zero_copy_to_list: *flag,
-                validity,
-            },
-            ArrayLayout::Bool(_, _) => unreachable!(),
-            ArrayLayout::Primitive(_, _) => unreachable!(),
-            ArrayLayout::VarBinView(_, _, _, _) => unreachable!(),
-            ArrayLayout::Constant(_, _) => unreachable!(),
-            ArrayLayout::Dict(_, _, _) => unreachable!(),
-            ArrayLayout::FixedSizeList(_, _, _, _) => unreachable!(),
-            ArrayLayout::Struct(_, _, _, _) => unreachable!(),
-        }
+        let Some(slots) = slots_of(&self.array) else {
+            unreachable!()
+        };
+        slots
     }
 
     /// The elements of all lists, and any others.
@@ -417,18 +405,22 @@ impl Clone for ListViewArray {
     }
 }
 
-/// Whether the array's lists have an offset and a size each.
-fn is_list_view(array: &ArrayRef) -> bool
-    ensures { IsTrue result ↔ IsListViews array.now }
+/// All parts, where the array's lists have an offset and a size each.
+fn slots_of(array: &ArrayRef) -> Option<ListViewSlots<'_>>
+    ensures parts { MatchOption result
+        (¬ IsListViews array.now)
+        (λ slots. array.now ≡ list_views slots.elements.now slots.offsets.now slots.sizes.now
+        slots.is_zero_copy_to_list (valid_of slots.validity.now)) }
+    ensures sound { IsSound array.now }
 {
     match array.layout() {
-        ArrayLayout::ListView(_, _, _, _, _) => true,
-        ArrayLayout::Bool(_, _) => false,
-        ArrayLayout::Primitive(_, _) => false,
-        ArrayLayout::VarBinView(_, _, _, _) => false,
-        ArrayLayout::Constant(_, _) => false,
-        ArrayLayout::Dict(_, _, _) => false,
-        ArrayLayout::FixedSizeList(_, _, _, _) => false,
-        ArrayLayout::Struct(_, _, _, _) => false,
+        ArrayLayout::ListView(elements, offsets, sizes, flag, validity) => Some(ListViewSlots {
+            elements,
+            offsets,
+            sizes,
+            is_zero_copy_to_list: *flag,
+            validity,
+        }),
+        _ => None,
     }
 }

@@ -1,5 +1,5 @@
 -- One value in each row.
-use Rattle.std.proofs.Common.{◌≡◌, ◌<◌, ◌≤◌, ◌&&◌, ℕ, ℤ, pos, zero, suc, Bool, true, false, cond, List, [], ◌∷◌, length, get_or, map, replicate, Option, Some, None, option_map, option_and_then, option_copied, Bor, refl, sym, ap, subst, ◌∙◌, arith, lit<}
+use Rattle.std.proofs.Common.{◌≡◌, ◌<◌, ◌&&◌, ℕ, ℤ, pos, zero, suc, Bool, true, false, cond, List, [], ◌∷◌, length, get_or, map, replicate, Some, None, option_map, option_and_then, refl, sym, ap, subst, ◌∙◌, arith, lit<}
 use Rattle.std.specs.List.{All}
 use Rattle.std.proofs.lemmas.Int.{ints}
 use Rattle.std.proofs.lemmas.List.{length-map, length-replicate, get_or-map, get_or-replicate}
@@ -8,10 +8,6 @@ use Rattle.vortex_model.specs.Content.{Content, null, integer, nth, content_of, 
 use Rattle.vortex_model.specs.Path.{position_named, field_at, part_of, type_at, positions, type_of_column}
 use Rattle.vortex_model.specs.Valid.{InRange, valid, fields_have}
 use Rattle.vortex_dtype_core.specs.Parts.{fields_in_type}
-use Rattle.vortex_scalar_value.specs.Parts.{items_in}
-use Rattle.vortex_scalar_value.specs.View.{raw_in, raw_at, raws_in}
-use Rattle.vortex_scalar_value.specs.declared.scalar_value.ScalarValue.{ScalarValue}
-use Rattle.vortex_scalar_value.proofs.Sizes.{raw_at-copied}
 use Rattle.vortex_scalar_ops.proofs.Nullable.{nullable_has, null_is_there}
 use Rattle.vortex_arrays_model.specs.Layout.{numbers, constant, dictionary, Valid, nullability_by, is_valid, pick, IsCode, IsSound, HasLength}
 use Rattle.vortex_arrays_model.specs.Column.{IsColumn, IsMasked}
@@ -73,33 +69,6 @@ codes_sound xs n v w e f h = subst (λ u. IsSound (numbers u8 (map pos xs) u)) (
 pub ruleset zeros = (codes_sound)
 
 pub ruleset pushed = (pushes_constant, constant_pushed)
-
--- A part of a record's value.
-nth_there : (vs : List (Option ScalarValue)) (i : ℕ) (x : Option ScalarValue) → x ≡ get_or vs i x → i < length vs → raw_in x ≡ raw_nth (raws_in vs) i
-nth_there [] i x e l = absurd (omega (arith, l))
-nth_there (v ∷ vs) zero x e l = ap raw_in e
-nth_there (v ∷ vs) (suc i) x e l = nth_there vs i x e (omega (arith, l))
-
-nth_past : (vs : List (Option ScalarValue)) (i : ℕ) → length vs ≤ i → raw_null ≡ raw_nth (raws_in vs) i
-nth_past [] i l = refl
-nth_past (v ∷ vs) zero l = absurd (omega (arith, l))
-nth_past (v ∷ vs) (suc i) l = nth_past vs i (omega (arith, l))
-
-part_of_items : (r : Raw) (rs : Raws) (i : ℕ) → Some rs ≡ items_in r → raw_part r i ≡ raw_nth rs i
-part_of_items (raw_tuple qs) rs i e = ap (λ ps. raw_nth ps i) (let same : rs ≡ qs = cc (e) in sym same)
-part_of_items r rs i e = absurd (cc (e))
-
-pub part_there : (r : Raw) (vs : List (Option ScalarValue)) (i : ℕ) (v : Option ScalarValue) (o : Option (Bor ScalarValue)) → Some (raws_in vs) ≡ items_in r → i < length vs → v ≡ get_or vs i v → option_copied o ≡ v → raw_at o ≡ raw_part r i
-part_there r vs i v o e l is c = raw_at-copied o ∙ ap raw_in c ∙ nth_there vs i v is l ∙ sym (part_of_items r (raws_in vs) i e)
-
-pub part_past : (r : Raw) (vs : List (Option ScalarValue)) (i : ℕ) → Some (raws_in vs) ≡ items_in r → length vs ≤ i → raw_null ≡ raw_part r i
-part_past r vs i e l = nth_past vs i l ∙ sym (part_of_items r (raws_in vs) i e)
-
-pub no_parts : (r : Raw) (i : ℕ) → None ≡ items_in r → raw_null ≡ raw_part r i
-no_parts (raw_tuple rs) i e = absurd (cc (e))
-no_parts r i e = refl
-
-pub ruleset parts = (part_there, part_past, no_parts)
 
 -- The field of a constant record.
 both_true : (a b : Bool) → (a && b) ≡ true → (a ≡ true) × (b ≡ true)

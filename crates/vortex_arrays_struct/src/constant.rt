@@ -39,13 +39,8 @@ pub(crate) fn field_of_constant(scalar: &Scalar, name: &FieldName) -> Result<Sca
 }
 
 /// What a record has at a place, and null of null.
-#[tactic(auto, using(crate::proofs::Constants::parts))]
 fn value_at(value: Option<&ScalarValue>, place: usize) -> Option<&ScalarValue>
     ensures { raw_at result ≡ raw_part (raw_at value.entry) place }
 {
-    let values = value?.as_list()?;
-    if place >= values.len() {
-        return None;
-    }
-    values[place].as_ref()
+    value?.child_at(place)
 }

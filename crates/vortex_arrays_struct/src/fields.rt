@@ -8,10 +8,10 @@ ghost use Rattle.vortex_arrays_model.specs.Parts.{columns_of};
 ghost use Rattle.vortex_arrays_core.specs.LayoutOf.{valid_of};
 ghost use Rattle.vortex_arrays_struct.specs.Records.{columns_in, validity_in, names_in, arrays_in};
 
-use crate::struct_array::StructArray;
+use crate::struct_array::{StructArray, parts_of};
 use std::alloc::AllocError;
 use std::rc::Rc;
-use vortex_arrays_core::array::{ArrayLayout, ArrayRef, Validity};
+use vortex_arrays_core::array::{ArrayRef, Validity};
 use vortex_dtype_core::struct_fields::StructFields;
 use vortex_dtype_ptype::field_names::FieldNames;
 use vortex_dtype_ptype::nullability::Nullability;
@@ -23,16 +23,10 @@ impl StructArray {
         ensures parts { self.now ≡ records (columns_of result.0.now.value result.1.now)
             (len_of self.now) (valid_of result.2.now) }
     {
-        match self.array.layout() {
-            ArrayLayout::Struct(names, fields, _, validity) => (names, fields.as_slice(), validity),
-            ArrayLayout::Bool(_, _) => unreachable!(),
-            ArrayLayout::Primitive(_, _) => unreachable!(),
-            ArrayLayout::VarBinView(_, _, _, _) => unreachable!(),
-            ArrayLayout::Constant(_, _) => unreachable!(),
-            ArrayLayout::Dict(_, _, _) => unreachable!(),
-            ArrayLayout::FixedSizeList(_, _, _, _) => unreachable!(),
-            ArrayLayout::ListView(_, _, _, _, _) => unreachable!(),
-        }
+        let Some(parts) = parts_of(&self.array) else {
+            unreachable!()
+        };
+        parts
     }
 
     /// The names of the fields.

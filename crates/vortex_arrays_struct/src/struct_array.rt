@@ -1,5 +1,5 @@
 //! Records with a type of their own.
-ghost use Rattle.std.specs.Prelude.{◌≡◌, ◌==◌, length, IfOk, IfErr, OnOk};
+ghost use Rattle.std.specs.Prelude.{◌≡◌, ◌==◌, length, IfOk, IfErr, IfSome, OnOk, MatchOption};
 ghost use Rattle.vortex_dtype_core.specs.View.{type_of};
 ghost use Rattle.vortex_arrays_model.specs.Layout.{
   IsSound,
@@ -101,17 +101,7 @@ impl StructArray {
         ensures back { IfErr result (λ same. same ≡ array) }
         ensures others { IfErr result (λ _. ¬ AreRecords array) }
     {
-        let is_struct = match array.layout() {
-            ArrayLayout::Struct(_, _, _, _) => true,
-            ArrayLayout::Bool(_, _) => false,
-            ArrayLayout::Primitive(_, _) => false,
-            ArrayLayout::VarBinView(_, _, _, _) => false,
-            ArrayLayout::Constant(_, _) => false,
-            ArrayLayout::Dict(_, _, _) => false,
-            ArrayLayout::FixedSizeList(_, _, _, _) => false,
-            ArrayLayout::ListView(_, _, _, _, _) => false,
-        };
-        if is_struct {
+        if parts_of(&array).is_some() {
             Ok(StructArray { array })
         } else {
             Err(array)
@@ -160,5 +150,22 @@ impl Clone for StructArray {
     fn clone(&self) -> Result<StructArray, AllocError> {
         let array = self.array.clone()?;
         Ok(StructArray { array })
+    }
+}
+
+// The names, of which there are as many as fields, the fields and the validity, where the array is
+// one of records.
+pub(crate) fn parts_of(array: &ArrayRef) -> Option<(&Rc<FieldNames>, &[ArrayRef], &Validity)>
+    ensures named { IfSome result (λ parts. length parts.0.now.value ≡ length parts.1.now) }
+    ensures parts { MatchOption result
+        (¬ AreRecords array.now)
+        (λ parts. array.now ≡ records (columns_of parts.0.now.value parts.1.now) (len_of array.now)
+        (valid_of parts.2.now)) }
+{
+    match array.layout() {
+        ArrayLayout::Struct(names, fields, _, validity) => {
+            Some((names, fields.as_slice(), validity))
+        }
+        _ => None,
     }
 }

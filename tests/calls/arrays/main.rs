@@ -7,6 +7,7 @@ mod buffers;
 mod checks;
 mod rebuilt;
 mod rows;
+mod validities;
 mod views;
 
 use crate::checks::Checks;
@@ -25,6 +26,8 @@ fn run(alloc: Global, checks: &mut Checks<'_>) -> Result<(), DTypeError> {
     checks.end_part("arrays have their rows");
     rebuilt::run(alloc, checks)?;
     checks.end_part("list views are rebuilt");
+    validities::run(alloc, checks)?;
+    checks.end_part("validities say which rows are null");
     Ok(())
 }
 

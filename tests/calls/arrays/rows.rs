@@ -28,7 +28,7 @@ pub fn run(alloc: Global, checks: &mut Checks<'_>) -> Result<(), DTypeError> {
 }
 
 /// The answer. A refusal that is not for want of memory makes the program wrong.
-fn answered<T: Drop>(answer: Result<T, ArrayError>) -> Result<T, DTypeError> {
+pub fn answered<T: Drop>(answer: Result<T, ArrayError>) -> Result<T, DTypeError> {
     match answer {
         Ok(answer) => Ok(answer),
         Err(ArrayError::Memory) => Err(DTypeError::Memory),

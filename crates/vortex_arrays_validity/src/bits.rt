@@ -1,0 +1,108 @@
+//! Arrays of truth values without null, read and made as packed bits.
+ghost use Rattle.std.specs.Prelude.{◌≡◌, ◌<◌, ◌↔◌, ℕ, length, IsTrue, IfOk};
+ghost use Rattle.vortex_model.specs.LogicalType.{nullable};
+ghost use Rattle.vortex_arrays_model.specs.Layout.{bools, required, by_array, len_of, nullability_by, is_valid, HasLength};
+ghost use Rattle.vortex_arrays_core.specs.LayoutOf.{valid_of};
+ghost use Rattle.vortex_arrays_validity.specs.Validities.{valid_rows, IsInverse, NoneNull};
+
+use std::alloc::{AllocError, Global};
+use vortex_arrays_buffer::{BitBuffer, Mask};
+use vortex_arrays_core::array::{ArrayLayout, ArrayRef, Validity};
+
+/// An array of these truth values, none of which can be null.
+pub fn array_of_rows(alloc: Global, bits: BitBuffer) -> Result<ArrayRef, AllocError>
+    ensures { IfOk result (λ a. a ≡ bools bits required) }
+{
+    ArrayRef::of_bools(alloc, bits, Validity::NonNullable)
+}
+
+/// The rows are null whose bit is false.
+pub fn of_bits(alloc: Global, bits: BitBuffer) -> Result<Validity, AllocError>
+    ensures { IfOk result (λ v. valid_of v ≡ by_array (bools bits required)) }
+{
+    let rows = array_of_rows(alloc, bits)?;
+    Ok(Validity::Array(rows))
+}
+
+/// A bit for each row of an array of truth values without null. Packed bits are shared.
+#[tactic(auto, using(crate::proofs::Rows::packed))]
+pub fn bits_of(alloc: Global, rows: &ArrayRef) -> Result<BitBuffer, AllocError>
+    requires { HasLength (by_array rows.now) (len_of rows.now) }
+    ensures { IfOk result (λ bits. bits ≡ valid_rows (by_array rows.now) (len_of rows.now)) }
+{
+    match rows.layout() {
+        ArrayLayout::Bool(bits, _) => bits.clone(),
+        ArrayLayout::Primitive(_, _) => collected(alloc, rows),
+        ArrayLayout::VarBinView(_, _, _, _) => collected(alloc, rows),
+        ArrayLayout::Constant(_, _) => collected(alloc, rows),
+        ArrayLayout::Dict(_, _, _) => collected(alloc, rows),
+        ArrayLayout::FixedSizeList(_, _, _, _) => collected(alloc, rows),
+        ArrayLayout::ListView(_, _, _, _, _) => collected(alloc, rows),
+        ArrayLayout::Struct(_, _, _, _) => collected(alloc, rows),
+    }
+}
+
+/// The same by a look at each row.
+fn collected(alloc: Global, rows: &ArrayRef) -> Result<BitBuffer, AllocError>
+    ensures { IfOk result (λ bits. bits ≡ valid_rows (by_array rows.now) (len_of rows.now)) }
+{
+    let bits = BitBuffer::collect_bool(alloc, rows.len(), |i| rows.truth(i))?;
+    Ok(bits)
+}
+
+/// Whether each row is true, of an array of truth values without null.
+pub fn are_true(rows: &ArrayRef) -> bool
+    ensures { IsTrue result ↔ NoneNull (by_array rows.now) (len_of rows.now) }
+{
+    for i in 0..rows.len() {
+        if !rows.truth(i) {
+            return false;
+        }
+    }
+    true
+}
+
+/// Whether the same rows are null.
+pub fn same_rows(mine: &Validity, theirs: &Validity, len: usize) -> bool
+    requires mine { HasLength (valid_of mine.now) len }
+    requires theirs { HasLength (valid_of theirs.now) len }
+    ensures { IsTrue result
+        ↔ ((i : ℕ) → i < len → is_valid (valid_of mine.now) i ≡ is_valid (valid_of theirs.now) i) }
+{
+    for i in 0..len {
+        if mine.is_valid(i, len) != theirs.is_valid(i, len) {
+            return false;
+        }
+    }
+    true
+}
+
+/// Null where a row is not, and not where it is.
+#[tactic(auto, using(crate::proofs::Rows::inverted))]
+pub fn inverse(alloc: Global, rows: &ArrayRef) -> Result<Validity, AllocError>
+    requires { HasLength (by_array rows.now) (len_of rows.now) }
+    ensures { IfOk result (λ v. IsInverse (by_array rows.now) (valid_of v) (len_of rows.now)) }
+{
+    let bits = bits_of(alloc, rows)?;
+    let other = bits.not(alloc)?;
+    let made = of_bits(alloc, other)?;
+    Ok(made)
+}
+
+/// The rows are null that the mask doesn't keep. One value for all needs no array.
+#[tactic(auto, using(crate::proofs::Rows::rows))]
+pub fn of_rows(alloc: Global, mask: Mask) -> Result<Validity, AllocError>
+    ensures fits { IfOk result (λ v. HasLength (valid_of v) (length mask)) }
+    ensures nullability { IfOk result (λ v. nullability_by (valid_of v) ≡ nullable) }
+    ensures rows { IfOk result (λ v. valid_rows (valid_of v) (length mask) ≡ mask) }
+{
+    if mask.all_true() {
+        return Ok(Validity::AllValid);
+    }
+    if mask.all_false() {
+        return Ok(Validity::AllInvalid);
+    }
+    let bits = mask.bit_buffer().clone()?;
+    let made = of_bits(alloc, bits)?;
+    Ok(made)
+}
