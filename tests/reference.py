@@ -30,6 +30,7 @@ NAMES = {
     4: "RepeatedName",
     5: "InvalidValue",
     6: "NotConvertible",
+    8: "NoSuchGroup",
     9: "UnknownPath",
     10: "ElementStep",
     12: "UnknownColumn",
@@ -267,13 +268,26 @@ def read_command(line):
         need(isinstance(value["rows"], list))
         dtype = read_type(value["dtype"])
         return ("append", dtype, [row_reading(row, dtype) for row in value["rows"]])
+    if value.get("cmd") == "join":
+        keys(value, ["cmd", "group"])
+        need(is_number(value["group"]) and value["group"] >= 0)
+        return ("join", value["group"])
+    if value.get("cmd") == "describe":
+        keys(value, ["cmd", "group", "path"])
+        need(is_number(value["group"]) and value["group"] >= 0)
+        return ("describe", read_path(value["path"]), value["group"])
     need(value.get("cmd") == "scan")
     keys(value, ["cmd", "paths", "where"])
     need(isinstance(value["paths"], list))
     return ("scan", list(map(read_path, value["paths"])), read_predicate(value["where"]))
 
 
-# ---- the table: a type, a bound length and a list of chunks, each a list of rows
+# ---- the table: a type, a bound length, and a list of groups, each a chunk or the pair of those
+# that were joined. A chunk is a list of rows.
+
+
+def chunks_in(group):
+    return chunks_in(group[0]) + chunks_in(group[1]) if isinstance(group, tuple) else [group]
 
 
 def check_part(dtype):
@@ -304,7 +318,7 @@ def append(table, dtype, rows):
         if not is_content(row, table["dtype"]):
             raise Refused(6, i)
     if rows:
-        table["chunks"].append(rows)
+        table["groups"].append(rows)
 
 
 def check_path(dtype, path, at):
@@ -315,6 +329,12 @@ def check_path(dtype, path, at):
         if not parts:
             raise Refused(9, at)
         dtype = parts[0]
+
+
+def part_at(dtype, path):
+    for step in path:
+        dtype = next(part for name, part in dtype[1] if name == step)
+    return dtype
 
 
 def operand_type(dtype, operand):
@@ -388,28 +408,89 @@ def high(value, length):
     return None
 
 
-def bounds_of(operand, values, length):
-    """What is known of an operand's values: the low of the least and the high of the greatest that
-    isn't null. A literal is its own."""
-    values = [value for value in values if value is not None]
-    if not values:
-        return (None, None)
+# ---- what is known of a column of a chunk and of a group: pairs of "exact" or "inexact" and a
+# value, or None
+
+
+def bound(value, of, length):
+    """A value's low or high, which is exact where the value is short."""
+    short = not isinstance(value, (bytes, str)) or len(in_order(value)) <= length
+    made = of(value, length)
+    return None if made is None else ("exact" if short else "inexact", made)
+
+
+# The type of the sum of a type's values.
+SUMS = {kind: "i64" if kind[0] == "i" else "u64" for kind in ("bool", *RANGES)}
+
+
+def fitting(kind, total):
+    """The sum of a column of this kind, where the sum's type holds it."""
+    return ("exact", total) if is_between(total, *RANGES[SUMS[kind]]) else None
+
+
+def zone_of(kind, values, length):
+    """What is known of a chunk's values."""
+    there = [value for value in values if value is not None]
+    return {
+        "min": bound(min(there, key=in_order), low, length) if there else None,
+        "max": bound(max(there, key=in_order), high, length) if there else None,
+        "null_count": ("exact", len(values) - len(there)),
+        "sum": fitting(kind, sum(map(int, there))) if kind in SUMS else None,
+        "constant": ("exact", all(value == values[0] for value in values)),
+    }
+
+
+def picked(pick, bounds):
+    """The least or the greatest of bounds that are all there: exact where an exact one is it."""
+    if None in bounds:
+        return None
+    value = pick((value for _, value in bounds), key=in_order)
+    return ("exact" if ("exact", value) in bounds else "inexact", value)
+
+
+def joined(kind, left, right):
+    """What is known of two neighbours as one. Two constant ones are one value where their bounds
+    from below are exact and equal."""
+    either = lambda key: [left[key], right[key]]
+    sums, constants = either("sum"), either("constant")
+    constant = None
+    if ("exact", False) in constants:
+        constant = ("exact", False)
+    elif None not in constants and all(low and low[0] == "exact" for low in either("min")):
+        constant = ("exact", left["min"] == right["min"])
+    return {
+        "min": picked(min, either("min")),
+        "max": picked(max, either("max")),
+        "null_count": ("exact", left["null_count"][1] + right["null_count"][1]),
+        "sum": None if None in sums else fitting(kind, sums[0][1] + sums[1][1]),
+        "constant": constant,
+    }
+
+
+def zone(table, path, group):
+    """What is known of a leaf column of a group, as its chunks were joined."""
+    kind = part_at(table["dtype"], path)[0]
+    if isinstance(group, tuple):
+        return joined(kind, *(zone(table, path, part) for part in group))
+    values = [operand_value(table["dtype"], ("col", path), row) for row in group]
+    return zone_of(kind, values, table["length"])
+
+
+def bounds_of(table, operand, group):
+    """The bounds of an operand's values. A literal is its own."""
     if operand[0] == "lit":
         return (operand[2], operand[2])
-    return (low(min(values, key=in_order), length), high(max(values, key=in_order), length))
+    known = zone(table, operand[1], group)
+    return tuple(it and it[1] for it in (known["min"], known["max"]))
 
 
-def is_hopeless(dtype, predicate, chunk, length):
-    """Whether the bounds of the two sides alone tell that no row satisfies the comparison. One with
-    a bound that isn't there tells nothing, and of a truth value there
-    is no proof."""
+def is_hopeless(table, predicate, group):
+    """Whether the bounds of the two sides alone tell that no row of a chunk, or of a group,
+    satisfies the comparison. One with a bound that isn't there tells nothing, and of a truth value
+    there is no proof."""
     if predicate[0] not in TESTS:
         return False
-    sides = [
-        bounds_of(operand, [operand_value(dtype, operand, row) for row in chunk], length)
-        for operand in predicate[1:]
-    ]
-    (a, b), (c, d) = sides
+    (a, b), (c, d) = (bounds_of(table, operand, group) for operand in predicate[1:])
     tells = lambda op, x, y: x is not None and y is not None and TESTS[op](in_order(x), in_order(y))
     return {
         "=": tells(">", a, d) or tells(">", c, b),
@@ -464,24 +545,50 @@ def scan(table, paths, predicate):
     for at, path in enumerate(paths):
         check_path(dtype, path, at)
     check_predicate(dtype, predicate)
-    rows, skipped, tested = [], [], 0
-    for number, chunk in enumerate(table["chunks"]):
-        if is_hopeless(dtype, predicate, chunk, table["length"]):
-            skipped.append(number)
-        else:
-            tested += len(chunk)
-        for row in chunk:
-            if is_selected(dtype, predicate, row):
-                rows.append(row_json(cut_row(dtype, row, paths, [])))
+    rows, skipped, tested, tried, number = [], [], 0, 0, 0
+    for group in table["groups"]:
+        chunks = chunks_in(group)
+        many = len(chunks) > 1
+        whole_group = many and is_hopeless(table, predicate, group)
+        tried += many + (0 if whole_group else len(chunks))
+        for chunk in chunks:
+            if whole_group or is_hopeless(table, predicate, chunk):
+                skipped.append(number)
+            else:
+                tested += len(chunk)
+            number += 1
+            for row in chunk:
+                if is_selected(dtype, predicate, row):
+                    rows.append(row_json(cut_row(dtype, row, paths, [])))
     return {
         "dtype": type_json(cut_type(dtype, paths, [])),
         "ok": True,
-        "proofs": len(table["chunks"]) if predicate[0] in TESTS else 0,
+        "proofs": tried if predicate[0] in TESTS else 0,
         "rows": rows,
         "rows_tested": tested,
         "skipped": skipped,
         "whole": [],
     }
+
+
+def join(table, at):
+    groups = table["groups"]
+    if at + 1 >= len(groups):
+        raise Refused(8)
+    groups[at : at + 2] = [(groups[at], groups[at + 1])]
+
+
+def describe(table, path, at):
+    check_path(table["dtype"], path, 0)
+    if part_at(table["dtype"], path)[0] == "struct":
+        raise Refused(13)
+    if at >= len(table["groups"]):
+        raise Refused(8)
+    known = zone(table, path, table["groups"][at])
+    texts = {
+        key: ["absent"] if it is None else [it[0], row_json(it[1])] for key, it in known.items()
+    }
+    return dict(sorted({**texts, "ok": True}.items()))
 
 
 def type_json(dtype):
@@ -516,13 +623,18 @@ class Session:
             command = read_command(line)
             if command[0] == "create":
                 check_type(command[1])
-                self.table = {"dtype": command[1], "length": command[2], "chunks": []}
+                self.table = {"dtype": command[1], "length": command[2], "groups": []}
                 return compact({"ok": True})
             if self.table is None:
                 raise Refused(19)
             if command[0] == "append":
                 append(self.table, *command[1:])
                 return compact({"ok": True})
+            if command[0] == "join":
+                join(self.table, *command[1:])
+                return compact({"ok": True})
+            if command[0] == "describe":
+                return compact(describe(self.table, *command[1:]))
             return compact(scan(self.table, *command[1:]))
         except Refused as refused:
             place = {} if refused.at is None else {"at": refused.at}
@@ -769,10 +881,25 @@ def random_scan(chance, dtype):
     return {"cmd": "scan", "paths": paths, "where": where}
 
 
+def random_group(chance, groups):
+    """The number of a group, where there are so many."""
+    if chance.random() < 0.05:
+        return chance.choice([max(groups, 0), groups + 2, 2**64 - 1])
+    return chance.randint(0, max(groups - 1, 0))
+
+
+def random_description(chance, dtype, groups):
+    paths = [path for path, part in parts_of(dtype, []) if part["kind"] != "struct"]
+    path = chance.choice(paths) if paths and chance.random() < 0.95 else []
+    if chance.random() < 0.05:
+        path = chance.choice([path + ["zz"], path + [None], ["zz"], path[:-1]])
+    return {"cmd": "describe", "path": path, "group": random_group(chance, groups)}
+
+
 def random_session(chance):
-    dtype, lines = {"kind": "struct", "names": [], "children": []}, []
+    dtype, lines, session = {"kind": "struct", "names": [], "children": []}, [], Session()
     for _ in range(chance.randint(5, 40)):
-        roll = chance.random()
+        roll, groups = chance.random(), len(session.table["groups"]) if session.table else 0
         if roll < 0.08 or not lines:
             dtype = random_type(chance, chance.randint(0, 4))
             lines.append(
@@ -782,13 +909,18 @@ def random_session(chance):
                     "length": chance.choice([0, 1, 2, 3, 4, 5, 16, 2**64 - 1]),
                 }
             )
-        elif roll < 0.5:
+        elif roll < 0.45:
             batch = dtype if chance.random() < 0.6 else alike(chance, dtype)
             if chance.random() < 0.05:
                 batch = random_type(chance, len(dtype["names"]))
             lines.append({"cmd": "append", "dtype": batch, "rows": random_rows(chance, batch)})
+        elif roll < 0.6:
+            lines.append({"cmd": "join", "group": random_group(chance, groups - 1)})
+        elif roll < 0.75:
+            lines.append(random_description(chance, dtype, groups))
         else:
             lines.append(random_scan(chance, dtype))
+        session.answer(json.dumps(lines[-1]).encode())
     return "".join(
         json.dumps(line, ensure_ascii=chance.random() < 0.5) + "\n" for line in lines
     ).encode()

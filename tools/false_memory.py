@@ -30,6 +30,9 @@ EXCEPTIONS = {
     ("Session::answer_scan", "write_found(alloc,&answer,out) is Err(_)"): (
         "the call's only error is AllocError"
     ),
+    ("Session::answer_describe", "write_described(&description,out) is Err(_)"): (
+        "the call's only error is AllocError"
+    ),
     ("decide", "buffer.whole() is None"): "a line is lost only where there was no memory for it",
     ("MemorySink::write", "self.bytes.extend_from_slice(&buf[..n]).is_err()"): (
         "the call's only error is AllocError"

@@ -5,7 +5,7 @@ mod Counts
 mod DefinitionExamples
 mod Exact
 mod Examples
-mod Joined
+pub mod Joined
 pub mod Liked
 pub mod Members
 mod Retyping

@@ -1,19 +1,17 @@
--- Faults of predicates, arm by arm, and what a bound predicate says.
-use Rattle.std.proofs.Common.{◌≡◌, ◌≢◌, Option, Some, None, Result, Ok, Err, Bool, true, false, not, ◌&&◌, refl, sym, ap, ◌∙◌, subst}
+-- Faults of predicates, arm by arm.
+use Rattle.std.proofs.Common.{◌≡◌, ◌≢◌, Option, Some, None, Result, Ok, Err, Bool, true, false, ◌&&◌, refl, sym, ap, ◌∙◌, subst}
 use Rattle.vortex_model.specs.LogicalType.{LogicalType, boolean_type, integer_type, float, decimal, utf8, binary, nullable, eq_int_kind, IntKind, u8, u16, u32, u64, i8, i16, i32, i64}
-use Rattle.vortex_model.specs.Content.{Content, null, boolean, is_null as is_null_content}
+use Rattle.vortex_model.specs.Content.{Content}
 use Rattle.vortex_model.specs.Refusal.{Refusal, or_else, not_boolean, unequal_types, not_a_leaf, unsupported_predicate}
-use Rattle.vortex_model.specs.Path.{Names, Positions, at, positions, type_of_column}
-use Rattle.vortex_model.specs.Expression.{Expression, literal, column, compare, both, either, negation, is_null, is_not_null, is_nan, between, like, row_count, statistic, Comparison}
+use Rattle.vortex_model.specs.Path.{Names, type_of_column}
+use Rattle.vortex_model.specs.Expression.{Expression, literal, column, compare, both, either, Comparison}
 use Rattle.vortex_model.specs.Typing.{expression_type, has_bounds}
-use Rattle.vortex_model.specs.Truth.{compared, kleene_and, kleene_or, kleene_not, value_at, liked, end_of}
 use Rattle.vortex_model.specs.Command.{expression_fault, predicate_fault, column_fault, unless, eq_optional_type, is_boolean}
 use Rattle.vortex_model.specs.Kept.{is_leaf}
 use Rattle.vortex_dtype_ptype.specs.Numbers.{NumberKind, integral}
 use Rattle.vortex_dtype_ptype.specs.View.{number_kind_of}
 use Rattle.vortex_dtype_ptype.specs.declared.ptype.PType.{PType}
 use Rattle.vortex_dtype_ptype.specs.declared.ptype.PType.TheVariants as ptype
-use Rattle.vortex_stats_expr.specs.Bound.{Bound, bound_value, bound_of, bound_column}
 use Rattle.vortex_stats_expr.specs.Faults.{IsReason, IsChecked, IsSameOf, refusal_of, truths_of}
 use Rattle.vortex_stats_expr.specs.Types.{IsOfLeaf, IsOfClass, IsClass, IsLeaf}
 use Rattle.vortex_stats_expr.specs.declared.bind.PredicateError.{PredicateError}
@@ -21,6 +19,7 @@ use Rattle.vortex_stats_expr.specs.declared.bind.PredicateError.TheVariants as e
 use Rattle.vortex_stats_expr.specs.declared.types.Leaf.{Leaf}
 use Rattle.vortex_stats_expr.specs.declared.types.Leaf.TheVariants as leaf
 use Rattle.vortex_stats_expr.specs.declared.types.TypeClass.TheVariants as class
+use Rattle.vortex_stats_expr.proofs.BoundValues.{bound_says}
 
 -- ---- leaves
 
@@ -238,31 +237,5 @@ bytes_no_truth k e h = whole_fault k e leaf.Binary h
 
 pub fault_inside : (k : LogicalType) (e : Expression) (r : PredicateError) → IsChecked k e (Err r) → IsReason r (predicate_fault k e)
 fault_inside k e r h = first_reason r (expression_fault k e) (unless (is_boolean (expression_type k e)) not_boolean) h
-
-bound_value-place : (k : LogicalType) (xs : Names) (o : Option Positions) (row : Content) →
-    bound_value (bound_column o) row ≡ elim o [ None ↦ null | Some is ↦ at row is ]
-bound_value-place k xs None row = refl
-bound_value-place k xs (Some is) row = refl
-
--- a bound predicate has the value of the predicate
-pub bound_value-bound_of : (k : LogicalType) (e : Expression) (row : Content) → bound_value (bound_of k e) row ≡ value_at k e row
-bound_value-bound_of k (literal l c) row = refl
-bound_value-bound_of k (column xs) row = bound_value-place k xs (positions k xs) row
-bound_value-bound_of k (compare o x y) row = λ i. compared o (bound_value-bound_of k x row i) (bound_value-bound_of k y row i)
-bound_value-bound_of k (both x y) row = λ i. kleene_and (bound_value-bound_of k x row i) (bound_value-bound_of k y row i)
-bound_value-bound_of k (either x y) row = λ i. kleene_or (bound_value-bound_of k x row i) (bound_value-bound_of k y row i)
-bound_value-bound_of k (negation x) row = ap kleene_not (bound_value-bound_of k x row)
-bound_value-bound_of k (is_null x) row = ap (λ c. boolean (is_null_content c)) (bound_value-bound_of k x row)
-bound_value-bound_of k (is_not_null x) row = ap (λ c. boolean (not (is_null_content c))) (bound_value-bound_of k x row)
-bound_value-bound_of k (is_nan x) row = refl
-bound_value-bound_of k (between x lo hi s t) row =
-    λ i. kleene_and (compared (end_of s) (bound_value-bound_of k lo row i) (bound_value-bound_of k x row i)) (compared (end_of t) (bound_value-bound_of k x row i) (bound_value-bound_of k hi row i))
-bound_value-bound_of k (like x form n true) row = refl
-bound_value-bound_of k (like x form n false) row = λ i. liked (bound_value-bound_of k x row i) (bound_value-bound_of k form row i) n
-bound_value-bound_of k row_count row = refl
-bound_value-bound_of k (statistic x a) row = refl
-
-pub bound_says : (k : LogicalType) (e : Expression) (b : Bound) (row : Content) → b ≡ bound_of k e → bound_value b row ≡ value_at k e row
-bound_says k e b row p = ap (λ b. bound_value b row) p ∙ bound_value-bound_of k e row
 
 pub ruleset binding = (faultless, no_truth, text_no_truth, bytes_no_truth, fault_inside, bound_says)

@@ -1,3 +1,4 @@
+mod BoundValues
 pub mod Checks
 pub mod Classes
 mod FormedLiterals

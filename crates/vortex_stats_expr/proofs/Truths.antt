@@ -1,15 +1,16 @@
 -- The truth values among operands.
-use Rattle.std.proofs.Common.{◌≡◌, refl, sym, ap, ◌∙◌, Bool, true, false, Option, Some, None}
+use Rattle.std.proofs.Common.{◌≡◌, refl, sym, ap, ◌∙◌, ℕ, pos, Bool, true, false, Option, Some, None}
 use Rattle.std.specs.Option.{unwrap_or}
-use Rattle.vortex_model.specs.Content.{Content, content_of, null, boolean, is_null, Raw, raw_boolean}
+use Rattle.vortex_model.specs.Content.{Content, content_of, null, boolean, integer, is_null, Raw, raw_boolean}
 use Rattle.vortex_model.specs.Order.{content_cmp}
 use Rattle.vortex_model.specs.Truth.{kleene_and, kleene_or, is_true}
 use Rattle.vortex_scalar_value.specs.Parts.{boolean_in as raw_truth_in}
 use Rattle.vortex_scalar_value.specs.View.{raw_of}
+use Rattle.vortex_scalar_value.specs.declared.pvalue.PValue.TheVariants as number
 use Rattle.vortex_scalar_value.specs.declared.scalar_value.ScalarValue.{ScalarValue}
 use Rattle.vortex_scalar_value.specs.declared.scalar_value.ScalarValue.TheVariants as value
 use Rattle.vortex_scalar_value.proofs.Nulls.{is_null-raw_of}
-use Rattle.vortex_scalar_value.proofs.Views.{raw_of-Bool}
+use Rattle.vortex_scalar_value.proofs.Views.{raw_of-Bool, raw_of-Primitive}
 use Rattle.vortex_stats_expr.specs.OperandValue.{boolean_in, order_of}
 
 -- the truth value that a value is, is what it says
@@ -43,7 +44,17 @@ truth_left b c = ap (λ d. order_of d c) (truth_is b)
 pub truth_right : (v : ScalarValue) (b : Bool) → order_of (content_of (raw_of v)) (boolean b) ≡ content_cmp (content_of (raw_of v)) (content_of (raw_of (value.Bool b)))
 truth_right v b = ap (λ d. order_of (content_of (raw_of v)) d) (truth_is b) ∙ both_stored v (value.Bool b)
 
-pub ruleset orders = (none_right, truth_left, truth_right, both_stored)
+-- a count is what a number of it says
+count_is : (n : ℕ) → integer (pos n) ≡ content_of (raw_of (value.Primitive (number.U64 n)))
+count_is n = sym (ap content_of (raw_of-Primitive (number.U64 n)))
+
+pub count_left : (n : ℕ) (c : Content) → order_of (integer (pos n)) c ≡ order_of (content_of (raw_of (value.Primitive (number.U64 n)))) c
+count_left n c = ap (λ d. order_of d c) (count_is n)
+
+pub count_right : (v : ScalarValue) (n : ℕ) → order_of (content_of (raw_of v)) (integer (pos n)) ≡ content_cmp (content_of (raw_of v)) (content_of (raw_of (value.Primitive (number.U64 n))))
+count_right v n = ap (λ d. order_of (content_of (raw_of v)) d) (count_is n) ∙ both_stored v (value.Primitive (number.U64 n))
+
+pub ruleset orders = (none_right, truth_left, truth_right, count_left, count_right, both_stored)
 
 -- ---- Kleene's connectives
 

@@ -1,12 +1,13 @@
--- A predicate whose columns are resolved to positions, and its value at a row.
-use Rattle.std.specs.Prelude.{ℕ, ◌+◌, Bool, true, false, not, Option, Some, None}
+-- Predicates and proofs whose columns are resolved to positions, and their values.
+use Rattle.std.specs.Prelude.{ℕ, ◌+◌, Bool, true, false, not, ◌||◌, Option, Some, None}
 use Rattle.vortex_model.specs.LogicalType.{LogicalType}
 use Rattle.vortex_model.specs.Content.{Content, null, boolean, integer, is_null as is_null_content}
 use Rattle.vortex_model.specs.Path.{Positions, positions, at}
-use Rattle.vortex_model.specs.Truth.{compared, kleene_and, kleene_or, kleene_not, end_of, liked}
-use Rattle.vortex_model.specs.Expression.{Expression, literal, column, compare, both, either, negation, is_null, is_not_null, is_nan, between, like, row_count, statistic, Comparison}
+use Rattle.vortex_model.specs.Truth.{Given, compared, kleene_and, kleene_or, kleene_not, end_of, liked}
+use Rattle.vortex_model.specs.Expression.{Expression, literal, column, compare, both, either, negation, is_null, is_not_null, is_nan, between, like, row_count, statistic, Comparison, Aggregate}
 use Rattle.std.specs.Prelude.{pos}
 
+-- A placeholder asks for a statistic of the values of a bound expression.
 pub data Bound : Type 0 where
   fixed : Content → Bound
   place : Positions → Bound
@@ -18,28 +19,62 @@ pub data Bound : Type 0 where
   value_test : Bound → Bound
   range_test : Bound → Bound → Bound → Bool → Bool → Bound
   match_test : Bound → Bound → Bool → Bound
+  placeholder : Bound → Aggregate → Bound
+
+-- the positions of a column
+abbrev pub place_of : Bound → Option Positions
+place_of (place is) = Some is
+place_of b = None
+
+-- what the columns at positions are, and what placeholders stand for
+pub record Provided : Type 0 where
+  pub columns : Positions → Content
+  pub statistics : Bound → Aggregate → Content
+
+abbrev pub evaluate_bound : Provided → Bound → Content
+evaluate_bound p (fixed c) = c
+evaluate_bound p (place is) = p.columns is
+evaluate_bound p (test op x y) = compared op (evaluate_bound p x) (evaluate_bound p y)
+evaluate_bound p (each x y) = kleene_and (evaluate_bound p x) (evaluate_bound p y)
+evaluate_bound p (some x y) = kleene_or (evaluate_bound p x) (evaluate_bound p y)
+evaluate_bound p (opposite x) = kleene_not (evaluate_bound p x)
+evaluate_bound p (null_test x) = boolean (is_null_content (evaluate_bound p x))
+evaluate_bound p (value_test x) = boolean (not (is_null_content (evaluate_bound p x)))
+evaluate_bound p (range_test x lo hi lower_strict upper_strict) =
+    kleene_and (compared (end_of lower_strict) (evaluate_bound p lo) (evaluate_bound p x))
+    (compared (end_of upper_strict) (evaluate_bound p x) (evaluate_bound p hi))
+evaluate_bound p (match_test x form negated) =
+    liked (evaluate_bound p x) (evaluate_bound p form) negated
+evaluate_bound p (placeholder x a) = p.statistics x a
+
+-- the columns of a row, where no placeholder is known
+abbrev pub in_row : Content → Provided
+in_row row = record { columns = at row; statistics = λ x a. null }
 
 -- the value at a row
 abbrev pub bound_value : Bound → Content → Content
-bound_value (fixed c) row = c
-bound_value (place is) row = at row is
-bound_value (test op x y) row = compared op (bound_value x row) (bound_value y row)
-bound_value (each x y) row = kleene_and (bound_value x row) (bound_value y row)
-bound_value (some x y) row = kleene_or (bound_value x row) (bound_value y row)
-bound_value (opposite x) row = kleene_not (bound_value x row)
-bound_value (null_test x) row = boolean (is_null_content (bound_value x row))
-bound_value (value_test x) row = boolean (not (is_null_content (bound_value x row)))
-bound_value (range_test x lo hi lower_strict upper_strict) row =
-    kleene_and (compared (end_of lower_strict) (bound_value lo row) (bound_value x row))
-    (compared (end_of upper_strict) (bound_value x row) (bound_value hi row))
-bound_value (match_test x form negated) row =
-    liked (bound_value x row) (bound_value form row) negated
+bound_value b row = evaluate_bound (in_row row) b
+
+-- it reads a column other than in a placeholder
+abbrev pub reads_places : Bound → Bool
+reads_places (fixed c) = false
+reads_places (place is) = true
+reads_places (test op x y) = reads_places x || reads_places y
+reads_places (each x y) = reads_places x || reads_places y
+reads_places (some x y) = reads_places x || reads_places y
+reads_places (opposite x) = reads_places x
+reads_places (null_test x) = reads_places x
+reads_places (value_test x) = reads_places x
+reads_places (range_test x lo hi lower_strict upper_strict) =
+    reads_places x || reads_places lo || reads_places hi
+reads_places (match_test x form negated) = reads_places x || reads_places form
+reads_places (placeholder x a) = false
 
 abbrev pub bound_column : Option Positions → Bound
 bound_column None = fixed null
 bound_column (Some is) = place is
 
--- a predicate over rows of this type, with its columns resolved
+-- a predicate or a proof over rows of this type, with its columns resolved
 abbrev pub bound_of : LogicalType → Expression → Bound
 bound_of k (literal l c) = fixed c
 bound_of k (column xs) = bound_column (positions k xs)
@@ -55,7 +90,33 @@ bound_of k (between x lo hi lower_strict upper_strict) =
 bound_of k (like x form negated true) = fixed null
 bound_of k (like x form negated false) = match_test (bound_of k x) (bound_of k form) negated
 bound_of k row_count = fixed (integer (pos 1))
-bound_of k (statistic x a) = fixed null
+bound_of k (statistic x a) = placeholder (bound_of k x) a
+
+-- What names stand for in rows of a type: a column what its positions do, and null where it leads
+-- nowhere; a placeholder what the one of its resolved input does.
+abbrev pub by_names : LogicalType → Provided → ℕ → Given
+by_names k p rows = record {
+  columns = λ xs. evaluate_bound p (bound_column (positions k xs));
+  placeholders = λ x a. p.statistics (bound_of k x) a;
+  rows = rows;
+}
+
+-- it asks for the number of rows other than in a placeholder
+abbrev pub counts_rows : Expression → Bool
+counts_rows (literal k c) = false
+counts_rows (column xs) = false
+counts_rows (compare op x y) = counts_rows x || counts_rows y
+counts_rows (both x y) = counts_rows x || counts_rows y
+counts_rows (either x y) = counts_rows x || counts_rows y
+counts_rows (negation x) = counts_rows x
+counts_rows (is_null x) = counts_rows x
+counts_rows (is_not_null x) = counts_rows x
+counts_rows (is_nan x) = counts_rows x
+counts_rows (between x lo hi lower_strict upper_strict) =
+    counts_rows x || counts_rows lo || counts_rows hi
+counts_rows (like x form negated ignores_case) = counts_rows x || counts_rows form
+counts_rows row_count = true
+counts_rows (statistic x a) = false
 
 abbrev pub bound_size : Bound → ℕ
 bound_size (test op x y) = bound_size x + bound_size y + 1
@@ -66,4 +127,5 @@ bound_size (null_test x) = bound_size x + 1
 bound_size (value_test x) = bound_size x + 1
 bound_size (range_test x lo hi s t) = bound_size x + bound_size lo + bound_size hi + 1
 bound_size (match_test x form n) = bound_size x + bound_size form + 1
+bound_size (placeholder x a) = bound_size x + 1
 bound_size b = 1

@@ -2,7 +2,7 @@
 use Rattle.std.specs.Prelude.{◌≤◌, max}
 use Rattle.std.proofs.Common.{arith}
 use Rattle.vortex_stats_expr.specs.declared.bound.BoundNode.{BoundNode}
-use Rattle.vortex_stats_expr.specs.declared.bound.BoundNode.TheVariants.{Literal, Column, Compare, And, Or}
+use Rattle.vortex_stats_expr.specs.declared.bound.BoundNode.TheVariants.{Literal, Column, Compare, And, Or, Stat}
 use Rattle.vortex_stats_expr.specs.declared.bound.BoundExpression.TheDeep.{deep-BoundNode}
 use Rattle.vortex_stats_expr.specs.Bound.{bound_size}
 use Rattle.vortex_stats_expr.specs.BoundTree.{bound_tree}
@@ -13,3 +13,4 @@ depth_le-size (Column is) = omega arith
 depth_le-size (Compare o x y) = omega arith
 depth_le-size (And x y) = omega arith
 depth_le-size (Or x y) = omega arith
+depth_le-size (Stat f x) = omega arith

@@ -6,6 +6,7 @@ pub mod ContentCode
 pub mod Faults
 pub mod KindCode
 pub mod OperandValue
+pub mod Stats
 pub mod Tree
 pub mod TreeCode
 pub mod TreeFalls

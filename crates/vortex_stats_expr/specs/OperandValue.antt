@@ -1,6 +1,6 @@
 -- What an operand says.
-use Rattle.std.specs.Prelude.{Bool, Option, Some, None}
-use Rattle.vortex_model.specs.Content.{Content, content_of, null, boolean}
+use Rattle.std.specs.Prelude.{pos, Bool, Option, Some, None}
+use Rattle.vortex_model.specs.Content.{Content, content_of, null, boolean, integer}
 use Rattle.std.specs.declared.cmp.Ordering.{Ordering}
 use Rattle.vortex_model.specs.Order.{content_cmp}
 use Rattle.vortex_scalar_value.specs.View.{raw_of}
@@ -10,6 +10,7 @@ use Rattle.vortex_stats_expr.specs.declared.value.Value.TheVariants as value
 abbrev pub operand_value : Value → Content
 operand_value value.Null = null
 operand_value (value.Truth b) = boolean b
+operand_value (value.Count n) = integer (pos n)
 operand_value (value.Stored r) = content_of (raw_of r.now)
 
 -- null stands for neither true nor false

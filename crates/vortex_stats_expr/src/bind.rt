@@ -1,21 +1,24 @@
 //! Faults of predicates over rows of a type, and the resolution of column names to positions.
 //!
-//! `bind` is called once for a scan, so that no name is looked up while rows are tested.
-ghost use Rattle.std.specs.Prelude.{◌≡◌, IfOk, IfErr, OnOk, option_map, None, true};
+//! `bind` and `bind_proof` are called once for a scan, so that no name is looked up while rows are
+//! tested and chunks judged.
+ghost use Rattle.std.specs.Prelude.{◌≡◌, ℕ, IfOk, IfErr, OnOk, option_map, None, true, false};
 ghost use Rattle.vortex_model.specs.LogicalType.{LogicalType};
 ghost use Rattle.vortex_model.specs.Content.{Content};
 ghost use Rattle.vortex_model.specs.Expression.{literal, column, HasFormedLiterals};
 ghost use Rattle.vortex_model.specs.Path.{positions};
-ghost use Rattle.vortex_model.specs.Truth.{value_at};
+ghost use Rattle.vortex_model.specs.Truth.{evaluate, value_at};
 ghost use Rattle.vortex_model.specs.Valid.{IsContent};
 ghost use Rattle.vortex_model.specs.Command.{predicate_fault};
 ghost use Rattle.vortex_model.specs.Pruning.{has_no_like};
 ghost use Rattle.vortex_dtype_core.specs.View.{type_of};
 ghost use Rattle.vortex_scalar_core.specs.Scalar.{scalar_type, scalar_content};
-ghost use Rattle.vortex_stats_expr.specs.Bound.{fixed, bound_value, bound_of, bound_column};
+ghost use Rattle.vortex_stats_expr.specs.Bound.{Provided, fixed, evaluate_bound, bound_value, bound_of, bound_column, by_names, counts_rows};
 ghost use Rattle.vortex_stats_expr.specs.Faults.{IsReason, IsChecked, IsSameOf, truths_of};
 
-use crate::bound::{BoundExpression, BoundNode, bound_and, bound_compare, bound_or};
+use crate::bound::{
+    BoundExpression, BoundNode, bound_and, bound_compare, bound_literal, bound_or, bound_stat,
+};
 use crate::expression::{Expression, Node};
 use crate::types::{Leaf, TypeClass, class_of, column_class, field_named};
 use std::alloc::{AllocError, AllocFailed, Global};
@@ -174,12 +177,27 @@ fn check_booleans(left: Leaf, right: Leaf) -> Result<Leaf, PredicateError>
     }
 }
 
-// Columns become positions. One that leads nowhere would read null, but `check` refuses it first.
+/// Resolves the columns of a proof over statistics of rows of this type, those of its placeholders
+/// too. A column that leads nowhere is null. The proof is copied, in time linear in its size.
+#[tactic(auto, using(crate::proofs::BoundValues::resolving))]
+pub fn bind_proof(
+    alloc: Global,
+    proof: &Expression,
+    dtype: &DType,
+) -> Result<BoundExpression, AllocError>
+    ensures { IfOk result (λ bound. (provided : Provided) (rows : ℕ) → evaluate_bound provided bound
+        ≡ evaluate (by_names (type_of dtype.now) provided rows) proof.now) }
+{
+    resolve(alloc, dtype, proof)
+}
+
+// Columns become positions, and null where they lead nowhere. `check` refuses these in predicates.
 #[cycle(resolve)]
 fn resolve(alloc: Global, dtype: &DType, e: &Expression) -> Result<BoundExpression, AllocError>
     ensures tree { IfOk result (λ bound. bound ≡ bound_of (type_of dtype.now) e.now) }
     ensures no_like { OnOk result (has_no_like e.now ≡ true) }
     ensures formed { OnOk result (HasFormedLiterals e.now) }
+    ensures no_count { OnOk result (counts_rows e.now ≡ false) }
 {
     match &e.node {
         Node::Literal(value) => resolve_literal(value),
@@ -196,11 +214,9 @@ fn resolve(alloc: Global, dtype: &DType, e: &Expression) -> Result<BoundExpressi
             let (left, right) = resolve_both(alloc, dtype, x, y)?;
             bound_or(alloc, left, right)
         }
-        Node::Stat(_, x) => {
-            resolve(alloc, dtype, x)?;
-            Ok(BoundExpression {
-                node: BoundNode::Literal(None),
-            })
+        Node::Stat(aggregate, x) => {
+            let input = resolve(alloc, dtype, x)?;
+            bound_stat(alloc, *aggregate, input)
         }
     }
 }
@@ -218,6 +234,8 @@ fn resolve_both(
     ensures no_like_right { OnOk result (has_no_like right.now ≡ true) }
     ensures formed { OnOk result (HasFormedLiterals left.now) }
     ensures formed_right { OnOk result (HasFormedLiterals right.now) }
+    ensures no_count { OnOk result (counts_rows left.now ≡ false) }
+    ensures no_count_right { OnOk result (counts_rows right.now ≡ false) }
 {
     let first = resolve(alloc, dtype, left)?;
     let second = resolve(alloc, dtype, right)?;
@@ -230,9 +248,7 @@ fn resolve_literal(value: &Scalar) -> Result<BoundExpression, AllocError>
     ensures formed { OnOk result (IsContent (scalar_type value.now) (scalar_content value.now)) }
 {
     let value = clone_value(value.value())?;
-    Ok(BoundExpression {
-        node: BoundNode::Literal(value),
-    })
+    Ok(bound_literal(value))
 }
 
 fn resolve_column(
@@ -246,9 +262,7 @@ fn resolve_column(
         Some(positions) => Ok(BoundExpression {
             node: BoundNode::Column(positions),
         }),
-        None => Ok(BoundExpression {
-            node: BoundNode::Literal(None),
-        }),
+        None => Ok(bound_literal(None)),
     }
 }
 

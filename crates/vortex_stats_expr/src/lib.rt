@@ -6,5 +6,6 @@ pub mod bind;
 pub mod bound;
 pub mod expression;
 pub mod operator;
+pub mod stats;
 pub mod types;
 pub mod value;

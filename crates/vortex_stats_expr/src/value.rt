@@ -1,8 +1,8 @@
 //! Values of operands, borrowed while a predicate or a proof is evaluated.
 //!
 //! What is no truth value counts as null under AND and OR, and null compares with nothing.
-ghost use Rattle.std.specs.Prelude.{◌≡◌};
-ghost use Rattle.vortex_model.specs.Content.{content_of};
+ghost use Rattle.std.specs.Prelude.{◌≡◌, pos};
+ghost use Rattle.vortex_model.specs.Content.{content_of, integer};
 ghost use Rattle.vortex_model.specs.Truth.{compared, kleene_and, kleene_or};
 ghost use Rattle.vortex_scalar_value.specs.View.{raw_of, content_at};
 ghost use Rattle.vortex_stats_expr.specs.OperandValue.{operand_value, truth_content, boolean_in, order_of};
@@ -11,14 +11,16 @@ ghost use Rattle.vortex_stats_expr.specs.Tree.{comparison_of};
 use crate::operator::Comparison;
 use std::cmp::Ordering;
 use vortex_scalar_ops::compare::compare_values as order_values;
+use vortex_scalar_value::pvalue::PValue;
 use vortex_scalar_value::scalar_value::ScalarValue;
 
-/// The value of an operand: null, a truth value that was computed, or a value that a literal or a
-/// row holds.
+/// The value of an operand: null, a truth value or a count that was computed, or a value that
+/// stands in a literal, a row or a statistic.
 #[derive(Clone, Copy)]
 pub enum Value<'a> {
     Null,
     Truth(bool),
+    Count(u64),
     Stored(&'a ScalarValue),
 }
 
@@ -50,6 +52,7 @@ pub fn truth_of(value: Value) -> Option<bool>
     match value {
         Value::Truth(b) => Some(b),
         Value::Stored(value) => value.as_bool(),
+        Value::Count(_) => None,
         Value::Null => None,
     }
 }
@@ -62,6 +65,7 @@ fn order(left: Value, right: Value) -> Option<Ordering>
     match left {
         Value::Null => None,
         Value::Truth(left) => order_stored(&ScalarValue::Bool(left), right),
+        Value::Count(left) => order_stored(&ScalarValue::Primitive(PValue::U64(left)), right),
         Value::Stored(left) => order_stored(left, right),
     }
 }
@@ -73,8 +77,19 @@ fn order_stored(left: &ScalarValue, right: Value) -> Option<Ordering>
     match right {
         Value::Null => None,
         Value::Truth(right) => order_values(Some(left), Some(&ScalarValue::Bool(right))),
+        Value::Count(right) => order_count(left, right),
         Value::Stored(right) => order_values(Some(left), Some(right)),
     }
+}
+
+#[tactic(auto, using(crate::proofs::Truths::orders))]
+fn order_count(left: &ScalarValue, right: u64) -> Option<Ordering>
+    ensures { result ≡ order_of (content_of (raw_of left.now)) (integer (pos right)) }
+{
+    order_values(
+        Some(left),
+        Some(&ScalarValue::Primitive(PValue::U64(right))),
+    )
 }
 
 /// The truth of a comparison, and `None`, which is null, where an operand is null or the two don't

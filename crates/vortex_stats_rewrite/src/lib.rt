@@ -1,6 +1,5 @@
-//! Proofs over statistics, as they are made of predicates, and whether they are true.
+//! Proofs over statistics, as they are made of predicates.
 #![tactic(auto)]
 
 pub mod rewrite;
-pub mod stats;
 mod typing;

@@ -110,21 +110,24 @@ pub mod scalar {
 /// Predicates over rows, and the proofs over statistics that are made of them.
 pub mod expr {
     pub use vortex_stats_expr::aggregate::AggregateFn;
-    pub use vortex_stats_expr::bind::{PredicateError, bind};
-    pub use vortex_stats_expr::bound::BoundExpression;
+    pub use vortex_stats_expr::bind::{PredicateError, bind, bind_proof};
+    pub use vortex_stats_expr::bound::{BoundExpression, Operands, bound_literal};
     pub use vortex_stats_expr::expression::{
         Expression, and, binary, col, eq, gt, gt_eq, lit, lt, lt_eq, not_eq, or, root, stat,
     };
     pub use vortex_stats_expr::operator::Operator;
+    pub use vortex_stats_expr::stats::{StatBinder, bind_stats, prove};
+    pub use vortex_stats_expr::value::Value;
     pub use vortex_stats_rewrite::rewrite::{falsify, satisfy};
-    pub use vortex_stats_rewrite::stats::{StatBinder, bind_stats, prove, prove_with};
 }
 
-/// The table of chunks, its refusals, and what a scan finds.
+/// The table of chunks, its refusals, what a scan finds, and what is known of a column.
 pub mod table {
+    pub use vortex_stats_bound::precision::Precision;
     pub use vortex_table_core::error::TableError;
     pub use vortex_table_core::table::Table;
     pub use vortex_table_schema::answer::ScanAnswer;
+    pub use vortex_table_schema::description::Description;
     pub use vortex_table_schema::layout::Layout;
 }
 

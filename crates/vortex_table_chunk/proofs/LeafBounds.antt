@@ -1,7 +1,7 @@
 -- The bounds that belong to the leaves.
 use Rattle.std.proofs.Common.{◌≡◌, refl, sym, ◌∙◌, ap, subst, zero, suc, ℕ, ◌+◌, ◌<◌, List, [], ◌∷◌, ◌++◌, length, take, drop, get_or, slice_get, Bool, true, false, ◌&&◌, ◌||◌, Option, Some, None, if◌then◌else◌, add-one, arith}
 use Rattle.std.proofs.lemmas.List.{take_more}
-use Rattle.vortex_model.specs.LogicalType.{LogicalType, IntKind}
+use Rattle.vortex_model.specs.LogicalType.{LogicalType, IntKind, u8, u16, u32, u64, i8, i16, i32, i64, eq_int_kind}
 use Rattle.vortex_model.specs.Path.{Positions, eq_positions}
 use Rattle.vortex_model.specs.Scan.{kind_at}
 use Rattle.vortex_model.specs.Typing.{sum_kind}
@@ -10,7 +10,6 @@ use Rattle.vortex_table_schema.proofs.Places.{positions_so, is_among}
 use Rattle.vortex_scalar_value.specs.declared.scalar_value.ScalarValue.{ScalarValue}
 use Rattle.vortex_table_chunk.specs.zones.Bounds.{IsBoundsOf}
 use Rattle.vortex_table_chunk.specs.zones.Sums.{int_kind_of, eq_sum_kind}
-use Rattle.vortex_table_chunk.proofs.Literals.{eq_itself}
 use Rattle.vortex_table_chunk.specs.Bounds.{column_at, AreBoundsOf, are_sums_of}
 use Rattle.vortex_table_chunk.specs.BoundStat.{bounds_at}
 use Rattle.vortex_table_chunk.specs.declared.zones.bounds.ColumnBounds.{ColumnBounds}
@@ -57,6 +56,16 @@ leaf_pushed L leaves i leaf old new b rows h is made before g =
 -- the sum of one more leaf
 abbrev is_sum_of : LogicalType → Positions → ColumnBounds → Bool
 is_sum_of k is b = eq_sum_kind (int_kind_of b.sum_type) (sum_kind (kind_at k is))
+
+eq_itself : (i : IntKind) → eq_int_kind i i ≡ true
+eq_itself u8 = refl
+eq_itself u16 = refl
+eq_itself u32 = refl
+eq_itself u64 = refl
+eq_itself i8 = refl
+eq_itself i16 = refl
+eq_itself i32 = refl
+eq_itself i64 = refl
 
 kind_itself : (o : Option IntKind) → eq_sum_kind o o ≡ true
 kind_itself None = refl

@@ -1,5 +1,6 @@
 pub mod Agreement
 pub mod InColumn
+pub mod JoinLists
+pub mod JoinedLemmas
 pub mod LeafBounds
-pub mod Literals
 pub mod ProvenAlike

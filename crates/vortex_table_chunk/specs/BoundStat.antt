@@ -1,9 +1,9 @@
--- What a chunk's bounds say of its columns.
+-- What bounds of a zone of rows say of its columns.
 use Rattle.std.specs.Prelude.{ℕ, List, ◌∷◌, Option, Some, None, if◌then◌else◌}
-use Rattle.vortex_model.specs.LogicalType.{LogicalType}
 use Rattle.vortex_model.specs.Content.{Content, null}
-use Rattle.vortex_model.specs.Path.{Positions, positions, eq_positions}
-use Rattle.vortex_model.specs.Expression.{Expression, column, Aggregate}
+use Rattle.vortex_model.specs.Path.{Positions, eq_positions}
+use Rattle.vortex_model.specs.Expression.{Aggregate}
+use Rattle.vortex_stats_expr.specs.Bound.{Bound, Provided, place}
 use Rattle.vortex_table_chunk.specs.zones.StatValue.{stat_value}
 use Rattle.vortex_table_chunk.specs.declared.zones.bounds.ColumnBounds.{ColumnBounds}
 
@@ -17,14 +17,12 @@ bounds_at (js ∷ leaves) (b ∷ bounds) is =
     if eq_positions js is then Some b else bounds_at leaves bounds is
 bounds_at leaves bounds is = None
 
-abbrev pub stat_value_at : List Positions → List ColumnBounds → ℕ → Option Positions → Aggregate →
-    Content
-stat_value_at leaves bounds rows None a = null
-stat_value_at leaves bounds rows (Some is) a =
-    stat_value_or_null (bounds_at leaves bounds is) rows a
-
 -- what is given for a placeholder
-abbrev pub bound_stat : LogicalType → List Positions → List ColumnBounds → ℕ → Expression →
-    Aggregate → Content
-bound_stat k leaves bounds rows (column xs) a = stat_value_at leaves bounds rows (positions k xs) a
-bound_stat k leaves bounds rows e a = null
+abbrev pub zone_stat : List Positions → List ColumnBounds → ℕ → Bound → Aggregate → Content
+zone_stat leaves bounds rows (place is) a = stat_value_or_null (bounds_at leaves bounds is) rows a
+zone_stat leaves bounds rows b a = null
+
+-- what the bounds of the leaves of so many rows provide, and no column
+abbrev pub zone_provided : List Positions → List ColumnBounds → ℕ → Provided
+zone_provided leaves bounds rows =
+    record { columns = λ is. null; statistics = zone_stat leaves bounds rows }

@@ -1,4 +1,5 @@
 pub mod Bounds
 pub mod Constancy
+pub mod Join
 pub mod StatValue
 pub mod Sums

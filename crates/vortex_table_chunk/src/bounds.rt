@@ -1,5 +1,6 @@
 //! Statistics of all leaf columns of the rows of a chunk.
 ghost use Rattle.std.specs.Prelude.{◌≡◌, IfOk, IsTrue};
+ghost use Rattle.vortex_table_chunk.specs.zones.Join.{CanJoin, AreJoinsOf};
 ghost use Rattle.vortex_table_chunk.specs.zones.Bounds.{IsMinMaxOf, IsBoundsOf};
 ghost use Rattle.vortex_table_chunk.specs.Bounds.{column_at, AreBoundsOf, are_sums_of};
 ghost use Rattle.vortex_table_chunk.specs.zones.Sums.{IsSumOf, int_kind_of};
@@ -70,6 +71,24 @@ pub fn all_bounds(
         let sum_type = sum_type(dtype, path);
         let bounds = leaf_bounds(alloc, rows, path, sum_type, max_length)?;
         all.push(bounds)?;
+    }
+    Ok(all)
+}
+
+/// The statistics of the columns of two neighbouring groups as one group. Both sides have those of
+/// the same columns in the same order.
+pub fn join_bounds(
+    alloc: Global,
+    left: &[ColumnBounds],
+    right: &[ColumnBounds],
+) -> Result<Vec<ColumnBounds>, AllocError>
+    requires { CanJoin left.now right.now }
+    ensures { IfOk result (λ all. AreJoinsOf left.now right.now all.items) }
+{
+    let mut all = Vec::with_capacity(alloc, left.len())?;
+    for (index, bounds) in left.iter().enumerate() {
+        let joined = bounds.join(&right[index])?;
+        all.push(joined)?;
     }
     Ok(all)
 }

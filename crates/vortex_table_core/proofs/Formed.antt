@@ -1,5 +1,5 @@
 -- What is true of each chunk of a table.
-use Rattle.std.proofs.Common.{◌≡◌, ℕ, nat_lt, nat_eq, length, Bool, true, ◌&&◌, ◌==◌, IsTrue, arith}
+use Rattle.std.proofs.Common.{◌≡◌, ℕ, ◌<◌, nat_lt, nat_eq, length, Bool, true, ◌&&◌, ◌==◌, IsTrue, arith}
 use Rattle.std.specs.List.{list_all}
 use Rattle.std.proofs.lemmas.Bool.Decides.{nat_tests}
 use Rattle.vortex_model.specs.LogicalType.{LogicalType}
@@ -7,12 +7,16 @@ use Rattle.vortex_model.specs.Valid.{valid}
 use Rattle.vortex_model.proofs.ContentOrder.{true_left, true_right}
 use Rattle.vortex_scalar_value.specs.View.{raw_of}
 use Rattle.vortex_table_schema.specs.Leaves.{leaf_positions}
+use Rattle.vortex_table_chunk.specs.Bounds.{are_sums_of}
 use Rattle.vortex_table_chunk.specs.declared.chunk.Chunk.{Chunk}
 use Rattle.vortex_table_core.specs.Table.{is_formed, eq_leaves}
 use Rattle.vortex_table_core.proofs.EqualLeaves.{leaves_so}
 
 eq_length : (m n : ℕ) → IsTrue (nat_eq m n) → m ≡ n
 eq_length m n h = grind (arith, nat_tests, h)
+
+above_zero : (n : ℕ) → nat_lt 0 n ≡ true → 0 < n
+above_zero n h = grind (arith, nat_tests, h)
 
 module _ (L : ℕ) (k : LogicalType) (c : Chunk) (formed : IsTrue (is_formed L k c)) where
   abbrev are_valid : Bool
@@ -24,17 +28,32 @@ module _ (L : ℕ) (k : LogicalType) (c : Chunk) (formed : IsTrue (is_formed L k
   abbrev is_as_long : Bool
   is_as_long = c.bound_length == L
 
-  behind_count : are_valid && (is_led && is_as_long) ≡ true
-  behind_count = true_right (nat_lt 0 (length c.rows.items)) (are_valid && (is_led && is_as_long)) formed
+  abbrev is_summed : Bool
+  is_summed = are_sums_of k c.leaves.value.items c.bounds.items
 
-  behind_rows : is_led && is_as_long ≡ true
-  behind_rows = true_right are_valid (is_led && is_as_long) behind_count
+  abbrev has_rows : Bool
+  has_rows = nat_lt 0 (length c.rows.items)
+
+  behind_count : are_valid && (is_led && (is_as_long && is_summed)) ≡ true
+  behind_count = true_right has_rows (are_valid && (is_led && (is_as_long && is_summed))) formed
+
+  behind_rows : is_led && (is_as_long && is_summed) ≡ true
+  behind_rows = true_right are_valid (is_led && (is_as_long && is_summed)) behind_count
+
+  behind_leaves : is_as_long && is_summed ≡ true
+  behind_leaves = true_right is_led (is_as_long && is_summed) behind_rows
+
+  pub some_rows : 0 < length c.rows.items
+  some_rows = above_zero (length c.rows.items) (true_left has_rows (are_valid && (is_led && (is_as_long && is_summed))) formed)
 
   pub valid_rows : are_valid ≡ true
-  valid_rows = true_left are_valid (is_led && is_as_long) behind_count
+  valid_rows = true_left are_valid (is_led && (is_as_long && is_summed)) behind_count
 
   pub led : c.leaves.value.items ≡ leaf_positions k
-  led = leaves_so c.leaves.value.items (leaf_positions k) (true_left is_led is_as_long behind_rows)
+  led = leaves_so c.leaves.value.items (leaf_positions k) (true_left is_led (is_as_long && is_summed) behind_rows)
 
   pub as_long : c.bound_length ≡ L
-  as_long = eq_length c.bound_length L (true_right is_led is_as_long behind_rows)
+  as_long = eq_length c.bound_length L (true_left is_as_long is_summed behind_leaves)
+
+  pub summed : is_summed ≡ true
+  summed = true_right is_as_long is_summed behind_leaves

@@ -26,7 +26,7 @@ use Rattle.vortex_table_core.proofs.Formed.{valid_rows as formed_rows}
 use Rattle.vortex_table_core.proofs.Rows.{list_all_at, rows_said, kept_each, kept_all}
 
 -- the falsifier of the predicate may be believed
-sound_of : (plan : Scan) → IsPlan plan → FalsifiesRightly (table_in plan).kind (predicate_in plan)
+pub sound_of : (plan : Scan) → IsPlan plan → FalsifiesRightly (table_in plan).kind (predicate_in plan)
 sound_of plan is = λ proof made. sound_without_like (table_in plan).kind (predicate_in plan) proof is.no_like made
 
 module _ (plan : Scan) (is : IsPlan plan) (chunk : Chunk) (formed : IsTrue (is_formed (table_in plan).default (table_in plan).kind chunk)) where

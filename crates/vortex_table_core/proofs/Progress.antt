@@ -1,9 +1,10 @@
--- A scan that goes from chunk to chunk makes the whole answer.
+-- A scan that goes from group to group, and in these from chunk to chunk, makes the whole answer.
 use Rattle.std.proofs.Common.{◌≡◌, refl, sym, ◌∙◌, ap, ℕ, suc, ◌+◌, ◌*◌, List, [], ◌∷◌, ◌++◌, length, map, filter, count_by, Bool, true, false, not, if◌then◌else◌, arith, append-nil, append_assoc, cond, add-zero, zero-add}
-use Rattle.std.specs.Prelude.{flat_map, is_some, nat_lt}
+use Rattle.std.specs.Prelude.{flat_map, sum, take, drop, is_some, nat_lt}
 use Rattle.std.proofs.lemmas.List.Elements.{filter-append}
-use Rattle.std.proofs.lemmas.List.Sums.{length-filter}
-use Rattle.std.proofs.lemmas.List.{map-append}
+use Rattle.std.proofs.lemmas.List.Sums.{length-filter, sum_by-append}
+use Rattle.std.proofs.lemmas.List.{map-append, length-map, length-take-le, length-drop, take-append-drop}
+use Rattle.std.proofs.lemmas.Grind.{flat_map-append}
 use Rattle.std.proofs.lemmas.Bool.Decides.{nat_tests}
 use Rattle.vortex_model.specs.LogicalType.{LogicalType}
 use Rattle.vortex_model.specs.Content.{Content}
@@ -12,28 +13,28 @@ use Rattle.vortex_model.specs.Expression.{Expression}
 use Rattle.vortex_model.specs.Truth.{selects}
 use Rattle.vortex_model.specs.Cut.{cut_row}
 use Rattle.vortex_model.specs.Rewrite.{falsifier, satisfier}
-use Rattle.vortex_model.specs.Scan.{Outcome, skipped_in_group, skipped, whole, tested, is_skipped, is_whole, is_tested, is_in_group, saturated, one_if, ScanAnswer, chunk_outcome, group_outcomes, grouped, proves, chunk_zone, numbers, tested_lengths, proofs_for, scanned, outcomes}
+use Rattle.vortex_model.specs.Scan.{Outcome, skipped_in_group, skipped, whole, tested, is_skipped, is_whole, is_tested, is_in_group, saturated, one_if, ScanAnswer, chunk_outcome, group_outcomes, grouped, is_many, numbers, tested_lengths, scanned}
 use Rattle.vortex_model.specs.Table.{Table}
-use Rattle.vortex_model.proofs.Outcomes.{tested_first as length_first}
-use Rattle.vortex_table_core.specs.Progress.{found_rows, push_if, tested_rows, proofs_at, with_chunk, with_chunks, no_answer}
+use Rattle.vortex_model.proofs.Outcomes.{tested_first as length_first, sum_first}
+use Rattle.vortex_table_core.specs.Progress.{found_rows, push_if, tested_rows, proofs_at, with_chunk, with_chunks, is_group_skipped, outcome_in, group_proofs, looked_at, with_group, with_groups, no_answer}
 
 -- ---- counts that stay at the greatest
 
 saturated_twice : (a b : ℕ) → saturated (saturated a + b) ≡ saturated (a + b)
 saturated_twice a b = grind (arith, nat_tests)
 
-saturated_once : (a : ℕ) → saturated (saturated a) ≡ saturated a
+pub saturated_once : (a : ℕ) → saturated (saturated a) ≡ saturated a
 saturated_once a = grind (arith, nat_tests)
 
-spread : (f s m b n : ℕ) → f * suc m + s * (b + n) ≡ f + s * b + (f * m + s * n)
-spread f s m b n = grind arith
+spread : (f s a m b n : ℕ) → f * (a + m) + s * (b + n) ≡ f * a + s * b + (f * m + s * n)
+spread f s a m b n = grind arith
 
 none_counted : (a f s : ℕ) → a ≡ a + (f * 0 + s * 0)
 none_counted a f s = grind arith
 
 -- ---- what is counted
 
-count_first : {X : Type 0} (p : X → Bool) (x : X) (xs : List X) → count_by p (x ∷ xs) ≡ one_if (p x) + count_by p xs
+pub count_first : {X : Type 0} (p : X → Bool) (x : X) (xs : List X) → count_by p (x ∷ xs) ≡ one_if (p x) + count_by p xs
 count_first p x xs = sym (length-filter p (x ∷ xs)) ∙ first_length (p x) ∙ ap (λ n. one_if (p x) + n) (length-filter p xs)
   where
     first_length : (b : Bool) → length (cond b (x ∷ filter p xs) (filter p xs)) ≡ one_if b + length (filter p xs)
@@ -42,7 +43,32 @@ count_first p x xs = sym (length-filter p (x ∷ xs)) ∙ first_length (p x) ∙
 
 -- the proofs at these chunks
 abbrev proofs_of : LogicalType → Expression → List Outcome → ℕ
-proofs_of k e os = one_if (is_some (falsifier k e)) * length os + one_if (is_some (satisfier k e)) * count_by (λ o. not (is_skipped o)) os
+proofs_of k e os = one_if (is_some (falsifier k e)) * count_by (λ o. not (is_in_group o)) os + one_if (is_some (satisfier k e)) * count_by (λ o. not (is_skipped o)) os
+
+sum_of_three : (a b c : ℕ) → a + b + c ≡ a + (b + c)
+sum_of_three a b c = omega arith
+
+no_proofs : (a f s : ℕ) → a ≡ a + (f * (0 + 0) + s * 0)
+no_proofs a f s = grind arith
+
+gathered : (f s m p q n r u : ℕ) → f * m + (f * p + s * q) + (f * (n + r) + s * u) ≡ f * ((m + n) + (p + r)) + s * (q + u)
+gathered f s m p q n r u = grind arith
+
+count_append : (p : Outcome → Bool) (os qs : List Outcome) → count_by p (os ++ qs) ≡ count_by p os + count_by p qs
+count_append p os qs = sum_by-append (λ o. if p o then 1 else 0) os qs
+
+-- what a group of this size leaves
+first_size : (n : ℕ) (sizes : List ℕ) (chunks : List (List Content)) → sum (n ∷ sizes) ≡ length chunks → length (take n chunks) ≡ n
+first_size n sizes chunks h =
+    let m : ℕ = sum sizes in let l : ℕ = length chunks in
+    let split : n + m ≡ l = sym (sum_first n sizes) ∙ h in
+    length-take-le n chunks (omega (arith, split))
+
+left_over : (n : ℕ) (sizes : List ℕ) (chunks : List (List Content)) → sum (n ∷ sizes) ≡ length chunks → sum sizes ≡ length (drop n chunks)
+left_over n sizes chunks h =
+    let m : ℕ = sum sizes in let l : ℕ = length chunks in let d = length-drop n chunks in
+    let split : n + m ≡ l = sym (sum_first n sizes) ∙ h in
+    omega (arith, split, d)
 
 -- ---- each part of the answer
 
@@ -110,8 +136,9 @@ module _ (k : LogicalType) (paths : List Names) (e : Expression) (outcome : List
   proofs_first o os =
       let f : ℕ = one_if (is_some (falsifier k e)) in
       let s : ℕ = one_if (is_some (satisfier k e)) in
-      let p : Outcome → Bool = λ o. not (is_skipped o) in
-      ap (λ n. f * length (o ∷ os) + s * n) (count_first p o os) ∙ spread f s (length os) (one_if (p o)) (count_by p os)
+      let p : Outcome → Bool = λ o. not (is_in_group o) in
+      let q : Outcome → Bool = λ o. not (is_skipped o) in
+      (λ i. f * count_first p o os i + s * count_first q o os i) ∙ spread f s (one_if (p o)) (count_by p os) (one_if (q o)) (count_by q os)
 
   pub proofs_after : (i : ℕ) (chunks : List (List Content)) (a : ScanAnswer) → saturated a.proofs ≡ a.proofs →
       (seen i chunks a).proofs ≡ saturated (a.proofs + proofs_of k e (map outcome chunks))
@@ -120,62 +147,174 @@ module _ (k : LogicalType) (paths : List Names) (e : Expression) (outcome : List
       proofs_after (suc i) chunks (with_chunk k paths e i chunk (outcome chunk) a) (saturated_once (a.proofs + proofs_at (is_some (falsifier k e)) (is_some (satisfier k e)) (outcome chunk)))
       ∙ regrouped a.proofs (proofs_at (is_some (falsifier k e)) (is_some (satisfier k e)) (outcome chunk)) (proofs_of k e (map outcome chunks)) _ (proofs_first (outcome chunk) (map outcome chunks))
 
--- ---- groups of one chunk each
+-- ---- lists behind lists
 
-alone : (t : Table) (e : Expression) (chunk : List Content) → group_outcomes t e (chunk ∷ []) ≡ chunk_outcome t e chunk ∷ []
-alone t e chunk = refl
-
-outcomes_alone : {X : Type 0} (f : X → List Content) (t : Table) (e : Expression) (xs : List X) →
-    flat_map (group_outcomes t e) (grouped (map (λ x. 1) xs) (map f xs)) ≡ map (chunk_outcome t e) (map f xs)
-outcomes_alone f t e [] = refl
-outcomes_alone f t e (x ∷ xs) = ap (λ os. chunk_outcome t e (f x) ∷ os) (outcomes_alone f t e xs)
-
-none_many : {X : Type 0} (xs : List X) → count_by (nat_lt 1) (map (λ x. 1) xs) ≡ 0
-none_many [] = refl
-none_many (x ∷ xs) = count_first (nat_lt 1) 1 (map (λ y. 1) xs) ∙ ap (λ n. 0 + n) (none_many xs)
-
-not_grouped : (t : Table) (e : Expression) (chunk : List Content) → not (is_in_group (chunk_outcome t e chunk)) ≡ true
-not_grouped t e chunk =
-    by_tests (proves (chunk_zone t chunk) (length chunk) (falsifier t.kind e)) (proves (chunk_zone t chunk) (length chunk) (satisfier t.kind e))
+numbers_append : (p : Outcome → Bool) (i : ℕ) (os qs : List Outcome) → numbers p i (os ++ qs) ≡ numbers p i os ++ numbers p (i + length os) qs
+numbers_append p i [] qs = ap (λ n. numbers p n qs) (sym (add-zero i))
+numbers_append p i (o ∷ os) qs =
+    by_test (p o) (numbers_append p (suc i) os qs ∙ ap (λ n. numbers p (suc i) os ++ numbers p n qs) (let n : ℕ = length os in let h : suc i + n ≡ i + suc n = omega arith in h))
   where
-    by_tests : (b c : Bool) → not (is_in_group (if b then skipped else (if c then whole else tested))) ≡ true
-    by_tests true c = refl
-    by_tests false true = refl
-    by_tests false false = refl
+    by_test : (b : Bool) → numbers p (suc i) (os ++ qs) ≡ numbers p (suc i) os ++ numbers p (i + suc (length os)) qs →
+        (if b then i ∷ numbers p (suc i) (os ++ qs) else numbers p (suc i) (os ++ qs)) ≡ (if b then i ∷ numbers p (suc i) os else numbers p (suc i) os) ++ numbers p (i + suc (length os)) qs
+    by_test true later = ap (λ ns. i ∷ ns) later
+    by_test false later = later
 
-all_alone : (t : Table) (e : Expression) (chunks : List (List Content)) → count_by (λ o. not (is_in_group o)) (map (chunk_outcome t e) chunks) ≡ length (map (chunk_outcome t e) chunks)
-all_alone t e [] = refl
-all_alone t e (chunk ∷ chunks) =
-    count_first (λ o. not (is_in_group o)) (chunk_outcome t e chunk) (map (chunk_outcome t e) chunks)
-    ∙ (λ i. one_if (not_grouped t e chunk i) + all_alone t e chunks i)
-    ∙ one_more (length (map (chunk_outcome t e) chunks))
-  where
-    one_more : (n : ℕ) → 1 + n ≡ suc n
-    one_more n = omega arith
+tested_append : (os qs : List Outcome) (xs ys : List (List Content)) → length os ≡ length xs → tested_lengths (os ++ qs) (xs ++ ys) ≡ tested_lengths os xs + tested_lengths qs ys
+tested_append [] qs [] ys h = sym (zero-add (tested_lengths qs ys))
+tested_append [] qs (x ∷ xs) ys h = absurd (omega (arith, h))
+tested_append (o ∷ os) qs [] ys h = absurd (omega (arith, h))
+tested_append (o ∷ os) qs (x ∷ xs) ys h =
+    let n : ℕ = if is_tested o then length x else 0 in
+    let a : ℕ = tested_lengths os xs in let b : ℕ = tested_lengths qs ys in
+    let regroup : n + (a + b) ≡ n + a + b = omega arith in
+    length_first o (os ++ qs) x (xs ++ ys) ∙ ap (λ m. n + m) (tested_append os qs xs ys (omega (arith, h))) ∙ regroup ∙ ap (λ m. m + b) (sym (length_first o os x xs))
 
-proofs_alone : {X : Type 0} (xs : List X) (t : Table) (e : Expression) (chunks : List (List Content)) → t.groups ≡ map (λ x. 1) xs →
-    proofs_for t e (map (chunk_outcome t e) chunks) ≡ proofs_of t.kind e (map (chunk_outcome t e) chunks)
-proofs_alone xs t e chunks g =
-    ap (λ n. one_if (is_some (falsifier t.kind e)) * n + one_if (is_some (satisfier t.kind e)) * count_by (λ o. not (is_skipped o)) (map (chunk_outcome t e) chunks))
-    ((λ i. count_by (nat_lt 1) (g i) + all_alone t e chunks i) ∙ ap (λ n. n + length (map (chunk_outcome t e) chunks)) (none_many xs) ∙ zero-add _)
+-- ---- the chunks of groups
 
--- ---- the whole answer
+abbrev concat : List (List (List Content)) → List (List Content)
+concat groups = flat_map (λ chunks. chunks) groups
 
-module _ {X : Type 0} (f : X → List Content) (xs : List X) (t : Table) (chunks : t.chunks ≡ map f xs) (groups : t.groups ≡ map (λ x. 1) xs) (paths : List Names) (e : Expression) where
-  each_alone : outcomes t e ≡ map (chunk_outcome t e) t.chunks
-  each_alone = (λ i. flat_map (group_outcomes t e) (grouped (groups i) (chunks i))) ∙ outcomes_alone f t e xs ∙ ap (map (chunk_outcome t e)) (sym chunks)
+all_grouped : (sizes : List ℕ) (chunks : List (List Content)) → sum sizes ≡ length chunks → concat (grouped sizes chunks) ≡ chunks
+all_grouped [] [] h = refl
+all_grouped [] (chunk ∷ chunks) h = absurd (omega (arith, h))
+all_grouped (n ∷ sizes) chunks h = ap (λ cs. take n chunks ++ cs) (all_grouped sizes (drop n chunks) (left_over n sizes chunks h)) ∙ take-append-drop n chunks
+
+-- a group counts as many where its size does
+many_so : (sizes : List ℕ) (chunks : List (List Content)) → sum sizes ≡ length chunks → count_by is_many (grouped sizes chunks) ≡ count_by (nat_lt 1) sizes
+many_so [] chunks h = refl
+many_so (n ∷ sizes) chunks h =
+    count_first is_many (take n chunks) (grouped sizes (drop n chunks))
+    ∙ (λ i. one_if (nat_lt 1 (first_size n sizes chunks h i)) + many_so sizes (drop n chunks) (left_over n sizes chunks h) i)
+    ∙ sym (count_first (nat_lt 1) n sizes)
+
+-- ---- what becomes of a group
+
+module _ (t : Table) (paths : List Names) (e : Expression) where
+  abbrev of_group : List (List Content) → List Content → Outcome
+  of_group chunks = outcome_in (is_group_skipped t e chunks) t e
+
+  each_outcome : (chunks : List (List Content)) → map (of_group chunks) chunks ≡ group_outcomes t e chunks
+  each_outcome chunks = by_test (is_group_skipped t e chunks)
+    where
+      by_test : (b : Bool) → map (outcome_in b t e) chunks ≡ (if b then map (λ chunk. skipped_in_group) chunks else map (chunk_outcome t e) chunks)
+      by_test true = refl
+      by_test false = refl
+
+  as_many : (chunks : List (List Content)) → length (group_outcomes t e chunks) ≡ length chunks
+  as_many chunks = ap length (sym (each_outcome chunks)) ∙ length-map chunks (of_group chunks)
+
+  abbrev all_outcomes : List (List (List Content)) → List Outcome
+  all_outcomes groups = flat_map (group_outcomes t e) groups
+
+  abbrev k : LogicalType
+  k = t.kind
+
+  abbrev flat_rows : List (List Content) → List Content
+  flat_rows chunks = flat_map (λ chunk. chunk) chunks
+
+  abbrev selected : List Content → List Content
+  selected rows = map (cut_row paths k) (filter (selects k e) rows)
+
+  abbrev through : ℕ → List (List (List Content)) → ScanAnswer → ScanAnswer
+  through = with_groups t paths e
+
+  abbrev with_one : ℕ → List (List Content) → ScanAnswer → ScanAnswer
+  with_one = with_group t paths e
+
+  rows_through : (i : ℕ) (groups : List (List (List Content))) (a : ScanAnswer) → (through i groups a).rows ≡ a.rows ++ selected (flat_rows (concat groups))
+  rows_through i [] a = sym (append-nil a.rows)
+  rows_through i (chunks ∷ groups) a =
+      rows_through (i + length chunks) groups (with_one i chunks a)
+      ∙ ap (λ rows. rows ++ selected (flat_rows (concat groups))) (rows_after k paths e (of_group chunks) i chunks (looked_at t e (is_many chunks) a))
+      ∙ append_assoc a.rows (selected (flat_rows chunks)) (selected (flat_rows (concat groups)))
+      ∙ ap (λ rows. a.rows ++ rows) (sym (ap selected (flat_map-append (λ (chunk : List Content). chunk) chunks (concat groups)) ∙ cut_both k paths e (of_group chunks) (flat_rows chunks) (flat_rows (concat groups))))
+
+  kind_through : (i : ℕ) (groups : List (List (List Content))) (a : ScanAnswer) → (through i groups a).kind ≡ a.kind
+  kind_through i [] a = refl
+  kind_through i (chunks ∷ groups) a =
+      kind_through (i + length chunks) groups (with_one i chunks a) ∙ kind_after k paths e (of_group chunks) i chunks (looked_at t e (is_many chunks) a)
+
+  numbers_more : (p : Outcome → Bool) (i : ℕ) (chunks : List (List Content)) (groups : List (List (List Content))) →
+      numbers p i (map (of_group chunks) chunks) ++ numbers p (i + length chunks) (all_outcomes groups) ≡ numbers p i (all_outcomes (chunks ∷ groups))
+  numbers_more p i chunks groups =
+      (λ j. numbers p i (each_outcome chunks j) ++ numbers p (i + sym (as_many chunks) j) (all_outcomes groups))
+      ∙ sym (numbers_append p i (group_outcomes t e chunks) (all_outcomes groups))
+
+  skipped_through : (i : ℕ) (groups : List (List (List Content))) (a : ScanAnswer) → (through i groups a).skipped ≡ a.skipped ++ numbers is_skipped i (all_outcomes groups)
+  skipped_through i [] a = sym (append-nil a.skipped)
+  skipped_through i (chunks ∷ groups) a =
+      skipped_through (i + length chunks) groups (with_one i chunks a)
+      ∙ ap (λ xs. xs ++ numbers is_skipped (i + length chunks) (all_outcomes groups)) (skipped_after k paths e (of_group chunks) i chunks (looked_at t e (is_many chunks) a))
+      ∙ append_assoc a.skipped (numbers is_skipped i (map (of_group chunks) chunks)) (numbers is_skipped (i + length chunks) (all_outcomes groups))
+      ∙ ap (λ xs. a.skipped ++ xs) (numbers_more is_skipped i chunks groups)
+
+  whole_through : (i : ℕ) (groups : List (List (List Content))) (a : ScanAnswer) → (through i groups a).whole ≡ a.whole ++ numbers is_whole i (all_outcomes groups)
+  whole_through i [] a = sym (append-nil a.whole)
+  whole_through i (chunks ∷ groups) a =
+      whole_through (i + length chunks) groups (with_one i chunks a)
+      ∙ ap (λ xs. xs ++ numbers is_whole (i + length chunks) (all_outcomes groups)) (whole_after k paths e (of_group chunks) i chunks (looked_at t e (is_many chunks) a))
+      ∙ append_assoc a.whole (numbers is_whole i (map (of_group chunks) chunks)) (numbers is_whole (i + length chunks) (all_outcomes groups))
+      ∙ ap (λ xs. a.whole ++ xs) (numbers_more is_whole i chunks groups)
+
+  tested_through : (i : ℕ) (groups : List (List (List Content))) (a : ScanAnswer) → saturated a.rows_tested ≡ a.rows_tested →
+      (through i groups a).rows_tested ≡ saturated (a.rows_tested + tested_lengths (all_outcomes groups) (concat groups))
+  tested_through i [] a h = sym h ∙ ap saturated (sym (add-zero a.rows_tested))
+  tested_through i (chunks ∷ groups) a h =
+      let here : ℕ = tested_lengths (map (of_group chunks) chunks) chunks in
+      let now = tested_after k paths e (of_group chunks) i chunks (looked_at t e (is_many chunks) a) h in
+      let rest : ℕ = tested_lengths (all_outcomes groups) (concat groups) in
+      tested_through (i + length chunks) groups (with_one i chunks a) (ap saturated now ∙ saturated_once (a.rows_tested + here) ∙ sym now)
+      ∙ ap (λ n. saturated (n + rest)) now
+      ∙ saturated_twice (a.rows_tested + here) rest
+      ∙ ap saturated (sum_of_three a.rows_tested here rest)
+      ∙ ap (λ n. saturated (a.rows_tested + n))
+      (ap (λ os. tested_lengths os chunks + rest) (each_outcome chunks) ∙ sym (tested_append (group_outcomes t e chunks) (all_outcomes groups) chunks (concat groups) (as_many chunks)))
+
+  abbrev proofs_in : List (List (List Content)) → ℕ
+  proofs_in groups =
+      one_if (is_some (falsifier k e)) * (count_by is_many groups + count_by (λ o. not (is_in_group o)) (all_outcomes groups))
+      + one_if (is_some (satisfier k e)) * count_by (λ o. not (is_skipped o)) (all_outcomes groups)
+
+  proofs_more : (chunks : List (List Content)) (groups : List (List (List Content))) →
+      group_proofs t e (is_many chunks) + proofs_of k e (map (of_group chunks) chunks) + proofs_in groups ≡ proofs_in (chunks ∷ groups)
+  proofs_more chunks groups =
+      let f : ℕ = one_if (is_some (falsifier k e)) in
+      let s : ℕ = one_if (is_some (satisfier k e)) in
+      let p : Outcome → Bool = λ o. not (is_in_group o) in
+      let q : Outcome → Bool = λ o. not (is_skipped o) in
+      ap (λ os. f * one_if (is_many chunks) + (f * count_by p os + s * count_by q os) + proofs_in groups) (each_outcome chunks)
+      ∙ gathered f s (one_if (is_many chunks)) (count_by p (group_outcomes t e chunks)) (count_by q (group_outcomes t e chunks))
+      (count_by is_many groups) (count_by p (all_outcomes groups)) (count_by q (all_outcomes groups))
+      ∙ sym (λ i. f * (count_first is_many chunks groups i + count_append p (group_outcomes t e chunks) (all_outcomes groups) i) + s * count_append q (group_outcomes t e chunks) (all_outcomes groups) i)
+
+  proofs_through : (i : ℕ) (groups : List (List (List Content))) (a : ScanAnswer) → saturated a.proofs ≡ a.proofs →
+      (through i groups a).proofs ≡ saturated (a.proofs + proofs_in groups)
+  proofs_through i [] a h = sym h ∙ ap saturated (no_proofs a.proofs (one_if (is_some (falsifier k e))) (one_if (is_some (satisfier k e))))
+  proofs_through i (chunks ∷ groups) a h =
+      let g : ℕ = group_proofs t e (is_many chunks) in
+      let c : ℕ = proofs_of k e (map (of_group chunks) chunks) in
+      let now : (with_one i chunks a).proofs ≡ saturated (a.proofs + (g + c)) =
+      proofs_after k paths e (of_group chunks) i chunks (looked_at t e (is_many chunks) a) (saturated_once (a.proofs + g)) ∙ saturated_twice (a.proofs + g) c ∙ ap saturated (sum_of_three a.proofs g c) in
+      proofs_through (i + length chunks) groups (with_one i chunks a) (ap saturated now ∙ saturated_once (a.proofs + (g + c)) ∙ sym now)
+      ∙ ap (λ n. saturated (n + proofs_in groups)) now
+      ∙ saturated_twice (a.proofs + (g + c)) (proofs_in groups)
+      ∙ ap saturated (sum_of_three a.proofs (g + c) (proofs_in groups))
+      ∙ ap (λ n. saturated (a.proofs + n)) (proofs_more chunks groups)
+
+  -- ---- the whole answer
 
   abbrev answered : ScanAnswer
-  answered = with_chunks t.kind paths e (chunk_outcome t e) 0 t.chunks (no_answer t.kind paths)
+  answered = through 0 (grouped t.groups t.chunks) (no_answer k paths)
 
-  pub whole_answer : answered ≡ scanned t paths e
-  whole_answer = λ i. record {
-    rows = rows_after t.kind paths e (chunk_outcome t e) 0 t.chunks (no_answer t.kind paths) i;
-    kind = kind_after t.kind paths e (chunk_outcome t e) 0 t.chunks (no_answer t.kind paths) i;
-    skipped = (skipped_after t.kind paths e (chunk_outcome t e) 0 t.chunks (no_answer t.kind paths) ∙ ap (numbers is_skipped 0) (sym each_alone)) i;
-    whole = (whole_after t.kind paths e (chunk_outcome t e) 0 t.chunks (no_answer t.kind paths) ∙ ap (numbers is_whole 0) (sym each_alone)) i;
-    rows_tested = (tested_after t.kind paths e (chunk_outcome t e) 0 t.chunks (no_answer t.kind paths) refl
-        ∙ ap saturated (zero-add _) ∙ ap (λ os. saturated (tested_lengths os t.chunks)) (sym each_alone)) i;
-    proofs = (proofs_after t.kind paths e (chunk_outcome t e) 0 t.chunks (no_answer t.kind paths) refl
-        ∙ ap saturated (zero-add _) ∙ ap saturated (sym (proofs_alone xs t e t.chunks groups)) ∙ ap (λ os. saturated (proofs_for t e os)) (sym each_alone)) i;
-  }
+  pub whole_answer : sum t.groups ≡ length t.chunks → answered ≡ scanned t paths e
+  whole_answer fits =
+      let groups = grouped t.groups t.chunks in let none = no_answer k paths in let all = all_grouped t.groups t.chunks fits in λ i. record {
+        rows = (rows_through 0 groups none ∙ ap (λ cs. selected (flat_rows cs)) all) i;
+        kind = kind_through 0 groups none i;
+        skipped = skipped_through 0 groups none i;
+        whole = whole_through 0 groups none i;
+        rows_tested = (tested_through 0 groups none refl ∙ ap saturated (zero-add _) ∙ ap (λ cs. saturated (tested_lengths (all_outcomes groups) cs)) all) i;
+        proofs = (proofs_through 0 groups none refl ∙ ap saturated (zero-add _)
+            ∙ ap (λ n. saturated (one_if (is_some (falsifier k e)) * (n + count_by (λ o. not (is_in_group o)) (all_outcomes groups))
+            + one_if (is_some (satisfier k e)) * count_by (λ o. not (is_skipped o)) (all_outcomes groups))) (many_so t.groups t.chunks fits)) i;
+      }

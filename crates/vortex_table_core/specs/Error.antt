@@ -1,6 +1,6 @@
 -- Which refusal an error is.
 use Rattle.std.specs.Prelude.{◌≡◌, Option, Some, None, ⊤}
-use Rattle.vortex_model.specs.Refusal.{Refusal, not_a_record, unkept_type, repeated_name, invalid_value, not_convertible, unknown_path, element_step, placeholder, unknown_column, not_a_leaf, unequal_types, not_boolean, unsupported_predicate}
+use Rattle.vortex_model.specs.Refusal.{Refusal, not_a_record, unkept_type, repeated_name, invalid_value, not_convertible, no_such_group, unknown_path, element_step, placeholder, unknown_column, not_a_leaf, unequal_types, not_boolean, unsupported_predicate}
 use Rattle.vortex_table_core.specs.declared.error.TableError.{TableError}
 use Rattle.vortex_table_core.specs.declared.error.TableError.TheVariants as error
 
@@ -13,6 +13,7 @@ refusal_of error.RepeatedName = Some repeated_name
 refusal_of (error.InvalidValue i) = Some (invalid_value i)
 refusal_of (error.NotConvertible i) = Some (not_convertible i)
 refusal_of error.Total = None
+refusal_of error.NoSuchGroup = Some no_such_group
 refusal_of (error.UnknownPath i) = Some (unknown_path i)
 refusal_of (error.ElementStep i) = Some (element_step i)
 refusal_of error.Placeholder = Some placeholder

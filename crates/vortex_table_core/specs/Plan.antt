@@ -12,6 +12,7 @@ use Rattle.vortex_model.specs.Pruning.{has_no_like}
 use Rattle.vortex_model.specs.Table as model
 use Rattle.vortex_dtype_core.specs.View.{type_of}
 use Rattle.vortex_stats_expr.specs.Bound.{bound_value}
+use Rattle.vortex_table_chunk.specs.Proved.{IsBoundProof}
 use Rattle.vortex_table_schema.specs.Cut.{paths_of, tree_of, kept_by}
 use Rattle.vortex_table_core.specs.TableView.{table_of}
 use Rattle.vortex_table_core.specs.declared.plan.Scan.{Scan}
@@ -33,8 +34,8 @@ pub record IsPreparedFor (k : LogicalType) (paths : List Names) (e : Expression)
   pub faultless : predicate_fault k e ≡ None
   pub no_like : has_no_like e ≡ true
   pub bound : (row : Content) → bound_value made.bound row ≡ value_at k e row
-  pub falsifier : made.proofs.falsifier ≡ falsifier k e
-  pub satisfier : made.proofs.satisfier ≡ satisfier k e
+  pub falsifier : IsBoundProof k (falsifier k e) made.proofs.falsifier
+  pub satisfier : IsBoundProof k (satisfier k e) made.proofs.satisfier
   pub cut_kind : type_of made.cut.dtype ≡ cut_type paths k
   pub cut_values : tree_of made.cut.projection ≡ kept_by paths k
 

@@ -6,6 +6,7 @@ use Rattle.vortex_model.specs.Path.{Positions, eq_positions}
 use Rattle.vortex_model.specs.Valid.{valid}
 use Rattle.vortex_scalar_value.specs.View.{raw_of}
 use Rattle.vortex_table_schema.specs.Leaves.{leaf_positions}
+use Rattle.vortex_table_chunk.specs.Bounds.{are_sums_of}
 use Rattle.vortex_table_chunk.specs.declared.chunk.Chunk.{Chunk}
 
 -- the leaves are equal, one by one
@@ -14,10 +15,11 @@ eq_leaves [] [] = true
 eq_leaves (is ∷ xs) (js ∷ ys) = eq_positions is js && eq_leaves xs ys
 eq_leaves xs ys = false
 
--- the chunk has rows, these are of the type, and its leaves and its bound length are those of the
--- table
+-- the chunk has rows, these are of the type, its leaves and its bound length are those of the
+-- table, and its sums are of the kinds of the type's leaves
 abbrev pub is_formed : ℕ → LogicalType → Chunk → Bool
 is_formed L k c =
     nat_lt 0 (length c.rows.items) &&
     (list_all (λ row. valid k (raw_of row)) c.rows.items &&
-    (eq_leaves c.leaves.value.items (leaf_positions k) && c.bound_length == L))
+    (eq_leaves c.leaves.value.items (leaf_positions k) && (c.bound_length == L &&
+    are_sums_of k c.leaves.value.items c.bounds.items)))

@@ -5,12 +5,11 @@ use Rattle.vortex_dtype_core.specs.View.{type_of}
 use Rattle.vortex_table_chunk.specs.Chunk.{chunk_rows}
 use Rattle.vortex_table_core.specs.declared.table.Table.{Table}
 
--- each chunk is a group of its own
 abbrev pub table_of : Table → model.Table
 table_of t = record {
   kind = type_of t.dtype;
   default = t.bound_length;
   lengths = [];
   chunks = map chunk_rows t.chunks.items;
-  groups = map (λ chunk. 1) t.chunks.items;
+  groups = map (λ g. g.chunks) t.groups.items;
 }

@@ -46,8 +46,8 @@ fn named_part<'a>(dtype: &'a DType, name: &FieldName) -> Option<&'a DType>
     dtype.as_struct_fields_opt()?.field(name)
 }
 
-// `index` is that of the path among those asked for.
-fn check_path(index: usize, dtype: &DType, path: &FieldPath) -> Result<(), TableError>
+/// As `check_paths`, of one path, which has this index among those asked for.
+pub fn check_path(index: usize, dtype: &DType, path: &FieldPath) -> Result<(), TableError>
     ensures ok { OnOk result (path_fault index (type_of dtype.now) (steps_of path.now) ≡ None) }
     ensures refused { IfErr result
         (λ e. Explains ⊥ (path_fault index (type_of dtype.now) (steps_of path.now)) e) }

@@ -26,6 +26,9 @@ pub enum TableError {
     /// 7: the rows of the table would be more than `usize::MAX`.
     #[error("too many rows")]
     Total,
+    /// 8: there is no such group, or none behind it to join it with.
+    #[error("there is no such group")]
+    NoSuchGroup,
     /// 9: the first path, by its index, with a name that isn't there.
     #[error("path {0} leads nowhere")]
     UnknownPath(usize),
@@ -72,6 +75,7 @@ impl TableError {
             TableError::InvalidValue(_) => 5,
             TableError::NotConvertible(_) => 6,
             TableError::Total => 7,
+            TableError::NoSuchGroup => 8,
             TableError::UnknownPath(_) => 9,
             TableError::ElementStep(_) => 10,
             TableError::Placeholder => 11,

@@ -11,6 +11,7 @@ ghost use Rattle.vortex_dtype_core.specs.View.{type_of};
 ghost use Rattle.vortex_dtype_path.specs.View.{steps_of};
 ghost use Rattle.vortex_table_schema.specs.Cut.{paths_of};
 ghost use Rattle.vortex_stats_expr.specs.Faults.{IsReason};
+ghost use Rattle.vortex_table_chunk.specs.Proved.{IsBoundProof};
 ghost use Rattle.vortex_table_core.specs.Error.{Explains};
 ghost use Rattle.vortex_table_core.specs.Plan.{IsPreparedFor};
 
@@ -20,7 +21,7 @@ use crate::plan::{Proofs, ScanPlan};
 use std::alloc::{AllocError, Global};
 use vortex_dtype_core::dtype::DType;
 use vortex_dtype_path::path::FieldPath;
-use vortex_stats_expr::bind::{PredicateError, bind};
+use vortex_stats_expr::bind::{PredicateError, bind, bind_proof};
 use vortex_stats_expr::bound::BoundExpression;
 use vortex_stats_expr::expression::Expression;
 use vortex_stats_rewrite::rewrite::{falsify, satisfy};
@@ -59,14 +60,55 @@ fn bind_predicate(
     }
 }
 
-fn make_proofs(alloc: Global, dtype: &DType, predicate: &Expression) -> Result<Proofs, AllocError>
-    ensures falsifier { IfOk result (λ proofs. proofs.falsifier
-        ≡ falsifier (type_of dtype.now) predicate.now) }
-    ensures satisfier { IfOk result (λ proofs. proofs.satisfier
-        ≡ satisfier (type_of dtype.now) predicate.now) }
+// So that no name is looked up at a chunk.
+fn resolve_proof(
+    alloc: Global,
+    dtype: &DType,
+    proof: &Option<Expression>,
+) -> Result<Option<BoundExpression>, AllocError>
+    ensures { IfOk result (λ bound. IsBoundProof (type_of dtype.now) proof.now bound) }
 {
-    let falsifier = falsify(alloc, dtype, predicate)?;
-    let satisfier = satisfy(alloc, dtype, predicate)?;
+    match proof {
+        Some(proof) => {
+            let bound = bind_proof(alloc, proof, dtype)?;
+            Ok(Some(bound))
+        }
+        None => Ok(None),
+    }
+}
+
+fn make_falsifier(
+    alloc: Global,
+    dtype: &DType,
+    predicate: &Expression,
+) -> Result<Option<BoundExpression>, AllocError>
+    ensures { IfOk result (λ bound. IsBoundProof (type_of dtype.now)
+        (falsifier (type_of dtype.now) predicate.now) bound) }
+{
+    let proof = falsify(alloc, dtype, predicate)?;
+    resolve_proof(alloc, dtype, &proof)
+}
+
+fn make_satisfier(
+    alloc: Global,
+    dtype: &DType,
+    predicate: &Expression,
+) -> Result<Option<BoundExpression>, AllocError>
+    ensures { IfOk result (λ bound. IsBoundProof (type_of dtype.now)
+        (satisfier (type_of dtype.now) predicate.now) bound) }
+{
+    let proof = satisfy(alloc, dtype, predicate)?;
+    resolve_proof(alloc, dtype, &proof)
+}
+
+fn make_proofs(alloc: Global, dtype: &DType, predicate: &Expression) -> Result<Proofs, AllocError>
+    ensures falsifier { IfOk result (λ proofs. IsBoundProof (type_of dtype.now)
+        (falsifier (type_of dtype.now) predicate.now) proofs.falsifier) }
+    ensures satisfier { IfOk result (λ proofs. IsBoundProof (type_of dtype.now)
+        (satisfier (type_of dtype.now) predicate.now) proofs.satisfier) }
+{
+    let falsifier = make_falsifier(alloc, dtype, predicate)?;
+    let satisfier = make_satisfier(alloc, dtype, predicate)?;
     Ok(Proofs {
         falsifier,
         satisfier,

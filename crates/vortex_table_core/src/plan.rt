@@ -11,8 +11,9 @@ use vortex_dtype_path::path::FieldPath;
 use vortex_scalar_core::scalar::Scalar;
 use vortex_stats_expr::bound::BoundExpression;
 use vortex_stats_expr::expression::Expression;
-use vortex_table_chunk::binder::is_proved;
+use vortex_table_chunk::binder::{ZoneOperands, is_proved};
 use vortex_table_chunk::chunk::Chunk;
+use vortex_table_chunk::zones::bounds::ColumnBounds;
 use vortex_table_schema::answer::ScanAnswer;
 use vortex_table_schema::cut::RowProjection;
 
@@ -27,11 +28,11 @@ pub enum Pruning {
     Filter,
 }
 
-/// The two proofs of a predicate, each if there is one.
+/// The two proofs of a predicate, each if there is one, with their columns resolved.
 #[derive(Drop)]
 pub struct Proofs {
-    pub falsifier: Option<Expression>,
-    pub satisfier: Option<Expression>,
+    pub falsifier: Option<BoundExpression>,
+    pub satisfier: Option<BoundExpression>,
 }
 
 /// What is made of a scan once and used at every chunk.
@@ -53,43 +54,56 @@ pub struct Scan<'a> {
 
 impl Scan<'_> {
     ghost use Rattle.std.specs.Prelude.{◌≡◌, ◌++◌, All, IfOk, OnOk, IsTrue, is_some, map};
-    ghost use Rattle.vortex_model.specs.Scan.{chunk_outcome, scanned};
+    ghost use Rattle.vortex_model.specs.Scan.{chunk_outcome};
     ghost use Rattle.vortex_dtype_core.specs.View.{type_of};
     ghost use Rattle.vortex_scalar_core.specs.Scalar.{scalar_type, scalar_content};
-    ghost use Rattle.vortex_table_schema.specs.Answer.{answer_of, IsTyped};
+    ghost use Rattle.vortex_table_schema.specs.Answer.{answer_of};
+    ghost use Rattle.vortex_table_schema.specs.Leaves.{leaf_positions};
     ghost use Rattle.vortex_table_chunk.specs.Chunk.{chunk_rows};
+    ghost use Rattle.vortex_table_chunk.specs.BoundStat.{zone_provided};
+    ghost use Rattle.vortex_table_chunk.specs.Proved.{proved_in};
     ghost use Rattle.vortex_table_core.specs.Outcome.{outcome_of};
     ghost use Rattle.vortex_table_core.specs.Plan.{IsPlan, table_in, paths_in, predicate_in};
     ghost use Rattle.vortex_table_core.specs.Progress.{with_chunk, found_rows, proofs_at};
     ghost use Rattle.vortex_table_core.specs.Table.{is_formed};
 
+    /// Whether the statistics of the table's leaf columns in so many rows make the proof true.
+    pub fn proves(
+        &self,
+        bounds: &[ColumnBounds],
+        rows: usize,
+        proof: &Option<BoundExpression>,
+    ) -> bool
+        ensures { result ≡ proved_in (zone_provided (leaf_positions (table_in self.now).kind)
+            bounds.now rows) proof.now }
+    {
+        let zone = ZoneOperands {
+            leaves: self.table.leaves.as_slice(),
+            bounds,
+            rows,
+        };
+        is_proved(proof, &zone)
+    }
+
     // The satisfier is asked only where the falsifier fails.
-    fn outcome(&self, alloc: Global, chunk: &Chunk) -> Result<Pruning, AllocError>
+    fn outcome(&self, chunk: &Chunk) -> Pruning
         requires plan { IsPlan self.now }
         requires formed { IsTrue
             (is_formed (table_in self.now).default (table_in self.now).kind chunk.now) }
-        ensures { IfOk result (λ outcome. outcome_of outcome ≡ chunk_outcome (table_in self.now)
-            (predicate_in self.now) (chunk_rows chunk.now)) }
+        ensures { outcome_of result ≡ chunk_outcome (table_in self.now)
+            (predicate_in self.now) (chunk_rows chunk.now) }
     {
-        let falsified = is_proved(
-            alloc,
-            &self.table.dtype,
-            chunk,
-            &self.prepared.proofs.falsifier,
-        )?;
+        let bounds = chunk.bounds.as_slice();
+        let rows = chunk.rows.len();
+        let falsified = self.proves(bounds, rows, &self.prepared.proofs.falsifier);
         if falsified {
-            return Ok(Pruning::Skip);
+            return Pruning::Skip;
         }
-        let satisfied = is_proved(
-            alloc,
-            &self.table.dtype,
-            chunk,
-            &self.prepared.proofs.satisfier,
-        )?;
+        let satisfied = self.proves(bounds, rows, &self.prepared.proofs.satisfier);
         if satisfied {
-            return Ok(Pruning::TakeAll);
+            return Pruning::TakeAll;
         }
-        Ok(Pruning::Filter)
+        Pruning::Filter
     }
 
     // The number of proofs that were evaluated to come to the outcome.
@@ -167,7 +181,7 @@ impl Scan<'_> {
             (All (λ row. scalar_type row ≡ type_of self.now.prepared.now.cut.dtype)
             answer.new.rows.items) }
     {
-        let outcome = self.outcome(alloc, chunk)?;
+        let outcome = self.outcome(chunk);
         self.find_rows(alloc, chunk, outcome, &mut answer.rows)?;
         push_if(outcome.is_skipped(), number, &mut answer.skipped)?;
         push_if(outcome.is_whole(), number, &mut answer.whole)?;
@@ -176,27 +190,6 @@ impl Scan<'_> {
             .saturating_add(tested_rows(outcome, chunk));
         answer.proofs = answer.proofs.saturating_add(self.proofs_at(outcome));
         Ok(())
-    }
-
-    /// The whole answer, chunk by chunk in order.
-    pub fn run(&self, alloc: Global) -> Result<ScanAnswer, AllocError>
-        requires { IsPlan self.now }
-        ensures found { IfOk result (λ answer. answer_of answer
-            ≡ scanned (table_in self.now) (paths_in self.now) (predicate_in self.now)) }
-        ensures typed { IfOk result (λ answer. IsTyped answer) }
-    {
-        let mut answer = ScanAnswer {
-            rows: Vec::new(alloc),
-            dtype: self.prepared.cut.dtype.clone()?,
-            skipped: Vec::new(alloc),
-            whole: Vec::new(alloc),
-            rows_tested: 0,
-            proofs: 0,
-        };
-        for (number, chunk) in self.table.chunks.iter().enumerate() {
-            self.add_chunk(alloc, number, chunk, &mut answer)?;
-        }
-        Ok(answer)
     }
 }
 

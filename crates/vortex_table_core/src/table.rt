@@ -5,11 +5,13 @@ ghost use Rattle.vortex_model.specs.Kept.{type_fault_so_far};
 ghost use Rattle.vortex_dtype_core.specs.View.{type_of};
 ghost use Rattle.vortex_table_chunk.specs.Chunk.{row_count};
 ghost use Rattle.vortex_table_schema.specs.Leaves.{leaf_positions};
+ghost use Rattle.vortex_table_core.specs.Group.{AreGroups, AreGroups-prop};
 ghost use Rattle.vortex_table_core.specs.Table.{is_formed, eq_leaves};
 
 use crate::append::{check_batch, convert_rows};
 use crate::check::check_type;
 use crate::error::TableError;
+use crate::group::Group;
 use std::alloc::Global;
 use std::borrow::CowSlice;
 use std::rc::Rc;
@@ -19,8 +21,8 @@ use vortex_table_chunk::chunk::{Chunk, new_chunk};
 use vortex_table_schema::layout::Layout;
 use vortex_table_schema::leaves::{LeafPath, leaf_positions};
 
-/// A table: rows of one type in chunks, each the rows of one append, with statistics of the leaf
-/// columns of each chunk.
+/// A table: rows of one type in chunks, each the rows of one append, and the chunks in groups of
+/// neighbours. It has statistics of the leaf columns of each chunk and of each group.
 #[derive(Drop)]
 pub struct Table {
     pub(crate) dtype: DType,
@@ -28,10 +30,14 @@ pub struct Table {
     pub(crate) leaves: Rc<Vec<LeafPath>>,
     pub(crate) len: usize,
     pub(crate) chunks: Vec<Chunk>,
+    pub(crate) groups: Vec<Group>,
     pub ghost kept: { IsTrue (is_none (type_fault_so_far (type_of dtype))) },
     pub ghost led: { IsTrue (eq_leaves leaves.value.items (leaf_positions (type_of dtype))) },
     pub ghost formed: { IsTrue (list_all (is_formed bound_length (type_of dtype)) chunks.items) },
     pub ghost counted: { row_count chunks.items ≡ len },
+    pub ghost grouped: { AreGroups (type_of dtype) bound_length 0 groups.items
+        chunks.items } by { AreGroups-prop (type_of dtype) bound_length 0 groups.items
+            chunks.items },
 }
 
 impl Table {
@@ -64,6 +70,7 @@ impl Table {
             leaves,
             len: 0,
             chunks: Vec::new(alloc),
+            groups: Vec::new(alloc),
         })
     }
 
@@ -115,7 +122,8 @@ impl Table {
         Ok(())
     }
 
-    // Keeps the rows, which are of the table's type, as one new chunk. No rows make none.
+    // Keeps the rows, which are of the table's type, as one new chunk in a group of its own. No
+    // rows make none.
     fn push_rows(&mut self, alloc: Global, rows: Vec<ScalarValue>) -> Result<(), TableError>
         requires { IsTrue
             (list_all (λ row. valid (type_of self.old.dtype) (raw_of row)) rows.items) }
@@ -132,8 +140,17 @@ impl Table {
         if rows.is_empty() {
             return Ok(());
         }
+        let group = Group {
+            first: self.chunks.len(),
+            chunks: 1,
+            rows: rows.len(),
+            joined: None,
+        };
         let chunk = new_chunk(alloc, &self.dtype, &self.leaves, self.bound_length, rows)?;
+        // Once there is room for its group, the chunk is the last that memory can be short of.
+        self.groups.reserve(1)?;
         self.chunks.push(chunk)?;
+        self.groups.push(group)?;
         self.len = len;
         Ok(())
     }

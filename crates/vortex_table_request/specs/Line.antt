@@ -5,11 +5,11 @@ use Rattle.serde_json.specs.Data.{Data, Items, no_items, item}
 use Rattle.serde_json.specs.Find.{get, as_array, as_str}
 use Rattle.vortex_model.specs.LogicalType.{LogicalType}
 use Rattle.vortex_model.specs.Content.{Raw}
-use Rattle.vortex_model.specs.Command.{Command, create, append, scan}
+use Rattle.vortex_model.specs.Command.{Command, create, append, scan, join, describe}
 use Rattle.vortex_table_request.specs.Parsed.{data_of, size_of, natural_of, keeps_whole}
 use Rattle.vortex_table_request.specs.Kinds.{type_in, one_if}
 use Rattle.vortex_table_request.specs.Rows.{rows_at}
-use Rattle.vortex_table_request.specs.Where.{paths_in, predicate_in}
+use Rattle.vortex_table_request.specs.Where.{path_in, paths_in, predicate_in}
 
 -- how rows are laid out, which no answer shows
 pub data LayoutName : Type 0 where
@@ -61,21 +61,41 @@ scan_in size d =
     (option_and_then paths_in (option_and_then as_array (get (codes "paths") d)))
     else None
 
+-- `group` fits a `usize`
+abbrev pub join_in : ℕ → Data → Option Command
+join_in size d =
+    if size == 2
+    then option_map join (option_and_then natural_of (get (codes "group") d))
+    else None
+
+-- `path` is one path as those of a scan
+abbrev pub describe_in : ℕ → Data → Option Command
+describe_in size d =
+    if size == 3
+    then option_and_then (λ path. option_map (describe path)
+    (option_and_then natural_of (get (codes "group") d)))
+    (option_and_then path_in (get (codes "path") d))
+    else None
+
 -- which command a line asks for
 pub data VerbName : Type 0 where
-  creates appends scans : VerbName
+  creates appends scans joins describes : VerbName
 
 abbrev pub verb_named : List ℕ → Option VerbName
 verb_named name =
     if bytes_eq name (codes "create") then Some creates
     else (if bytes_eq name (codes "append") then Some appends
-    else (if bytes_eq name (codes "scan") then Some scans else None))
+    else (if bytes_eq name (codes "scan") then Some scans
+    else (if bytes_eq name (codes "join") then Some joins
+    else (if bytes_eq name (codes "describe") then Some describes else None))))
 
 -- that command, in an object of this many members
 abbrev pub command_with : VerbName → ℕ → Data → Option Command
 command_with creates size d = create_in size d
 command_with appends size d = append_in size d
 command_with scans size d = scan_in size d
+command_with joins size d = join_in size d
+command_with describes size d = describe_in size d
 
 -- an object with `cmd` and exactly the keys of that command
 abbrev pub command_in : Data → Option Command

@@ -6,11 +6,11 @@ use Rattle.vortex_dtype_path.specs.View.{steps_of}
 use Rattle.vortex_scalar_value.specs.View.{raw_in}
 use Rattle.vortex_table_schema.specs.declared.layout.Layout as rows
 use Rattle.vortex_table_schema.specs.declared.layout.Layout.TheVariants as layout
-use Rattle.vortex_table_request.specs.Line.{LayoutName, plain, dictionary, constant, VerbName, creates, appends, scans}
+use Rattle.vortex_table_request.specs.Line.{LayoutName, plain, dictionary, constant, VerbName, creates, appends, scans, joins, describes}
 use Rattle.vortex_table_request.specs.declared.command.Verb as verbs
 use Rattle.vortex_table_request.specs.declared.command.Verb.TheVariants as verb
 use Rattle.vortex_table_request.specs.declared.command.Command.{Command}
-use Rattle.vortex_table_request.specs.declared.command.Command.TheVariants.{Create, Append, Scan}
+use Rattle.vortex_table_request.specs.declared.command.Command.TheVariants.{Create, Append, Scan, Join, Describe}
 
 abbrev pub layout_of : rows.Layout → LayoutName
 layout_of layout.Plain = plain
@@ -21,8 +21,12 @@ abbrev pub verb_of : verbs.Verb → VerbName
 verb_of verb.Create = creates
 verb_of verb.Append = appends
 verb_of verb.Scan = scans
+verb_of verb.Join = joins
+verb_of verb.Describe = describes
 
 abbrev pub shown : Command → model.Command
 shown (Create dtype length) = model.create (type_of dtype) length []
 shown (Append dtype values layouts) = model.append (type_of dtype) (map raw_in values.items)
 shown (Scan paths predicate) = model.scan (map steps_of paths.items) predicate
+shown (Join group) = model.join group
+shown (Describe path group) = model.describe (steps_of path) group

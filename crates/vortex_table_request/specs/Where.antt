@@ -1,4 +1,4 @@
--- The paths and the predicate of a scan.
+-- Paths, and the predicate of a scan.
 use Rattle.std.specs.Prelude.{ℕ, List, [], ◌∷◌, ◌==◌, is_some, Option, Some, None, if◌then◌else◌, option_map, option_and_then, codes}
 use Rattle.std.specs.Str.{bytes_eq}
 use Rattle.serde_json.specs.Data.{Data, Items, no_items, item}

@@ -2,12 +2,12 @@
 ghost use Rattle.std.specs.Prelude.{◌≡◌, map, option_map, Some, None, if◌then◌else◌};
 ghost use Rattle.serde_json.specs.View.{view, items_view};
 ghost use Rattle.vortex_table_request.specs.Parsed.{Gives};
-ghost use Rattle.vortex_table_request.specs.Line.{layout_named, layouts_of, layouts_in, rows_in, create_in, append_in, scan_in, verb_named, command_in, command_of};
+ghost use Rattle.vortex_table_request.specs.Line.{layout_named, layouts_of, layouts_in, rows_in, create_in, append_in, scan_in, join_in, describe_in, verb_named, command_in, command_of};
 ghost use Rattle.vortex_table_request.specs.View.{layout_of, verb_of, shown};
 ghost use Rattle.vortex_dtype_core.specs.View.{type_of};
 ghost use Rattle.vortex_scalar_value.specs.View.{raw_in};
 
-use crate::paths::read_paths;
+use crate::paths::{read_path, read_paths};
 use crate::predicates::read_predicate;
 use crate::{ParseError, is_whole, parse, present_members, read_dtype, read_rows, size};
 use serde_json::Value;
@@ -43,6 +43,18 @@ pub enum Command {
         paths: Vec<FieldPath>,
         /// Which rows.
         predicate: Expression,
+    },
+    /// One group of two neighbouring groups of chunks.
+    Join {
+        /// The index of the first.
+        group: usize,
+    },
+    /// What is known of a leaf column in a group of chunks.
+    Describe {
+        /// The column.
+        path: FieldPath,
+        /// The index of the group.
+        group: usize,
     },
 }
 
@@ -148,12 +160,46 @@ fn read_scan(alloc: Global, size: usize, value: &Value) -> Result<Command, Parse
     Ok(Command::Scan { paths, predicate })
 }
 
+fn read_join(size: usize, value: &Value) -> Result<Command, ParseError>
+    ensures { Gives shown result (join_in size (view value.now)) }
+{
+    if size != 2 {
+        return Err(ParseError::Malformed);
+    }
+    let group = value
+        .get("group")
+        .and_then(Value::as_u64)
+        .ok_or(ParseError::Malformed)?;
+    Ok(Command::Join {
+        group: group as usize,
+    })
+}
+
+fn read_describe(alloc: Global, size: usize, value: &Value) -> Result<Command, ParseError>
+    ensures { Gives shown result (describe_in size (view value.now)) }
+{
+    if size != 3 {
+        return Err(ParseError::Malformed);
+    }
+    let path = read_path(alloc, value.get("path").ok_or(ParseError::Malformed)?)?;
+    let group = value
+        .get("group")
+        .and_then(Value::as_u64)
+        .ok_or(ParseError::Malformed)?;
+    Ok(Command::Describe {
+        path,
+        group: group as usize,
+    })
+}
+
 /// Which command a line asks for.
 #[derive(Clone, Copy, Debug, PartialEq, Eq)]
 enum Verb {
     Create,
     Append,
     Scan,
+    Join,
+    Describe,
 }
 
 fn read_verb(name: &str) -> Result<Verb, ParseError>
@@ -163,6 +209,8 @@ fn read_verb(name: &str) -> Result<Verb, ParseError>
         "create" => Ok(Verb::Create),
         "append" => Ok(Verb::Append),
         "scan" => Ok(Verb::Scan),
+        "join" => Ok(Verb::Join),
+        "describe" => Ok(Verb::Describe),
         _ => Err(ParseError::Malformed),
     }
 }
@@ -182,6 +230,8 @@ fn read_value_command(alloc: Global, value: &mut Value) -> Result<Command, Parse
         Verb::Create => read_create(alloc, size, value),
         Verb::Append => read_append(alloc, size, value),
         Verb::Scan => read_scan(alloc, size, value),
+        Verb::Join => read_join(size, value),
+        Verb::Describe => read_describe(alloc, size, value),
     }
 }
 

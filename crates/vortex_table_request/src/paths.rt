@@ -1,4 +1,4 @@
-//! Paths of a scan from JSON.
+//! Paths from JSON.
 ghost use Rattle.std.specs.Prelude.{◌≡◌, map, option_map};
 ghost use Rattle.serde_json.specs.View.{view, items_view};
 ghost use Rattle.vortex_dtype_path.specs.View.{step_of, steps_of};
@@ -34,7 +34,7 @@ fn read_steps(alloc: Global, items: &[Value]) -> Result<Vec<Field>, ParseError>
 }
 
 /// A path: an array of steps.
-fn read_path(alloc: Global, value: &Value) -> Result<FieldPath, ParseError>
+pub(crate) fn read_path(alloc: Global, value: &Value) -> Result<FieldPath, ParseError>
     ensures { Gives steps_of result (path_in (view value.now)) }
 {
     let items = value.as_array().ok_or(ParseError::Malformed)?;

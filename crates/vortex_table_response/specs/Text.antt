@@ -1,11 +1,14 @@
 -- The texts of answers: compact, with the keys of an object in byte order.
-use Rattle.std.specs.Prelude.{ℕ, List, [], ◌∷◌, ◌++◌, Bool, true, false, codes, decimal, Option, Some, None}
+use Rattle.std.specs.Prelude.{ℕ, List, [], ◌∷◌, ◌++◌, Bool, true, false, pos, codes, decimal, Option, Some, None}
 use Rattle.std.specs.Fmt.{signed_decimal}
 use Rattle.hex.specs.Hex.{encode_lower}
 use Rattle.json.specs.Print.{quoted}
 use Rattle.vortex_model.specs.Content.{Content, null, boolean, integer, text, byte_string, tuple, Contents, nothing, first}
 use Rattle.vortex_model.specs.Refusal.{Refusal, not_a_record, unkept_type, repeated_name, invalid_value, not_convertible, total_passed, no_such_group, unknown_path, element_step, placeholder, unknown_column, not_a_leaf, unequal_types, not_boolean, unsupported_like, no_table, unsupported_predicate, repeated_path, number_of}
 use Rattle.vortex_model.specs.Scan.{ScanAnswer}
+use Rattle.vortex_model.specs.Statistics.{Precision, exact, inexact, absent}
+use Rattle.vortex_model.specs.ZoneMap.{ZoneMap}
+use Rattle.vortex_stats_bound.specs.Precision.{precision_map}
 use Rattle.vortex_table_response.specs.type_texts.Text.{flag_text, comma, type_text}
 
 -- ---- contents
@@ -101,3 +104,31 @@ scan_end_text a =
 
 abbrev pub scan_text : ScanAnswer → List ℕ
 scan_text a = scan_front_text a ++ rows_text false a.rows ++ scan_end_text a
+
+-- ---- descriptions
+
+-- an array of a content and what stands in front of it
+abbrev pub entry_text : List ℕ → Content → List ℕ
+entry_text front c = front ++ content_text c ++ codes "]"
+
+-- how well a value is known, and the value
+abbrev pub known_text : Precision Content → List ℕ
+known_text (exact c) = entry_text (codes "[\"exact\",") c
+known_text (inexact c) = entry_text (codes "[\"inexact\",") c
+known_text absent = codes "[\"absent\"]"
+
+-- with what stands in front of it
+abbrev pub member_text : List ℕ → Precision Content → List ℕ
+member_text front p = front ++ known_text p
+
+abbrev pub members_text : (constant greatest least nulls total : Precision Content) → List ℕ
+members_text constant greatest least nulls total =
+    member_text (codes "{\"constant\":") constant ++ member_text (codes ",\"max\":") greatest ++
+    member_text (codes ",\"min\":") least ++ member_text (codes ",\"null_count\":") nulls ++
+    member_text (codes ",\"ok\":true,\"sum\":") total ++ codes "}"
+
+-- the constancy as a truth value, the bounds, and the number of nulls and the sum as numbers
+abbrev pub description_text : ZoneMap → List ℕ
+description_text z =
+    members_text (precision_map boolean z.constant) z.high z.low (exact (integer (pos z.nulls)))
+    (precision_map integer z.total)

@@ -1,12 +1,14 @@
 //! The texts of answers, as compact JSON.
 #![tactic(auto)]
 
+mod descriptions;
 mod hexadecimal;
 mod refusals;
 mod scans;
 pub mod type_texts;
 mod values;
 
+pub use descriptions::push_description;
 pub use refusals::{bad_line, refusal, without_table};
 pub use scans::push_scan;
 pub use type_texts::{push_dtype, push_flag, push_number};

@@ -21,6 +21,7 @@ pub error_text : (e : TableError) (n : ℕ) (x : List ℕ) → e ≢ error.Memor
     → refusal_parts (option_and_then index_of (refusal_of e)) n x ≡ text_of (error_answer e)
 error_text error.Memory n x memory f e total = absurd (memory refl)
 error_text error.Total n x memory f e total = same None n 7 x _ (total refl) f
+error_text error.NoSuchGroup n x memory f e total = same None n 8 x _ e f
 error_text error.NotARecord n x memory f e total = same None n 2 x _ e f
 error_text error.UnkeptType n x memory f e total = same None n 3 x _ e f
 error_text error.RepeatedName n x memory f e total = same None n 4 x _ e f
@@ -41,6 +42,7 @@ pub explained : (P : Type 0) (old new : Option Table) (c : Command) (fault : Opt
     → RespondsTo old c (error_answer e) new
 explained P old new c fault error.Memory eq_table r passes behind x = eq_table
 explained P old new c fault error.Total eq_table r passes behind x = (r ∙ behind refl, passes x, eq_table)
+explained P old new c fault error.NoSuchGroup eq_table r passes behind x = (r ∙ x, eq_table)
 explained P old new c fault error.NotARecord eq_table r passes behind x = (r ∙ x, eq_table)
 explained P old new c fault error.UnkeptType eq_table r passes behind x = (r ∙ x, eq_table)
 explained P old new c fault error.RepeatedName eq_table r passes behind x = (r ∙ x, eq_table)

@@ -8,8 +8,9 @@ use Rattle.vortex_model.specs.Expression.{Expression}
 use Rattle.vortex_model.specs.Refusal.{Refusal, no_table}
 use Rattle.vortex_model.specs.Table.{Table, rows_of}
 use Rattle.vortex_model.specs.Scan.{ScanAnswer, scanned}
-use Rattle.vortex_model.specs.Command.{Command, create, append, scan, names_of, refusal, refusal_in, create_fault}
-use Rattle.vortex_model.specs.Reply.{refused, found, RespondsTo, PassesTotal}
+use Rattle.vortex_model.specs.Command.{Command, create, append, scan, describe, names_of, positions_of, refusal, refusal_in, create_fault}
+use Rattle.vortex_model.specs.Reply.{refused, found, described, Describes, RespondsTo, PassesTotal}
+use Rattle.vortex_model.specs.ZoneMap.{ZoneMap}
 use Rattle.vortex_table_core.specs.Error.{Explains}
 use Rattle.vortex_table_core.specs.declared.error.TableError.{TableError}
 use Rattle.vortex_table_core.specs.declared.error.TableError.TheVariants as error
@@ -50,14 +51,21 @@ append_refused old new t k view values e there same x behind =
     explained (2 ^ 64 ≤ length (rows_of t) + length values) old new c (refusal t c) e (same ∙ sym there)
     (ap (λ (o : Option Table). refusal_in o c) there) (passes old t k view values there) behind x
 
-pub scan_refused : (old : Option Table) (t : Table) (paths : List (List Step)) (p : Expression) (e : TableError)
-    → old ≡ Some t → Explains ⊥ (refusal t (scan paths p)) e → RespondsTo old (scan paths p) (error_answer e) old
-scan_refused old t paths p e there x =
-    explained ⊥ old old (scan paths p) (refusal t (scan paths p)) e refl
-    (ap (λ (o : Option Table). refusal_in o (scan paths p)) there) (λ h. absurd h) (never (refusal t (scan paths p)) e x) x
+-- a command to a table that passes no total
+pub refused_there : (old new : Option Table) (t : Table) (c : Command) (e : TableError) → old ≡ Some t → new ≡ Some t → Explains ⊥ (refusal t c) e
+    → RespondsTo old c (error_answer e) new
+refused_there old new t c e there same x =
+    explained ⊥ old new c (refusal t c) e (same ∙ sym there)
+    (ap (λ (o : Option Table). refusal_in o c) there) (λ h. absurd h) (never (refusal t c) e x) x
 
 pub scan_found : (old : Option Table) (t : Table) (paths : List (List Step)) (p : Expression) (a : ScanAnswer)
     → old ≡ Some t → refusal t (scan paths p) ≡ None → a ≡ scanned t (map names_of paths) p
     → RespondsTo old (scan paths p) (found a) old
 scan_found old t paths p a there accepted is =
     subst (λ (o : Option Table). RespondsTo o (scan paths p) (found a) o) (sym there) (accepted, ap found is, refl)
+
+pub describe_found : (old : Option Table) (t : Table) (path : List Step) (i : ℕ) (z : ZoneMap)
+    → old ≡ Some t → refusal t (describe path i) ≡ None → Describes t (positions_of t.kind path) i z
+    → RespondsTo old (describe path i) (described z) old
+describe_found old t path i z there accepted is =
+    subst (λ (o : Option Table). RespondsTo o (describe path i) (described z) o) (sym there) (accepted, (z, is, refl), refl)

@@ -3,5 +3,6 @@
 #![tactic(auto)]
 
 pub mod commands;
+mod groups;
 mod refused;
 pub mod session;

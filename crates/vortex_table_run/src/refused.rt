@@ -19,6 +19,7 @@ fn name(error: TableError) -> &'static str
         TableError::InvalidValue(_) => "InvalidValue",
         TableError::NotConvertible(_) => "NotConvertible",
         TableError::Total => "Total",
+        TableError::NoSuchGroup => "NoSuchGroup",
         TableError::UnknownPath(_) => "UnknownPath",
         TableError::ElementStep(_) => "ElementStep",
         TableError::Placeholder => "Placeholder",

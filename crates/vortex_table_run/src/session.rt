@@ -37,7 +37,7 @@ fn write_found(alloc: Global, answer: &ScanAnswer, out: &mut Vec<u8>) -> Result<
 /// A table, or none yet.
 #[derive(Drop)]
 pub struct Session {
-    table: Option<Table>,
+    pub(crate) table: Option<Table>,
 }
 
 impl Session {
@@ -124,6 +124,8 @@ impl Session {
                 layouts,
             } => self.answer_append(&dtype, values, &layouts),
             Command::Scan { paths, predicate } => self.answer_scan(alloc, &paths, &predicate, out),
+            Command::Join { group } => self.answer_join(group),
+            Command::Describe { path, group } => self.answer_describe(alloc, &path, group, out),
         }
     }
 }

@@ -1,4 +1,5 @@
 pub mod Answer
 pub mod Cut
+pub mod Description
 pub mod Fault
 pub mod Leaves

@@ -4,6 +4,7 @@
 
 pub mod answer;
 pub mod cut;
+pub mod description;
 pub mod layout;
 pub mod leaves;
 pub mod projection;

@@ -1,4 +1,4 @@
-//! Calls what is known of statistics: values that are exact, inexact or absent, and bounds.
+//! Calls what is known of statistics: values that are exact, inexact or absent, bounds, and proofs.
 #![tactic(auto)]
 
 mod bounds;
@@ -6,6 +6,7 @@ mod checks;
 mod lower_bounds;
 mod orders;
 mod precision;
+mod proofs;
 mod upper_bounds;
 mod values;
 
@@ -27,6 +28,8 @@ fn run(alloc: Global, checks: &mut Checks<'_>) -> Done {
     checks.end_part("values that bound nothing, and intersections");
     orders::run(alloc, checks)?;
     checks.end_part("orders of values");
+    proofs::run(alloc, checks)?;
+    checks.end_part("proofs with their columns resolved");
     Ok(())
 }
 

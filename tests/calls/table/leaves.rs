@@ -5,7 +5,7 @@ use crate::make::{cell, column, constant, integers, record, scan, truth};
 use std::alloc::{AllocError, Global};
 use vortex_dtype::{BufferString, ByteBuffer, DType, Nullability};
 use vortex_scalar::ScalarValue;
-use vortex_table::expr::{Expression, eq, lt};
+use vortex_table::expr::{Expression, eq, gt, lt};
 use vortex_table::table::{Table, TableError};
 
 fn texts() -> DType {
@@ -149,6 +149,50 @@ pub fn chunks_are_skipped_by_any_leaf(
     checks.holds(
         "bytes that are there: skipped",
         answer.skipped.as_slice() == [1].as_slice(),
+    );
+    Ok(())
+}
+
+// One chunk for each of two strings of bytes, joined.
+fn joined(
+    alloc: Global,
+    bound_length: usize,
+    first: &[u8],
+    second: &[u8],
+) -> Result<Table, TableError> {
+    let dtype = record(alloc, ["blob", "n"], all_bytes(), integers())?;
+    let mut table = Table::create(alloc, dtype.clone()?, bound_length)?;
+    let mut values = Vec::new(alloc);
+    values.push(row(alloc, bytes(alloc, first)?, cell(0))?)?;
+    table.append(&dtype, &values, &[])?;
+    values.clear();
+    values.push(row(alloc, bytes(alloc, second)?, cell(0))?)?;
+    table.append(&dtype, &values, &[])?;
+    table.join(0)?;
+    Ok(table)
+}
+
+/// The bounds of a group of two chunks: raised past both, and missing from above.
+pub fn groups_have_bounds_of_bytes(
+    alloc: Global,
+    checks: &mut Checks<'_>,
+) -> Result<(), TableError> {
+    let raised = joined(alloc, 3, &[97, 255, 255, 255], &[98])?;
+    let wanted = constant(all_bytes(), bytes(alloc, &[98])?)?;
+    let above = gt(alloc, column(alloc, "blob")?, wanted)?;
+    let answer = scan(alloc, &raised, &above)?;
+    checks.holds("a raised bound: rows", answer.rows.is_empty());
+    checks.holds(
+        "a raised bound: skipped",
+        answer.skipped.as_slice() == [1].as_slice() && answer.rows_tested == 1,
+    );
+    checks.holds("a raised bound: proofs", answer.proofs == 3);
+    let missing = joined(alloc, 2, &[255, 255, 255], &[0])?;
+    let answer = scan(alloc, &missing, &in_blob(alloc, &[255, 255, 255])?)?;
+    checks.holds("no bound from above: rows", answer.rows.len() == 1);
+    checks.holds(
+        "no bound from above: skipped",
+        answer.skipped.as_slice() == [1].as_slice() && answer.proofs == 3,
     );
     Ok(())
 }

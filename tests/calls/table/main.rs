@@ -5,6 +5,7 @@
 mod checks;
 mod deep;
 mod faults;
+mod groups;
 mod leaves;
 mod make;
 mod scans;
@@ -28,6 +29,12 @@ fn run_all(alloc: Global, checks: &mut Checks<'_>) -> Result<(), TableError> {
     checks.end_part("paths cut rows together");
     leaves::chunks_are_skipped_by_any_leaf(alloc, checks)?;
     checks.end_part("chunks are skipped by any leaf");
+    groups::groups_are_joined(alloc, checks)?;
+    checks.end_part("groups are joined");
+    groups::groups_are_looked_at_first(alloc, checks)?;
+    checks.end_part("groups are looked at first");
+    leaves::groups_have_bounds_of_bytes(alloc, checks)?;
+    checks.end_part("groups have bounds of bytes");
     Ok(())
 }
 

@@ -8,7 +8,7 @@ pub type Exchange = (&'static str, &'static str);
 const OK: &str = "{\"ok\":true}";
 
 /// One session with every command, refusals in between, and no fault in what is asked last.
-pub const SESSION: [Exchange; 14] = [
+pub const SESSION: [Exchange; 17] = [
     (
         "{\"cmd\":\"scan\",\"paths\":[[]],\"where\":[\"=\",[\"col\",\"a\"],[\"lit\",{\"kind\":\"i32\"},1]]}",
         "{\"error\":19,\"name\":\"NoTable\"}",
@@ -29,6 +29,15 @@ pub const SESSION: [Exchange; 14] = [
         "{\"cmd\":\"scan\",\"paths\":[[\"a\"]],\"where\":[\">\",[\"col\",\"a\"],[\"lit\",{\"kind\":\"i32\"},5]]}",
         "{\"dtype\":{\"children\":[{\"kind\":\"i32\",\"nullable\":false}],\"kind\":\"struct\",\"names\":[\"a\"],\"nullable\":false},\"ok\":true,\"proofs\":2,\"rows\":[[10],[11]],\"rows_tested\":2,\"skipped\":[0],\"whole\":[]}",
     ),
+    ("{\"cmd\":\"join\",\"group\":0}", OK),
+    (
+        "{\"cmd\":\"join\",\"group\":0}",
+        "{\"error\":8,\"name\":\"NoSuchGroup\"}",
+    ),
+    (
+        "{\"cmd\":\"describe\",\"path\":[\"a\"],\"group\":0}",
+        "{\"constant\":[\"exact\",false],\"max\":[\"exact\",11],\"min\":[\"exact\",1],\"null_count\":[\"exact\",0],\"ok\":true,\"sum\":[\"exact\",27]}",
+    ),
     (
         "{\"cmd\":\"append\",\"dtype\":{\"kind\":\"i32\"},\"rows\":[]}",
         "{\"error\":2,\"name\":\"NotARecord\"}",
@@ -48,7 +57,7 @@ pub const SESSION: [Exchange; 14] = [
     ),
     (
         "{\"cmd\":\"scan\",\"paths\":[[]],\"where\":[\"!=\",[\"col\",\"a\"],[\"lit\",{\"kind\":\"i32\"},2]]}",
-        "{\"dtype\":{\"children\":[{\"kind\":\"i32\",\"nullable\":false}],\"kind\":\"struct\",\"names\":[\"a\"],\"nullable\":false},\"ok\":true,\"proofs\":2,\"rows\":[[1],[3],[10],[11]],\"rows_tested\":5,\"skipped\":[],\"whole\":[]}",
+        "{\"dtype\":{\"children\":[{\"kind\":\"i32\",\"nullable\":false}],\"kind\":\"struct\",\"names\":[\"a\"],\"nullable\":false},\"ok\":true,\"proofs\":3,\"rows\":[[1],[3],[10],[11]],\"rows_tested\":5,\"skipped\":[],\"whole\":[]}",
     ),
     (
         "{\"cmd\":\"create\",\"dtype\":{\"kind\":\"struct\",\"names\":[\"a\"],\"children\":[{\"kind\":\"u8\",\"nullable\":true}]},\"length\":16}",

@@ -1,5 +1,5 @@
 -- Whether all values are one, by the least, the greatest and the number of nulls.
-use Rattle.std.proofs.Common.{◌≡◌, refl, sym, ◌∙◌, ap, subst, ℕ, zero, suc, ◌+◌, List, [], ◌∷◌, Bool, true, false, not, ◌&&◌, ◌==◌, if◌then◌else◌, Option, Some, None, inl, inr, arith}
+use Rattle.std.proofs.Common.{◌≡◌, refl, sym, ◌∙◌, ap, ℕ, ◌+◌, List, [], ◌∷◌, Bool, true, false, not, ◌&&◌, ◌==◌, if◌then◌else◌, Option, Some, None, inl, inr, arith}
 use Rattle.std.specs.List.{AllByRecursion, list_all}
 use Rattle.std.proofs.lemmas.Bool.Decides.{nat_tests}
 use Rattle.vortex_model.specs.Content.{Content, null, is_null, equal_content}
@@ -12,7 +12,7 @@ use Rattle.vortex_model.proofs.Equality.{content_so, content_passes}
 use Rattle.vortex_model.proofs.Groups.{at_least_chain}
 use Rattle.vortex_model.proofs.Honesty.{Among, all_among, each_among, no_null_among, nulls_first}
 use Rattle.vortex_model.proofs.JoinOrder.{some_end, at_most_total, at_least_total}
-use Rattle.vortex_model.proofs.Leasts.{IsEnd, picked, picked_end, end_picked, at_most_both, at_least_both, is_at_least, all_mapped}
+use Rattle.vortex_model.proofs.Leasts.{IsEnd, picked_end, end_picked, at_most_both, at_least_both, is_at_least, all_mapped}
 
 -- ---- the values that are not null
 

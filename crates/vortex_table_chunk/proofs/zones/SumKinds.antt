@@ -1,6 +1,6 @@
 -- The kinds of the sums of columns.
-use Rattle.std.proofs.Common.{◌≡◌, refl, List, [], ◌∷◌, ℕ, Option, Some, None, option_map, option_and_then}
-use Rattle.vortex_model.specs.LogicalType.{LogicalType, null_only, integer_type, struct, IntKind, u8, u16, u32, u64, i8, i16, i32, i64, Nullability, non_nullable, nullable, nullable_inside, nullability_of}
+use Rattle.std.proofs.Common.{◌≡◌, refl, [], ◌∷◌, ℕ, Option, Some, None, option_map, option_and_then}
+use Rattle.vortex_model.specs.LogicalType.{LogicalType, null_only, integer_type, struct, u8, u16, u32, u64, i8, i16, i32, i64, Nullability, non_nullable, nullable, nullable_inside, nullability_of}
 use Rattle.vortex_model.specs.Path.{Positions, part_at, field_at, type_at}
 use Rattle.vortex_model.specs.Scan.{kind_at}
 use Rattle.vortex_model.specs.Typing.{sum_kind}

@@ -1,10 +1,10 @@
 -- Sums with one more value in front.
-use Rattle.std.proofs.Common.{◌≡◌, refl, sym, ap, ◌∙◌, ℕ, ℤ, pos, neg_ℤ, ◌+ℤ◌, ◌-ℤ◌, ◌≤ℤ◌, ◌+◌, ◌*◌, ◌^◌, ◌≤◌, List, [], ◌∷◌, length, Bool, true, false, Option, Some, None, if◌then◌else◌, arith}
+use Rattle.std.proofs.Common.{◌≡◌, refl, sym, ap, ◌∙◌, ℕ, ℤ, pos, neg_ℤ, ◌+ℤ◌, ◌-ℤ◌, ◌≤ℤ◌, ◌+◌, ◌^◌, ◌≤◌, List, [], ◌∷◌, length, true, false, Option, Some, None, if◌then◌else◌, arith}
 use Rattle.std.proofs.lemmas.Int.{ints}
 use Rattle.vortex_model.specs.LogicalType.{IntKind, u8, u16, u32, u64, i8, i16, i32, i64}
 use Rattle.vortex_model.specs.Content.{Content}
-use Rattle.vortex_model.specs.Statistics.{exact, absent, number_in, sum_of}
-use Rattle.vortex_model.specs.Valid.{in_range, least_number, greatest_number}
+use Rattle.vortex_model.specs.Statistics.{exact, absent, number_in}
+use Rattle.vortex_model.specs.Valid.{in_range}
 use Rattle.vortex_model.specs.ZoneMap.{sum_in}
 use Rattle.vortex_dtype_ptype.specs.Numbers.{NumberKind, integral, floating, int_kind_in}
 use Rattle.vortex_scalar_value.specs.Numbers.{holds_number}

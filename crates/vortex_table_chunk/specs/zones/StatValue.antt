@@ -1,20 +1,15 @@
 -- What bounds say.
-use Rattle.std.specs.Prelude.{ℕ, pos, ◌==◌, if◌then◌else◌}
+use Rattle.std.specs.Prelude.{ℕ, pos, ◌==◌}
 use Rattle.vortex_model.specs.Content.{Content, null, boolean, integer}
 use Rattle.vortex_model.specs.Expression.{Aggregate, min, max, null_count, all_null, all_non_null}
-use Rattle.vortex_model.specs.Laws.{is_leaf_value}
 use Rattle.vortex_model.specs.Statistics.{shown}
 use Rattle.vortex_table_chunk.specs.declared.zones.bounds.ColumnBounds.{ColumnBounds}
 use Rattle.vortex_table_chunk.specs.zones.Bounds.{bound_in}
 
--- a value of a leaf, and null for what is none
-abbrev pub leaf_or_null : Content → Content
-leaf_or_null c = if is_leaf_value c then c else null
-
 -- what bounds of so many rows say
 abbrev pub stat_value : ColumnBounds → ℕ → Aggregate → Content
-stat_value b rows min = leaf_or_null (shown (bound_in b.low))
-stat_value b rows max = leaf_or_null (shown (bound_in b.high))
+stat_value b rows min = shown (bound_in b.low)
+stat_value b rows max = shown (bound_in b.high)
 stat_value b rows null_count = integer (pos b.null_count)
 stat_value b rows all_null = boolean (b.null_count == rows)
 stat_value b rows all_non_null = boolean (b.null_count == 0)

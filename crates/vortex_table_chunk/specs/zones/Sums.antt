@@ -1,5 +1,5 @@
 -- Sums of the values of a leaf.
-use Rattle.std.specs.Prelude.{◌≡◌, ℕ, ℤ, pos, ◌-ℤ◌, ◌*◌, ◌^◌, ◌≤◌, List, [], ◌∷◌, length, Bool, true, false, ◌&&◌, Option, Some, None}
+use Rattle.std.specs.Prelude.{◌≡◌, ℤ, pos, ◌-ℤ◌, ◌*◌, ◌^◌, ◌≤◌, List, length, Bool, true, false, Option, Some, None}
 use Rattle.std.specs.Borrow.{Bor}
 use Rattle.vortex_model.specs.LogicalType.{LogicalType, IntKind, eq_int_kind}
 use Rattle.vortex_model.specs.Content.{Content}

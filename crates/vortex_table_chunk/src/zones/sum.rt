@@ -34,7 +34,7 @@ fn number_in(value: Option<&ScalarValue>) -> i128
 }
 
 // The number as one of a kind of integers that holds it.
-fn of_kind(ptype: PType, number: i128) -> Option<PValue>
+pub(crate) fn of_kind(ptype: PType, number: i128) -> Option<PValue>
     ensures { known_sum result ≡ sum_in (int_kind_in (number_kind_of ptype)) number }
 {
     PValue::of(ptype, number)

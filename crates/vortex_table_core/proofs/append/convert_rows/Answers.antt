@@ -1,4 +1,4 @@
-use Rattle.std.proofs.Common.{◌≡◌, ◌∙◌, ap, sym, rules, arith, ◌<◌, ◌+◌, ◌∷◌, drop, length}
+use Rattle.std.proofs.Common.{◌≡◌, ◌∙◌, ap, rules, arith, ◌<◌, ◌+◌, drop, length}
 use Rattle.std.specs.Cow.{cow_slice_items}
 use Rattle.vortex_model.specs.Content.{content_of}
 use Rattle.vortex_model.specs.Valid.{valid}

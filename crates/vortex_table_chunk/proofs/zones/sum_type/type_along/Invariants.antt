@@ -1,4 +1,4 @@
-use Rattle.std.proofs.Common.{◌≡◌, drop, Some}
+use Rattle.std.proofs.Common.{◌≡◌, drop}
 use Rattle.vortex_model.specs.Path.{type_at}
 use Rattle.vortex_dtype_core.specs.View.{type_of}
 use Rattle.vortex_table_chunk.specs.zones.Sums.{part_type, sum_kind_in}

@@ -1,7 +1,8 @@
-use Rattle.std.proofs.Common.{◌≡◌, ◌∙◌, ◌+◌, ap, refl, is_some}
+use Rattle.std.proofs.Common.{◌≡◌, ◌∙◌, ◌+◌, ap, refl}
 use Rattle.vortex_model.specs.Scan.{Outcome, chunk_outcome, is_skipped, is_whole, saturated}
 use Rattle.vortex_table_schema.specs.Answer.{answer_of}
 use Rattle.vortex_table_chunk.specs.Chunk.{chunk_rows}
+use Rattle.vortex_table_chunk.proofs.ProvenAlike.{is_there}
 use Rattle.vortex_table_core.specs.Outcome.{outcome_of}
 use Rattle.vortex_table_core.specs.Plan.{table_in, paths_in, predicate_in}
 use Rattle.vortex_table_core.specs.Progress.{push_if, tested_rows, proofs_at}
@@ -14,7 +15,7 @@ returns-clause-found c =
     let old = c.args.answer.now in
     let rows = chunk_rows c.args.chunk.now in
     let o : Outcome = chunk_outcome (table_in plan) (predicate_in plan) rows in
-    let out : outcome_of c.in_ok-outcome.outcome ≡ o = c.in_ok-outcome.ensures in
+    let out : outcome_of c.outcome-outcome.result ≡ o = c.outcome-outcome.ensures in
     added (table_in plan).kind (paths_in plan) (predicate_in plan) c.args.number rows o (answer_of old) _
     c.in_ok-find_rows.ensures.rows
     refl
@@ -22,4 +23,4 @@ returns-clause-found c =
     (c.in_ok-push_if-2.ensures ∙ ap (λ t. push_if t c.args.number old.whole.items) (c.is_whole.ensures ∙ ap is_whole out))
     (c.saturating_add-answer.ensures ∙ stopped (old.rows_tested + c.tested_rows.result) ∙ ap (λ n. saturated (old.rows_tested + n)) (c.tested_rows.ensures ∙ ap (λ p. tested_rows p rows) out))
     (c.saturating_add-answer-2.ensures ∙ stopped (old.proofs + c.proofs_at.result)
-    ∙ ap (λ n. saturated (old.proofs + n)) (c.proofs_at.ensures ∙ (λ j. proofs_at (is_some (c.requires.plan.falsifier j)) (is_some (c.requires.plan.satisfier j)) (out j))))
+    ∙ ap (λ n. saturated (old.proofs + n)) (c.proofs_at.ensures ∙ (λ j. proofs_at (is_there _ _ _ c.requires.plan.falsifier j) (is_there _ _ _ c.requires.plan.satisfier j) (out j))))

@@ -1,16 +1,27 @@
+use Rattle.std.proofs.Common.{◌∙◌}
+use Rattle.vortex_table_chunk.specs.BoundStat.{zone_provided}
+use Rattle.vortex_table_chunk.specs.Proved.{proved_in}
+use Rattle.vortex_table_schema.specs.Leaves.{leaf_positions}
+use Rattle.vortex_table_core.specs.Plan.{table_in}
 use Rattle.vortex_table_core.proofs.Proven.{outcome_skipped, outcome_whole, outcome_tested}
 use Rattle.vortex_table_core.proofs.plan.Scan.outcome.Goals as goal
 
 pub returns-then-falsified : goal.returns-then-falsified
 returns-then-falsified c =
-    outcome_skipped c.args.self.now c.requires.plan c.args.chunk.now c.requires.formed c.in_ok-falsified.falsified c.in_ok-falsified.ensures c.if-falsified.true
+    let plan = c.args.self.now in let k = (table_in plan).kind in
+    outcome_skipped plan c.requires.plan c.args.chunk.now c.requires.formed c.proves-falsified.result
+    (c.proves-falsified.ensures ∙ (λ i. proved_in (zone_provided (leaf_positions k) (c.as_slice-bounds.ensures.value i) ((c.len-rows.ensures ∙ c.args.chunk.now.rows.ok.0) i)) plan.prepared.now.proofs.falsifier)) c.if-falsified.true
 
 pub returns-then-satisfied : goal.returns-then-satisfied
 returns-then-satisfied c =
-    outcome_whole c.args.self.now c.requires.plan c.args.chunk.now c.requires.formed c.in_ok-falsified.falsified c.in_ok-satisfied.satisfied
-    c.in_ok-falsified.ensures c.in_ok-satisfied.ensures c.if-falsified.false c.if-satisfied.true
+    let plan = c.args.self.now in let k = (table_in plan).kind in
+    outcome_whole plan c.requires.plan c.args.chunk.now c.requires.formed c.proves-falsified.result c.proves-satisfied.result
+    (c.proves-falsified.ensures ∙ (λ i. proved_in (zone_provided (leaf_positions k) (c.as_slice-bounds.ensures.value i) ((c.len-rows.ensures ∙ c.args.chunk.now.rows.ok.0) i)) plan.prepared.now.proofs.falsifier))
+    (c.proves-satisfied.ensures ∙ (λ i. proved_in (zone_provided (leaf_positions k) (c.as_slice-bounds.ensures.value i) ((c.len-rows.ensures ∙ c.args.chunk.now.rows.ok.0) i)) plan.prepared.now.proofs.satisfier)) c.if-falsified.false c.if-satisfied.true
 
 pub returns : goal.returns
 returns c =
-    outcome_tested c.args.self.now c.requires.plan c.args.chunk.now c.requires.formed c.in_ok-falsified.falsified c.in_ok-satisfied.satisfied
-    c.in_ok-falsified.ensures c.in_ok-satisfied.ensures c.if-falsified.false c.if-satisfied.false
+    let plan = c.args.self.now in let k = (table_in plan).kind in
+    outcome_tested plan c.requires.plan c.args.chunk.now c.requires.formed c.proves-falsified.result c.proves-satisfied.result
+    (c.proves-falsified.ensures ∙ (λ i. proved_in (zone_provided (leaf_positions k) (c.as_slice-bounds.ensures.value i) ((c.len-rows.ensures ∙ c.args.chunk.now.rows.ok.0) i)) plan.prepared.now.proofs.falsifier))
+    (c.proves-satisfied.ensures ∙ (λ i. proved_in (zone_provided (leaf_positions k) (c.as_slice-bounds.ensures.value i) ((c.len-rows.ensures ∙ c.args.chunk.now.rows.ok.0) i)) plan.prepared.now.proofs.satisfier)) c.if-falsified.false c.if-satisfied.false

@@ -8,7 +8,7 @@ use Rattle.vortex_table_schema.specs.Answer.{answer_of}
 use Rattle.vortex_table_core.specs.TableView.{table_of}
 use Rattle.vortex_table_run.specs.CommandAnswers.{error_answer}
 use Rattle.vortex_table_run.specs.State.{table_in}
-use Rattle.vortex_table_run.proofs.Responding.{without_table, scan_refused, scan_found}
+use Rattle.vortex_table_run.proofs.Responding.{without_table, refused_there, scan_found}
 use Rattle.vortex_table_run.proofs.session.Session.answer_scan.Goals as goal
 
 pub returns-in_default : goal.returns-in_default
@@ -31,6 +31,7 @@ returns c =
     let e = c.in-Err.error in
     let there = ap (option_map table_of) c.in-Some.is in (
       error_answer e,
-      scan_refused (table_in c.args.self.now) (table_of c.in-Some.table) (map steps_of c.args.paths.now) c.args.predicate.now e there c.in-Err.ensures.refused,
+      refused_there (table_in c.args.self.now) (table_in c.args.self.now) (table_of c.in-Some.table) (scan (map steps_of c.args.paths.now) c.args.predicate.now) e
+          there there c.in-Err.ensures.refused,
       c.fault.ensures _,
     )

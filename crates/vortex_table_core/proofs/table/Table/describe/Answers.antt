@@ -1,0 +1,34 @@
+use Rattle.std.proofs.Common.{◌<◌, refl, sym, subst, map, length, get_or, arith}
+use Rattle.std.proofs.lemmas.Grind.{common_steps}
+use Rattle.vortex_dtype_core.specs.View.{type_of}
+use Rattle.vortex_model.specs.Reply.{Describes}
+use Rattle.vortex_table_chunk.specs.Chunk.{chunk_rows}
+use Rattle.vortex_table_chunk.specs.Joined.{IsJoined, rows_in}
+use Rattle.vortex_table_chunk.specs.zones.Join.{zone_in}
+use Rattle.vortex_table_core.specs.Group.{chunks_of}
+use Rattle.vortex_table_core.specs.TableView.{table_of}
+use Rattle.vortex_table_core.proofs.Described.{chunks_typed, column_described}
+use Rattle.vortex_table_core.proofs.DescribedBounds.{leaf_bounds}
+use Rattle.vortex_table_core.proofs.JoinedGroups.{same_at}
+use Rattle.vortex_table_core.proofs.LeafPlaces.{leaf_part, one_of}
+use Rattle.vortex_table_core.proofs.table.Table.describe.Goals as goal
+
+pub returns-clause-described : goal.returns-clause-described
+returns-clause-described c =
+    let t = c.args.self.now in let k = type_of t.dtype in let i = c.args.group in let all = t.groups.items in
+    let inside : i < length all = grind (arith, common_steps) in
+    let d = one_of all i inside in let g = get_or all i d in
+    let at_i = same_at all i g d g inside refl in
+    let place = c.in_ok-place.place.items in
+    let leaf = leaf_part k place c.in_ok-place.ensures.leaf in
+    let b = c.leaf_statistics.result.now in
+    let rows = map chunk_rows (chunks_of t.chunks.items g) in
+    let z = zone_in b (rows_in rows) in
+    let joined : ∥ IsJoined k t.bound_length place b rows ∥₁ =
+    subst (λ is. ∥ IsJoined k t.bound_length is b rows ∥₁) c.deref.ensures.value (c.leaf_statistics.ensures d) in (
+      z,
+      subst (λ is. Describes (table_of t) is i z) (sym c.in_ok-place.ensures.place)
+          (column_described t i g inside at_i place leaf.part b leaf.there leaf.leaf joined),
+      c.in_ok-description.ensures.described (rows_in rows)
+          (leaf_bounds k t.bound_length place leaf.part b rows leaf.there leaf.leaf (chunks_typed t i g inside at_i) joined),
+    )

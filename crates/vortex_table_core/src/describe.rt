@@ -1,0 +1,75 @@
+//! Descriptions of columns of groups.
+
+use crate::description::description_of;
+use crate::error::TableError;
+use crate::leaf::leaf_at;
+use crate::table::Table;
+use std::alloc::Global;
+use vortex_dtype_path::path::FieldPath;
+use vortex_dtype_ptype::nullability::Nullability;
+use vortex_table_chunk::chunk::bounds_at;
+use vortex_table_chunk::zones::bounds::ColumnBounds;
+use vortex_table_schema::description::Description;
+
+impl Table {
+    ghost use Rattle.std.specs.Prelude.{◌≡◌, ◌<◌, None, true, length, map, slice_index_or, IfOk, OnOk, IfErr};
+    ghost use Rattle.vortex_model.specs.ZoneMap.{ZoneMap};
+    ghost use Rattle.vortex_model.specs.Reply.{Describes};
+    ghost use Rattle.vortex_model.specs.Command.{describe, positions_of, refusal};
+    ghost use Rattle.vortex_dtype_path.specs.View.{steps_of};
+    ghost use Rattle.vortex_model.specs.Kept.{is_leaf_at};
+    ghost use Rattle.vortex_dtype_core.specs.View.{type_of};
+    ghost use Rattle.vortex_table_chunk.specs.Chunk.{chunk_rows};
+    ghost use Rattle.vortex_table_chunk.specs.Joined.{IsJoined};
+    ghost use Rattle.vortex_table_core.specs.Error.{Explains};
+    ghost use Rattle.vortex_table_core.specs.Group.{chunks_of};
+    ghost use Rattle.vortex_table_core.specs.declared.group.Group.{Group};
+    ghost use Rattle.vortex_table_core.specs.TableView.{table_of};
+    ghost use Rattle.vortex_table_schema.specs.Description.{IsDescription};
+
+    /// What is known of the leaf column that the path leads to, in the rows of a group.
+    ///
+    /// Refused, in this order: `UnknownPath` or `ElementStep` by the first step of the path at
+    /// fault, with the index 0; `NotALeaf`; `NoSuchGroup`.
+    pub fn describe(
+        &self,
+        alloc: Global,
+        path: &FieldPath,
+        group: usize,
+    ) -> Result<Description, TableError>
+        ensures described { IfOk result (λ d. (z : ZoneMap)
+            × Describes (table_of self.now)
+            (positions_of (table_of self.now).kind (steps_of path.now)) group z
+            × IsDescription d z) }
+        ensures accepted { OnOk result
+            (refusal (table_of self.now) (describe (steps_of path.now) group) ≡ None) }
+        ensures refused { IfErr result
+            (λ e. Explains ⊥
+            (refusal (table_of self.now) (describe (steps_of path.now) group)) e) }
+    {
+        let place = leaf_at(alloc, &self.dtype, path)?;
+        if group >= self.groups.len() {
+            return Err(TableError::NoSuchGroup);
+        }
+        let description = description_of(
+            self.leaf_statistics(group, &place),
+            Nullability::Nullable,
+        )?;
+        Ok(description)
+    }
+
+    // The statistics of the leaf column at these positions in the rows of a group.
+    fn leaf_statistics<'a>(&'a self, group: usize, place: &[usize]) -> &'a ColumnBounds
+        requires group { group < length self.now.groups.items }
+        requires leaf { is_leaf_at (type_of self.now.dtype) place.now ≡ true }
+        ensures { (g : Group) → ∥ IsJoined (type_of self.now.dtype) self.now.bound_length place.now
+            result.now (map chunk_rows (chunks_of self.now.chunks.items
+            (slice_index_or self.now.groups.items group g))) ∥₁ }
+    {
+        let group = &self.groups[group];
+        let Some(bounds) = bounds_at(&self.leaves, self.statistics(group), place) else {
+            unreachable!()
+        };
+        bounds
+    }
+}

@@ -1,0 +1,26 @@
+//! Groups of neighbouring chunks.
+ghost use Rattle.std.specs.Prelude.{◌≡◌, ◌<◌, length, slice_set};
+
+use vortex_table_chunk::zones::bounds::ColumnBounds;
+
+/// A group of neighbouring chunks, which a scan looks at before it looks at the chunks.
+#[derive(Drop)]
+pub struct Group {
+    /// The index of its first chunk in the table.
+    pub first: usize,
+    /// The number of its chunks, at least one.
+    pub chunks: usize,
+    /// The number of rows in its chunks.
+    pub rows: usize,
+    /// The statistics of each leaf column in the rows of all its chunks. `None` for a group of one
+    /// chunk, which has its own.
+    pub joined: Option<Vec<ColumnBounds>>,
+}
+
+/// Puts the group in the place of the one at the index.
+pub fn replace_group(groups: &mut Vec<Group>, index: usize, group: Group)
+    requires { index < length groups.old.items }
+    ensures { groups.new.items ≡ slice_set groups.old.items index group }
+{
+    groups[index] = group;
+}

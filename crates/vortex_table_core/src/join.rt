@@ -1,0 +1,80 @@
+//! Joins of neighbouring groups.
+
+use crate::error::TableError;
+use crate::group::{Group, replace_group};
+use crate::table::Table;
+use std::alloc::{AllocError, Global};
+use vortex_table_chunk::bounds::join_bounds;
+use vortex_table_chunk::zones::bounds::ColumnBounds;
+
+impl Table {
+    ghost use Rattle.std.specs.Prelude.{◌≡◌, ◌<◌, ◌+◌, None, length, map, slice_index_or, IfOk, OnOk, IfErr, OnErr};
+    ghost use Rattle.vortex_model.specs.Command.{join, refusal, after};
+    ghost use Rattle.vortex_dtype_core.specs.View.{type_of};
+    ghost use Rattle.vortex_table_chunk.specs.Chunk.{chunk_rows};
+    ghost use Rattle.vortex_table_chunk.specs.Joined.{AreJoined};
+    ghost use Rattle.vortex_table_schema.specs.Leaves.{leaf_positions};
+    ghost use Rattle.vortex_table_core.specs.Error.{Explains};
+    ghost use Rattle.vortex_table_core.specs.Group.{IsGroup, IsOneGroup, chunks_of};
+    ghost use Rattle.vortex_table_core.specs.TableView.{table_of};
+
+    // The statistics of each leaf column in the rows of a group.
+    pub(crate) fn statistics<'a>(&'a self, group: &'a Group) -> &'a [ColumnBounds]
+        requires inside { group.now.first < length self.now.chunks.items }
+        requires group { IsGroup (type_of self.now.dtype) self.now.bound_length group.now
+            (chunks_of self.now.chunks.items group.now) }
+        ensures { ∥ AreJoined (type_of self.now.dtype) self.now.bound_length
+            (leaf_positions (type_of self.now.dtype)) result.now
+            (map chunk_rows (chunks_of self.now.chunks.items group.now)) ∥₁ }
+    {
+        match &group.joined {
+            Some(bounds) => bounds.as_slice(),
+            None => self.chunks[group.first].bounds.as_slice(),
+        }
+    }
+
+    // The group at the index and the one behind it, as one.
+    fn joined_group(&self, alloc: Global, index: usize) -> Result<Group, AllocError>
+        requires { index + 1 < length self.now.groups.items }
+        ensures { IfOk result (λ group. IsOneGroup (type_of self.now.dtype) self.now.bound_length
+            self.now.groups.items index self.now.chunks.items group) }
+    {
+        let left = &self.groups[index];
+        let right = &self.groups[index + 1];
+        let joined = join_bounds(alloc, self.statistics(left), self.statistics(right))?;
+        Ok(Group {
+            first: left.first,
+            chunks: left.chunks + right.chunks,
+            rows: left.rows + right.rows,
+            joined: Some(joined),
+        })
+    }
+
+    /// Joins the group at the index with the one behind it: a scan then looks at them as one. The
+    /// chunks and their rows stay. After an error the table is as before.
+    ///
+    /// Refused where there aren't both groups: `NoSuchGroup`.
+    pub fn join(&mut self, index: usize) -> Result<(), TableError>
+        ensures joined { OnOk result (table_of self.new ≡ after (table_of self.old) (join index)) }
+        ensures accepted { OnOk result (refusal (table_of self.old) (join index) ≡ None) }
+        ensures refused { IfErr result
+            (λ e. Explains ⊥ (refusal (table_of self.old) (join index)) e) }
+        ensures unchanged { OnErr result (table_of self.new ≡ table_of self.old) }
+    {
+        let alloc = *self.chunks.allocator();
+        if self.groups.len() < 2 || index > self.groups.len() - 2 {
+            return Err(TableError::NoSuchGroup);
+        }
+        let joined = self.joined_group(alloc, index)?;
+        replace_group(&mut self.groups, index, joined);
+        self.groups.remove(index + 1);
+        Ok(())
+    }
+
+    /// The number of groups.
+    pub fn group_count(&self) -> usize
+        ensures { result ≡ length (table_of self.now).groups }
+    {
+        self.groups.len()
+    }
+}
