@@ -3,12 +3,12 @@ ghost use Rattle.std.specs.Prelude.{◌≡◌};
 ghost use Rattle.vortex_model.specs.Statistics.{shown};
 ghost use Rattle.vortex_stats_expr.specs.OperandValue.{operand_value};
 ghost use Rattle.vortex_stats_expr.specs.Tree.{aggregate_of};
-ghost use Rattle.vortex_table_chunk.specs.Proved.{chunk_provided, proved_in};
+ghost use Rattle.vortex_table_chunk.specs.Proved.{proved_in};
 ghost use Rattle.vortex_table_chunk.specs.Zone.{provided_by};
 ghost use Rattle.vortex_table_chunk.specs.zones.Bounds.{bound_in};
 ghost use Rattle.vortex_table_chunk.specs.zones.StatValue.{stat_value};
 
-use crate::chunk::{Chunk, bounds_at};
+use crate::chunk::bounds_at;
 use crate::zones::bounds::{Bound, ColumnBounds};
 use vortex_stats_expr::aggregate::AggregateFn;
 use vortex_stats_expr::bound::{BoundExpression, Operands};
@@ -54,17 +54,6 @@ pub struct ZoneOperands<'z> {
     pub bounds: &'z [ColumnBounds],
     /// The number of rows of the zone.
     pub rows: usize,
-}
-
-/// What is known of a chunk.
-pub fn chunk_operands<'c>(chunk: &'c Chunk) -> ZoneOperands<'c>
-    ensures { provided_by result ≡ chunk_provided chunk.now }
-{
-    ZoneOperands {
-        leaves: &chunk.leaves,
-        bounds: &chunk.bounds,
-        rows: chunk.rows.len(),
-    }
 }
 
 impl Operands for ZoneOperands<'_> {
