@@ -124,7 +124,7 @@ pub mod expr {
 /// The table of chunks, its refusals, what a scan finds, and what is known of a column.
 pub mod table {
     pub use vortex_stats_bound::precision::Precision;
-    pub use vortex_table_core::error::TableError;
+    pub use vortex_table_check::error::TableError;
     pub use vortex_table_core::table::Table;
     pub use vortex_table_schema::answer::ScanAnswer;
     pub use vortex_table_schema::description::Description;

@@ -6,7 +6,8 @@ use Rattle.vortex_model.specs.Content.{is_null}
 use Rattle.vortex_model.specs.Path.{Positions, at}
 use Rattle.vortex_model.specs.Statistics.{null_count_of}
 use Rattle.vortex_scalar_value.specs.declared.scalar_value.ScalarValue.{ScalarValue}
-use Rattle.vortex_table_chunk.specs.Bounds.{row_content, column_at}
+use Rattle.vortex_table_chunk.specs.Bounds.{column_at}
+use Rattle.vortex_table_schema.specs.Rows.{row_content}
 
 module _ (leaf : Positions) (rows : List ScalarValue) (i : ℕ) (behind : 0 < i) (within : i ≤ length rows) where
   -- one row more, in front of those from here on

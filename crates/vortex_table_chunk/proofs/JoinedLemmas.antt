@@ -22,7 +22,8 @@ use Rattle.vortex_table_chunk.specs.declared.zones.bounds.ColumnBounds.{ColumnBo
 use Rattle.vortex_table_chunk.specs.zones.Bounds.{bound_in, IsBoundsOf}
 use Rattle.vortex_table_chunk.specs.zones.Sums.{int_kind_of, eq_sum_kind}
 use Rattle.vortex_table_chunk.specs.zones.Join.{AreNeighbours, IsJoinOf, CanJoin, AreJoinsOf, zone_in}
-use Rattle.vortex_table_chunk.specs.Bounds.{row_content, column_at, AreBoundsOf, are_sums_of}
+use Rattle.vortex_table_chunk.specs.Bounds.{column_at, AreBoundsOf, are_sums_of}
+use Rattle.vortex_table_schema.specs.Rows.{row_content}
 use Rattle.vortex_table_chunk.specs.Joined.{IsJoined, AreJoined, rows_in}
 use Rattle.vortex_table_chunk.proofs.ProvenAlike.{all_of_type}
 use Rattle.vortex_table_chunk.proofs.zones.Forms.{FormIn, both_compare, group_low_form, group_high_form}

@@ -24,7 +24,8 @@ use Rattle.vortex_table_chunk.specs.zones.Bounds.{IsBoundsOf}
 use Rattle.vortex_table_chunk.specs.declared.zones.bounds.ColumnBounds.{ColumnBounds}
 use Rattle.vortex_table_chunk.proofs.zones.StatValueLemmas.{stat_values_are_right, stat_values_alike}
 use Rattle.vortex_stats_expr.specs.Bound.{Bound, Provided, evaluate_bound, bound_of, bound_column, by_names}
-use Rattle.vortex_table_chunk.specs.Bounds.{row_content, column_at}
+use Rattle.vortex_table_chunk.specs.Bounds.{column_at}
+use Rattle.vortex_table_schema.specs.Rows.{row_content}
 use Rattle.vortex_table_chunk.specs.Chunk.{chunk_rows}
 use Rattle.vortex_table_chunk.specs.BoundStat.{stat_value_or_null, zone_stat, zone_provided, bounds_at}
 use Rattle.vortex_table_chunk.specs.Proved.{proved_in, chunk_provided, IsBoundProof}

@@ -1,22 +1,18 @@
 -- Bounds of the leaves of rows.
 use Rattle.std.specs.Prelude.{ℕ, List, [], ◌∷◌, map, Bool, true, false, ◌&&◌}
 use Rattle.std.specs.Coded.{Coded-set, coded_ℕ, coded_ℤ, coded_bool}
-use Rattle.vortex_model.specs.Content.{Content, content_of}
+use Rattle.vortex_model.specs.Content.{Content}
 use Rattle.vortex_model.specs.Path.{Positions}
 use Rattle.vortex_model.specs.LogicalType.{LogicalType}
 use Rattle.vortex_model.specs.Scan.{kind_at}
 use Rattle.vortex_model.specs.Typing.{sum_kind}
 use Rattle.vortex_model.specs.ZoneMap.{values_at}
-use Rattle.vortex_scalar_value.specs.View.{raw_of}
+use Rattle.vortex_table_schema.specs.Rows.{row_content}
 use Rattle.vortex_scalar_value.specs.declared.scalar_value.ScalarValue.{ScalarValue}
 use Rattle.vortex_table_chunk.specs.zones.Bounds.{IsBoundsOf}
 use Rattle.vortex_table_chunk.specs.declared.zones.bounds.ColumnBounds.{ColumnBounds}
 use Rattle.vortex_table_chunk.specs.BoundCode.{coded_bound, coded_precision}
 use Rattle.vortex_table_chunk.specs.zones.Sums.{int_kind_of, eq_sum_kind}
-
--- what a row says
-abbrev pub row_content : ScalarValue → Content
-row_content row = content_of (raw_of row)
 
 -- the values of the leaf at these positions
 abbrev pub column_at : Positions → List ScalarValue → List Content

@@ -1,7 +1,7 @@
 -- What chunks stand for.
 use Rattle.std.specs.Prelude.{ℕ, List, length, map, sum_by}
 use Rattle.vortex_model.specs.Content.{Content}
-use Rattle.vortex_table_chunk.specs.Bounds.{row_content}
+use Rattle.vortex_table_schema.specs.Rows.{row_content}
 use Rattle.vortex_table_chunk.specs.declared.chunk.Chunk.{Chunk}
 
 -- the rows of a chunk

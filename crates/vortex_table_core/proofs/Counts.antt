@@ -3,7 +3,7 @@ use Rattle.std.proofs.Common.{◌≡◌, refl, ◌∙◌, ap, ℕ, ◌+◌, List
 use Rattle.std.proofs.lemmas.List.{length-map}
 use Rattle.std.proofs.lemmas.List.Concat.{length-flat_map}
 use Rattle.vortex_model.specs.Content.{Content}
-use Rattle.vortex_table_chunk.specs.Bounds.{row_content}
+use Rattle.vortex_table_schema.specs.Rows.{row_content}
 use Rattle.vortex_table_chunk.specs.Chunk.{chunk_rows, row_count}
 use Rattle.vortex_table_chunk.specs.declared.chunk.Chunk.{Chunk}
 

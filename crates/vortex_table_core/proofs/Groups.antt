@@ -18,7 +18,7 @@ use Rattle.vortex_model.specs.Scan.{Outcome, ScanAnswer, skipped_in_group, chunk
 use Rattle.vortex_model.proofs.ContentOrder.{true_left, true_right}
 use Rattle.vortex_model.proofs.GroupSkipping.{none_lost}
 use Rattle.vortex_model.proofs.Held.{can_hold}
-use Rattle.vortex_table_chunk.specs.Bounds.{row_content}
+use Rattle.vortex_table_schema.specs.Rows.{row_content}
 use Rattle.vortex_table_chunk.specs.Chunk.{chunk_rows}
 use Rattle.vortex_table_chunk.specs.declared.chunk.Chunk.{Chunk}
 use Rattle.vortex_table_core.specs.Group.{IsGroup, AreGroups, chunks_of}
@@ -27,7 +27,7 @@ use Rattle.vortex_table_core.specs.Progress.{with_chunk, with_chunks, with_group
 use Rattle.vortex_table_core.specs.Table.{is_formed}
 use Rattle.vortex_table_core.specs.declared.group.Group.{Group}
 use Rattle.vortex_table_core.specs.declared.plan.Scan.{Scan}
-use Rattle.vortex_table_core.proofs.Explained.{none_so}
+use Rattle.vortex_table_check.proofs.Explained.{none_so}
 use Rattle.vortex_table_core.proofs.Formed.{some_rows}
 use Rattle.vortex_table_core.proofs.Found.{sound_of}
 use Rattle.vortex_table_core.proofs.Progress.{count_first, saturated_once, rows_after, kind_after, skipped_after, whole_after, tested_after, proofs_after, whole_answer}

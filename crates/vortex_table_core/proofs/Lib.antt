@@ -1,13 +1,9 @@
 pub mod Added
-pub mod Appends
-pub mod Copied
 pub mod Counts
 pub mod DescribedBounds
-pub mod Explained
 pub mod Formed
 pub mod Found
 pub mod JoinedGroups
-pub mod NamedParts
 pub mod Progress
 pub mod Proven
 pub mod PushedGroups
@@ -15,5 +11,4 @@ pub mod Rows
 pub mod Groups
 pub mod EqualLeaves
 pub mod Taken
-pub mod LeafPlaces
 pub mod Described

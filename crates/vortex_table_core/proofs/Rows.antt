@@ -11,7 +11,7 @@ use Rattle.vortex_model.proofs.Contents.{said}
 use Rattle.vortex_model.proofs.Tests.{has_so}
 use Rattle.vortex_scalar_value.specs.View.{raw_of}
 use Rattle.vortex_scalar_value.specs.declared.scalar_value.ScalarValue.{ScalarValue}
-use Rattle.vortex_table_chunk.specs.Bounds.{row_content}
+use Rattle.vortex_table_schema.specs.Rows.{row_content}
 use Rattle.vortex_table_schema.specs.Cut.{content_cut, kept_by}
 use Rattle.vortex_table_schema.proofs.Cuts.{cut_is_kept}
 

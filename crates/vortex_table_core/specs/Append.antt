@@ -5,9 +5,9 @@ use Rattle.vortex_model.specs.Table.{Table, rows_of}
 use Rattle.vortex_model.specs.Command.{append, refusal, after}
 use Rattle.vortex_scalar_value.specs.View.{raw_in}
 use Rattle.vortex_scalar_value.specs.declared.scalar_value.ScalarValue.{ScalarValue}
-use Rattle.vortex_table_core.specs.Error.{Explains}
-use Rattle.vortex_table_core.specs.declared.error.TableError.{TableError}
-use Rattle.vortex_table_core.specs.declared.error.TableError.TheVariants as error
+use Rattle.vortex_table_check.specs.Error.{Explains}
+use Rattle.vortex_table_check.specs.declared.error.TableError.{TableError}
+use Rattle.vortex_table_check.specs.declared.error.TableError.TheVariants as error
 
 -- An append to the old table of these values, each of this type or null, ended with this result
 -- and left the new table.

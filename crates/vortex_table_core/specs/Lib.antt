@@ -1,8 +1,6 @@
 pub mod Append
 pub mod Described
-pub mod Error
 pub mod Group
-pub mod LeafPlace
 pub mod Outcome
 pub mod Plan
 pub mod Progress

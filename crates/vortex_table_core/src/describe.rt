@@ -1,12 +1,12 @@
 //! Descriptions of columns of groups.
 
 use crate::description::description_of;
-use crate::error::TableError;
-use crate::leaf::leaf_at;
 use crate::table::Table;
 use std::alloc::Global;
 use vortex_dtype_path::path::FieldPath;
 use vortex_dtype_ptype::nullability::Nullability;
+use vortex_table_check::error::TableError;
+use vortex_table_check::leaf::leaf_at;
 use vortex_table_chunk::chunk::bounds_at;
 use vortex_table_chunk::zones::bounds::ColumnBounds;
 use vortex_table_schema::description::Description;
@@ -21,7 +21,7 @@ impl Table {
     ghost use Rattle.vortex_dtype_core.specs.View.{type_of};
     ghost use Rattle.vortex_table_chunk.specs.Chunk.{chunk_rows};
     ghost use Rattle.vortex_table_chunk.specs.Joined.{IsJoined};
-    ghost use Rattle.vortex_table_core.specs.Error.{Explains};
+    ghost use Rattle.vortex_table_check.specs.Error.{Explains};
     ghost use Rattle.vortex_table_core.specs.Group.{chunks_of};
     ghost use Rattle.vortex_table_core.specs.declared.group.Group.{Group};
     ghost use Rattle.vortex_table_core.specs.TableView.{table_of};

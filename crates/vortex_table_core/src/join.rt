@@ -1,9 +1,9 @@
 //! Joins of neighbouring groups.
 
-use crate::error::TableError;
 use crate::group::{Group, replace_group};
 use crate::table::Table;
 use std::alloc::{AllocError, Global};
+use vortex_table_check::error::TableError;
 use vortex_table_chunk::bounds::join_bounds;
 use vortex_table_chunk::zones::bounds::ColumnBounds;
 
@@ -14,7 +14,7 @@ impl Table {
     ghost use Rattle.vortex_table_chunk.specs.Chunk.{chunk_rows};
     ghost use Rattle.vortex_table_chunk.specs.Joined.{AreJoined};
     ghost use Rattle.vortex_table_schema.specs.Leaves.{leaf_positions};
-    ghost use Rattle.vortex_table_core.specs.Error.{Explains};
+    ghost use Rattle.vortex_table_check.specs.Error.{Explains};
     ghost use Rattle.vortex_table_core.specs.Group.{IsGroup, IsOneGroup, chunks_of};
     ghost use Rattle.vortex_table_core.specs.TableView.{table_of};
 

@@ -12,11 +12,9 @@ ghost use Rattle.vortex_dtype_path.specs.View.{steps_of};
 ghost use Rattle.vortex_table_schema.specs.Cut.{paths_of};
 ghost use Rattle.vortex_stats_expr.specs.Faults.{IsReason};
 ghost use Rattle.vortex_table_chunk.specs.Proved.{IsBoundProof};
-ghost use Rattle.vortex_table_core.specs.Error.{Explains};
+ghost use Rattle.vortex_table_check.specs.Error.{Explains};
 ghost use Rattle.vortex_table_core.specs.Plan.{IsPreparedFor};
 
-use crate::check::check_paths;
-use crate::error::TableError;
 use crate::plan::{Proofs, ScanPlan};
 use std::alloc::{AllocError, Global};
 use vortex_dtype_core::dtype::DType;
@@ -25,6 +23,8 @@ use vortex_stats_expr::bind::{PredicateError, bind, bind_proof};
 use vortex_stats_expr::bound::BoundExpression;
 use vortex_stats_expr::expression::Expression;
 use vortex_stats_rewrite::rewrite::{falsify, satisfy};
+use vortex_table_check::check::check_paths;
+use vortex_table_check::error::TableError;
 use vortex_table_schema::cut::make_cut;
 
 fn predicate_error(error: PredicateError) -> TableError

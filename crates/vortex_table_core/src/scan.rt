@@ -1,12 +1,12 @@
 //! Scans over the chunks of a table.
 
-use crate::error::TableError;
 use crate::make::prepare;
 use crate::plan::Scan;
 use crate::table::Table;
 use std::alloc::Global;
 use vortex_dtype_path::path::FieldPath;
 use vortex_stats_expr::expression::Expression;
+use vortex_table_check::error::TableError;
 use vortex_table_schema::answer::ScanAnswer;
 
 impl Table {
@@ -14,7 +14,7 @@ impl Table {
     ghost use Rattle.vortex_model.specs.Scan.{scanned};
     ghost use Rattle.vortex_model.specs.Command.{scan, names_of, refusal};
     ghost use Rattle.vortex_dtype_path.specs.View.{steps_of};
-    ghost use Rattle.vortex_table_core.specs.Error.{Explains};
+    ghost use Rattle.vortex_table_check.specs.Error.{Explains};
     ghost use Rattle.vortex_table_core.specs.TableView.{table_of};
     ghost use Rattle.vortex_table_schema.specs.Answer.{answer_of, IsTyped};
 

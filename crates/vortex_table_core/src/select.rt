@@ -2,7 +2,7 @@
 ghost use Rattle.std.specs.Prelude.{◌≡◌, ◌++◌, All, OnOk, map};
 ghost use Rattle.vortex_dtype_core.specs.View.{type_of};
 ghost use Rattle.vortex_scalar_core.specs.Scalar.{scalar_type, scalar_content};
-ghost use Rattle.vortex_table_chunk.specs.Bounds.{row_content};
+ghost use Rattle.vortex_table_schema.specs.Rows.{row_content};
 ghost use Rattle.vortex_table_core.specs.Selected.{cut_rows, selected_rows, CanBeCut};
 
 use std::alloc::{AllocError, Global};

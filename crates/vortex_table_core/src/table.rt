@@ -8,15 +8,15 @@ ghost use Rattle.vortex_table_schema.specs.Leaves.{leaf_positions};
 ghost use Rattle.vortex_table_core.specs.Group.{AreGroups, AreGroups-prop};
 ghost use Rattle.vortex_table_core.specs.Table.{is_formed, eq_leaves};
 
-use crate::append::{check_batch, convert_rows};
-use crate::check::check_type;
-use crate::error::TableError;
 use crate::group::Group;
 use std::alloc::Global;
 use std::borrow::CowSlice;
 use std::rc::Rc;
 use vortex_dtype_core::dtype::DType;
 use vortex_scalar_value::scalar_value::ScalarValue;
+use vortex_table_check::append::{check_batch, convert_rows};
+use vortex_table_check::check::check_type;
+use vortex_table_check::error::TableError;
 use vortex_table_chunk::chunk::{Chunk, new_chunk};
 use vortex_table_schema::layout::Layout;
 use vortex_table_schema::leaves::{LeafPath, leaf_positions};
@@ -48,9 +48,9 @@ impl Table {
     ghost use Rattle.vortex_model.specs.Command.{appended, create_fault, created};
     ghost use Rattle.vortex_dtype_core.specs.View.{type_of};
     ghost use Rattle.vortex_scalar_value.specs.View.{raw_of};
-    ghost use Rattle.vortex_table_chunk.specs.Bounds.{row_content};
+    ghost use Rattle.vortex_table_schema.specs.Rows.{row_content};
     ghost use Rattle.vortex_table_core.specs.Append.{Appends};
-    ghost use Rattle.vortex_table_core.specs.Error.{Explains};
+    ghost use Rattle.vortex_table_check.specs.Error.{Explains};
     ghost use Rattle.vortex_table_core.specs.TableView.{table_of};
 
     /// A table without rows. Texts and bytes of more than `bound_length` bytes will have shortened

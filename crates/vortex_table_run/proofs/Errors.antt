@@ -5,9 +5,9 @@ use Rattle.vortex_model.specs.Table.{Table}
 use Rattle.vortex_model.specs.Command.{Command, refusal_in}
 use Rattle.vortex_model.specs.Refusal.{Refusal, number_of, index_of}
 use Rattle.vortex_model.specs.Reply.{RespondsTo, PassesTotal}
-use Rattle.vortex_table_core.specs.Error.{refusal_of, Explains}
-use Rattle.vortex_table_core.specs.declared.error.TableError.{TableError}
-use Rattle.vortex_table_core.specs.declared.error.TableError.TheVariants as error
+use Rattle.vortex_table_check.specs.Error.{refusal_of, Explains}
+use Rattle.vortex_table_check.specs.declared.error.TableError.{TableError}
+use Rattle.vortex_table_check.specs.declared.error.TableError.TheVariants as error
 use Rattle.vortex_table_response.specs.Text.{refusal_parts}
 use Rattle.vortex_table_response.specs.Answers.{text_of}
 use Rattle.vortex_table_run.specs.CommandAnswers.{error_answer, error_name}

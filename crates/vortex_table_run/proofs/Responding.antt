@@ -11,9 +11,9 @@ use Rattle.vortex_model.specs.Scan.{ScanAnswer, scanned}
 use Rattle.vortex_model.specs.Command.{Command, create, append, scan, describe, names_of, positions_of, refusal, refusal_in, create_fault}
 use Rattle.vortex_model.specs.Reply.{refused, found, described, Describes, RespondsTo, PassesTotal}
 use Rattle.vortex_model.specs.ZoneMap.{ZoneMap}
-use Rattle.vortex_table_core.specs.Error.{Explains}
-use Rattle.vortex_table_core.specs.declared.error.TableError.{TableError}
-use Rattle.vortex_table_core.specs.declared.error.TableError.TheVariants as error
+use Rattle.vortex_table_check.specs.Error.{Explains}
+use Rattle.vortex_table_check.specs.declared.error.TableError.{TableError}
+use Rattle.vortex_table_check.specs.declared.error.TableError.TheVariants as error
 use Rattle.vortex_table_run.specs.CommandAnswers.{error_answer}
 use Rattle.vortex_table_run.proofs.Errors.{explained}
 

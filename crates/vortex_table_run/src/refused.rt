@@ -2,7 +2,7 @@
 ghost use Rattle.std.specs.Prelude.{◌≡◌, ◌≤◌, ℕ, List, length};
 ghost use Rattle.vortex_table_run.specs.CommandAnswers.{IsWrittenAs, error_answer, error_name};
 
-use vortex_table_core::error::TableError;
+use vortex_table_check::error::TableError;
 use vortex_table_io::Response;
 use vortex_table_response::refusal;
 

@@ -3,3 +3,4 @@ pub mod Cut
 pub mod Description
 pub mod Fault
 pub mod Leaves
+pub mod Rows

@@ -1,7 +1,7 @@
 use Rattle.std.proofs.Common.{◌≡◌, ◌++◌, All, map, take}
 use Rattle.vortex_dtype_core.specs.View.{type_of}
 use Rattle.vortex_scalar_core.specs.Scalar.{scalar_type, scalar_content}
-use Rattle.vortex_table_chunk.specs.Bounds.{row_content}
+use Rattle.vortex_table_schema.specs.Rows.{row_content}
 use Rattle.vortex_table_core.specs.Selected.{cut_rows, selected_rows}
 use Rattle.vortex_table_core.proofs.select.select_rows.Given as goal
 

@@ -1,6 +1,6 @@
 use Rattle.std.proofs.Common.{sym, ap, ◌∙◌, ◌++◌, map, subst, append-nil}
 use Rattle.vortex_scalar_core.specs.Scalar.{scalar_content}
-use Rattle.vortex_table_chunk.specs.Bounds.{row_content}
+use Rattle.vortex_table_schema.specs.Rows.{row_content}
 use Rattle.vortex_table_core.specs.Outcome.{outcome_of}
 use Rattle.vortex_table_core.specs.Selected.{CanBeCut, cut_rows, selected_rows}
 use Rattle.vortex_table_core.proofs.Found.{can_be_cut, none_found, all_found, some_found}

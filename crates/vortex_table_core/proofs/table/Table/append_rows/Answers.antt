@@ -9,9 +9,9 @@ use Rattle.vortex_model.specs.Table.{rows_of}
 use Rattle.vortex_model.specs.Command.{append, refusal, first_invalid, first_unconvertible}
 use Rattle.vortex_dtype_core.specs.View.{type_of}
 use Rattle.vortex_scalar_value.specs.View.{raw_in}
-use Rattle.vortex_table_core.specs.Error.{Explains}
+use Rattle.vortex_table_check.specs.Error.{Explains}
 use Rattle.vortex_table_core.specs.TableView.{table_of}
-use Rattle.vortex_table_core.proofs.Explained.{none_so, explained_two}
+use Rattle.vortex_table_check.proofs.Explained.{none_so, explained_two}
 use Rattle.vortex_table_core.specs.contracts.table.Table.{the_row}
 use Rattle.vortex_table_core.proofs.table.Table.append_rows.Goals as goal
 

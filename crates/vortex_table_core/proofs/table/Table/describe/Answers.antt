@@ -10,7 +10,7 @@ use Rattle.vortex_table_core.specs.TableView.{table_of}
 use Rattle.vortex_table_core.proofs.Described.{chunks_typed, column_described}
 use Rattle.vortex_table_core.proofs.DescribedBounds.{leaf_bounds}
 use Rattle.vortex_table_core.proofs.JoinedGroups.{same_at}
-use Rattle.vortex_table_core.proofs.LeafPlaces.{leaf_part, one_of}
+use Rattle.vortex_table_check.proofs.LeafPlaces.{leaf_part, one_of}
 use Rattle.vortex_table_core.proofs.table.Table.describe.Goals as goal
 
 pub returns-clause-described : goal.returns-clause-described

@@ -9,7 +9,7 @@ use Rattle.vortex_table_core.specs.Group.{chunks_of}
 use Rattle.vortex_table_core.proofs.Described.{leaf_has_bounds, leaf_joined}
 use Rattle.vortex_table_core.proofs.EqualLeaves.{leaves_so}
 use Rattle.vortex_table_core.proofs.JoinedGroups.{group_at, group_within, same_at}
-use Rattle.vortex_table_core.proofs.LeafPlaces.{leaf_part}
+use Rattle.vortex_table_check.proofs.LeafPlaces.{leaf_part}
 use Rattle.vortex_table_core.proofs.table.Table.leaf_statistics.Goals as goal
 
 pub statistics-requires-clause-inside : goal.statistics-requires-clause-inside

@@ -1,0 +1,30 @@
+-- Which refusal an error is.
+use Rattle.std.specs.Prelude.{◌≡◌, Option, Some, None, ⊤}
+use Rattle.vortex_model.specs.Refusal.{Refusal, not_a_record, unkept_type, repeated_name, invalid_value, not_convertible, no_such_group, unknown_path, element_step, placeholder, unknown_column, not_a_leaf, unequal_types, not_boolean, unsupported_predicate}
+use Rattle.vortex_table_check.specs.declared.error.TableError.{TableError}
+use Rattle.vortex_table_check.specs.declared.error.TableError.TheVariants as error
+
+-- want of memory and a total past the limit are no refusals
+abbrev pub refusal_of : TableError → Option Refusal
+refusal_of error.Memory = None
+refusal_of error.NotARecord = Some not_a_record
+refusal_of error.UnkeptType = Some unkept_type
+refusal_of error.RepeatedName = Some repeated_name
+refusal_of (error.InvalidValue i) = Some (invalid_value i)
+refusal_of (error.NotConvertible i) = Some (not_convertible i)
+refusal_of error.Total = None
+refusal_of error.NoSuchGroup = Some no_such_group
+refusal_of (error.UnknownPath i) = Some (unknown_path i)
+refusal_of (error.ElementStep i) = Some (element_step i)
+refusal_of error.Placeholder = Some placeholder
+refusal_of error.UnknownColumn = Some unknown_column
+refusal_of error.NotALeaf = Some not_a_leaf
+refusal_of error.UnequalTypes = Some unequal_types
+refusal_of error.NotBoolean = Some not_boolean
+refusal_of error.UnsupportedPredicate = Some unsupported_predicate
+
+-- The error is want of memory, a total where it passes the limit, or the refusal.
+abbrev pub Explains : Type 0 → Option Refusal → TableError → Type 0
+Explains Passes fault error.Memory = ⊤
+Explains Passes fault error.Total = Passes
+Explains Passes fault e = fault ≡ refusal_of e
