@@ -12,14 +12,14 @@ pub use vortex_stats_bound::intersection::IntersectionResult;
 pub use vortex_stats_bound::precision::Precision;
 pub use vortex_stats_bound::stat_bound::{BoundOf, StatBound};
 pub use vortex_stats_expr::aggregate::AggregateFn;
-pub use vortex_stats_expr::bind::{PredicateError, bind, bind_proof};
-pub use vortex_stats_expr::bound::{BoundExpression, Operands, bound_literal};
+pub use vortex_stats_bind::bind::{PredicateError, bind, bind_proof};
+pub use vortex_stats_bind::bound::{BoundExpression, Operands, bound_literal};
 pub use vortex_stats_expr::expression::{
     Expression, and, binary, col, eq, gt, gt_eq, lit, lt, lt_eq, not_eq, or, root, stat,
 };
 pub use vortex_stats_expr::operator::Operator;
-pub use vortex_stats_expr::stats::{StatBinder, bind_stats, prove};
-pub use vortex_stats_expr::value::Value;
+pub use vortex_stats_bind::stats::{StatBinder, bind_stats, prove};
+pub use vortex_stats_bind::value::Value;
 pub use vortex_stats_rewrite::rewrite::{falsify, satisfy};
 pub use vortex_stats_set::stats_set::{StatsSet, StatsSetIntoIter};
 pub use vortex_stats_set::typed::{MutTypedStatsSetRef, TypedStatsSetRef};

@@ -1,12 +1,5 @@
-pub mod Bound
-pub mod BoundCode
-pub mod BoundFalls
-pub mod BoundTree
 pub mod ContentCode
-pub mod Faults
 pub mod KindCode
-pub mod OperandValue
-pub mod Stats
 pub mod Tree
 pub mod TreeCode
 pub mod TreeFalls

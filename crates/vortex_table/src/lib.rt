@@ -110,14 +110,14 @@ pub mod scalar {
 /// Predicates over rows, and the proofs over statistics that are made of them.
 pub mod expr {
     pub use vortex_stats_expr::aggregate::AggregateFn;
-    pub use vortex_stats_expr::bind::{PredicateError, bind, bind_proof};
-    pub use vortex_stats_expr::bound::{BoundExpression, Operands, bound_literal};
+    pub use vortex_stats_bind::bind::{PredicateError, bind, bind_proof};
+    pub use vortex_stats_bind::bound::{BoundExpression, Operands, bound_literal};
     pub use vortex_stats_expr::expression::{
         Expression, and, binary, col, eq, gt, gt_eq, lit, lt, lt_eq, not_eq, or, root, stat,
     };
     pub use vortex_stats_expr::operator::Operator;
-    pub use vortex_stats_expr::stats::{StatBinder, bind_stats, prove};
-    pub use vortex_stats_expr::value::Value;
+    pub use vortex_stats_bind::stats::{StatBinder, bind_stats, prove};
+    pub use vortex_stats_bind::value::Value;
     pub use vortex_stats_rewrite::rewrite::{falsify, satisfy};
 }
 

@@ -16,7 +16,7 @@ use vortex_dtype_core::dtype::DType;
 use vortex_dtype_path::field::Field;
 use vortex_dtype_path::path::FieldPath;
 use vortex_dtype_ptype::field_names::FieldNames;
-use vortex_stats_expr::bind::column_positions;
+use vortex_stats_bind::bind::column_positions;
 use vortex_stats_expr::types::{TypeClass, column_class};
 
 // The names among the steps.

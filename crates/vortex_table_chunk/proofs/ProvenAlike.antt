@@ -23,7 +23,7 @@ use Rattle.vortex_table_schema.proofs.Places.{is_among, leaf_there, positions_so
 use Rattle.vortex_table_chunk.specs.zones.Bounds.{IsBoundsOf}
 use Rattle.vortex_table_chunk.specs.declared.zones.bounds.ColumnBounds.{ColumnBounds}
 use Rattle.vortex_table_chunk.proofs.zones.StatValueLemmas.{stat_values_are_right, stat_values_alike}
-use Rattle.vortex_stats_expr.specs.Bound.{Bound, Provided, evaluate_bound, bound_of, bound_column, by_names}
+use Rattle.vortex_stats_bind.specs.Bound.{Bound, Provided, evaluate_bound, bound_of, bound_column, by_names}
 use Rattle.vortex_table_chunk.specs.Bounds.{column_at}
 use Rattle.vortex_table_schema.specs.Rows.{row_content}
 use Rattle.vortex_table_chunk.specs.Chunk.{chunk_rows}

@@ -3,7 +3,7 @@ use Rattle.std.specs.Prelude.{◌≡◌, ℕ, length, Option, Some, None, Bool, 
 use Rattle.vortex_model.specs.LogicalType.{LogicalType}
 use Rattle.vortex_model.specs.Expression.{Expression}
 use Rattle.vortex_model.specs.Truth.{evaluate, is_true}
-use Rattle.vortex_stats_expr.specs.Bound.{Bound, Provided, evaluate_bound, by_names}
+use Rattle.vortex_stats_bind.specs.Bound.{Bound, Provided, evaluate_bound, by_names}
 use Rattle.vortex_table_chunk.specs.BoundStat.{zone_provided}
 use Rattle.vortex_table_chunk.specs.declared.chunk.Chunk.{Chunk}
 

@@ -1,5 +1,5 @@
 -- What a zone of rows provides.
-use Rattle.vortex_stats_expr.specs.Bound.{Provided}
+use Rattle.vortex_stats_bind.specs.Bound.{Provided}
 use Rattle.vortex_table_chunk.specs.BoundStat.{zone_provided}
 use Rattle.vortex_table_chunk.specs.declared.binder.ZoneOperands.{ZoneOperands}
 

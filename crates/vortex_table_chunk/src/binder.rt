@@ -1,7 +1,7 @@
 //! The statistics of a zone of rows as answers to placeholders, and proofs decided by them.
 ghost use Rattle.std.specs.Prelude.{◌≡◌};
 ghost use Rattle.vortex_model.specs.Statistics.{shown};
-ghost use Rattle.vortex_stats_expr.specs.OperandValue.{operand_value};
+ghost use Rattle.vortex_stats_bind.specs.OperandValue.{operand_value};
 ghost use Rattle.vortex_stats_expr.specs.Tree.{aggregate_of};
 ghost use Rattle.vortex_table_chunk.specs.Proved.{proved_in};
 ghost use Rattle.vortex_table_chunk.specs.Zone.{provided_by};
@@ -10,9 +10,9 @@ ghost use Rattle.vortex_table_chunk.specs.zones.StatValue.{stat_value};
 
 use crate::chunk::bounds_at;
 use crate::zones::bounds::{Bound, ColumnBounds};
+use vortex_stats_bind::bound::{BoundExpression, Operands};
+use vortex_stats_bind::value::Value;
 use vortex_stats_expr::aggregate::AggregateFn;
-use vortex_stats_expr::bound::{BoundExpression, Operands};
-use vortex_stats_expr::value::Value;
 use vortex_table_schema::leaves::LeafPath;
 
 fn bound_operand<'a>(bound: &'a Option<Bound>) -> Value<'a>

@@ -16,7 +16,7 @@ use std::alloc::{AllocError, Global};
 use vortex_dtype_core::dtype::DType;
 use vortex_dtype_ptype::ptype::PType;
 use vortex_scalar_value::scalar_value::ScalarValue;
-use vortex_stats_expr::bound::part_at;
+use vortex_stats_bind::bound::part_at;
 use vortex_table_schema::leaves::LeafPath;
 
 // `leaf` is the path of the column.

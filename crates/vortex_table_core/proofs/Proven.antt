@@ -17,7 +17,7 @@ use Rattle.vortex_model.specs.Scan.{proves, is_many, chunk_zone, group_zone, chu
 use Rattle.vortex_model.specs.Command.{expression_fault, unless, is_boolean}
 use Rattle.vortex_table_schema.specs.Leaves.{leaf_positions}
 use Rattle.vortex_table_chunk.specs.Chunk.{chunk_rows}
-use Rattle.vortex_stats_expr.specs.Bound.{Bound}
+use Rattle.vortex_stats_bind.specs.Bound.{Bound}
 use Rattle.vortex_table_chunk.specs.BoundStat.{zone_provided}
 use Rattle.vortex_table_chunk.specs.Proved.{proved_in, chunk_provided}
 use Rattle.vortex_table_chunk.specs.Joined.{rows_in}

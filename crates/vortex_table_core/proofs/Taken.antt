@@ -8,7 +8,7 @@ use Rattle.vortex_scalar_value.specs.View.{raw_of}
 use Rattle.vortex_scalar_core.specs.Scalar.{scalar_type, scalar_content}
 use Rattle.vortex_scalar_core.specs.declared.scalar.Scalar.{Scalar}
 use Rattle.vortex_scalar_value.specs.declared.scalar_value.ScalarValue.{ScalarValue}
-use Rattle.vortex_stats_expr.specs.Bound.{Bound}
+use Rattle.vortex_stats_bind.specs.Bound.{Bound}
 use Rattle.vortex_table_schema.specs.Rows.{row_content}
 use Rattle.vortex_table_schema.specs.Cut.{tree_of, content_cut, raw_cut}
 use Rattle.vortex_table_core.specs.Selected.{is_selected, cut_rows, selected_rows}

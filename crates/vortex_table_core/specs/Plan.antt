@@ -11,7 +11,7 @@ use Rattle.vortex_model.specs.Command.{predicate_fault}
 use Rattle.vortex_model.specs.Pruning.{has_no_like}
 use Rattle.vortex_model.specs.Table as model
 use Rattle.vortex_dtype_core.specs.View.{type_of}
-use Rattle.vortex_stats_expr.specs.Bound.{bound_value}
+use Rattle.vortex_stats_bind.specs.Bound.{bound_value}
 use Rattle.vortex_table_chunk.specs.Proved.{IsBoundProof}
 use Rattle.vortex_table_schema.specs.Cut.{paths_of, tree_of, kept_by}
 use Rattle.vortex_table_core.specs.TableView.{table_of}

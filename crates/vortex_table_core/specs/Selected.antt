@@ -6,7 +6,7 @@ use Rattle.vortex_model.specs.Valid.{valid}
 use Rattle.vortex_dtype_core.specs.View.{type_of}
 use Rattle.vortex_scalar_value.specs.View.{raw_of}
 use Rattle.vortex_scalar_value.specs.declared.scalar_value.ScalarValue.{ScalarValue}
-use Rattle.vortex_stats_expr.specs.Bound.{Bound, bound_value}
+use Rattle.vortex_stats_bind.specs.Bound.{Bound, bound_value}
 use Rattle.vortex_table_schema.specs.Cut.{tree_of, content_cut, raw_cut}
 use Rattle.vortex_table_schema.specs.declared.cut.RowProjection.{RowProjection}
 

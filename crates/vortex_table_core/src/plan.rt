@@ -9,7 +9,7 @@ use crate::table::Table;
 use std::alloc::{AllocError, Global};
 use vortex_dtype_path::path::FieldPath;
 use vortex_scalar_core::scalar::Scalar;
-use vortex_stats_expr::bound::BoundExpression;
+use vortex_stats_bind::bound::BoundExpression;
 use vortex_stats_expr::expression::Expression;
 use vortex_table_chunk::binder::{ZoneOperands, is_proved};
 use vortex_table_chunk::chunk::Chunk;

@@ -8,7 +8,7 @@ ghost use Rattle.vortex_table_core.specs.Selected.{cut_rows, selected_rows, CanB
 use std::alloc::{AllocError, Global};
 use vortex_scalar_core::scalar::Scalar;
 use vortex_scalar_value::scalar_value::ScalarValue;
-use vortex_stats_expr::bound::BoundExpression;
+use vortex_stats_bind::bound::BoundExpression;
 use vortex_table_schema::cut::{RowProjection, cut_row};
 
 /// Adds every row, cut. Room for all is made at once.

@@ -1,0 +1,10 @@
+-- Two sides count one less than the tree that joins them.
+use Rattle.std.proofs.Common.{◌+◌, ◌*◌}
+use Rattle.vortex_stats_expr.specs.TreeCode.{size_of}
+use Rattle.vortex_stats_bind.proofs.bind.+resolve.Given as goal
+
+abbrev pub decreases-resolve : goal.decreases-resolve
+decreases-resolve l = 2 * size_of l.e.now
+
+abbrev pub decreases-resolve_both : goal.decreases-resolve_both
+decreases-resolve_both l = 2 * (size_of l.left.now + size_of l.right.now) + 1

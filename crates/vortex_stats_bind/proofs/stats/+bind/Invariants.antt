@@ -1,0 +1,10 @@
+-- Two sides count one less than the tree that joins them.
+use Rattle.std.proofs.Common.{◌+◌, ◌*◌}
+use Rattle.vortex_stats_bind.specs.Bound.{bound_size}
+use Rattle.vortex_stats_bind.proofs.stats.+bind.Given as goal
+
+abbrev pub decreases-bind_stats : goal.decreases-bind_stats
+decreases-bind_stats g l = 2 * bound_size l.proof.now
+
+abbrev pub decreases-bind_both : goal.decreases-bind_both
+decreases-bind_both g l = 2 * (bound_size l.x.now + bound_size l.y.now) + 1

@@ -1,0 +1,42 @@
+-- What a refusal of a predicate says.
+use Rattle.std.specs.Prelude.{◌≡◌, ◌≢◌, Option, Some, None, Result, Ok, Err}
+use Rattle.vortex_model.specs.LogicalType.{LogicalType}
+use Rattle.vortex_model.specs.Refusal.{Refusal, placeholder, unknown_column, not_a_leaf, unequal_types, not_boolean, unsupported_predicate}
+use Rattle.vortex_model.specs.Expression.{Expression}
+use Rattle.vortex_model.specs.Typing.{expression_type}
+use Rattle.vortex_model.specs.Command.{expression_fault}
+use Rattle.vortex_stats_bind.specs.declared.bind.PredicateError.{PredicateError}
+use Rattle.vortex_stats_bind.specs.declared.bind.PredicateError.TheVariants as error
+use Rattle.vortex_stats_expr.specs.declared.types.Leaf.{Leaf}
+use Rattle.vortex_stats_expr.specs.declared.types.Leaf.TheVariants as leaf
+use Rattle.vortex_stats_expr.specs.Types.{IsLeaf}
+
+-- the refusal that an error stands for, and none for want of memory
+abbrev pub refusal_of : PredicateError → Option Refusal
+refusal_of error.Memory = None
+refusal_of error.Placeholder = Some placeholder
+refusal_of error.UnknownColumn = Some unknown_column
+refusal_of error.NotALeaf = Some not_a_leaf
+refusal_of error.UnequalTypes = Some unequal_types
+refusal_of error.NotBoolean = Some not_boolean
+refusal_of error.UnsupportedPredicate = Some unsupported_predicate
+
+-- the error is for want of memory, or for this fault
+abbrev pub IsReason : PredicateError → Option Refusal → Type 0
+IsReason error.Memory fault = Unit {0}
+IsReason e fault = fault ≡ refusal_of e
+
+-- what was found of an expression: its type, if it has no fault, and else the fault
+abbrev pub IsChecked : LogicalType → Expression → Result Leaf PredicateError → Type 0
+IsChecked k e (Ok l) = (expression_fault k e ≡ None) × IsLeaf l (expression_type k e)
+IsChecked k e (Err r) = IsReason r (expression_fault k e)
+
+-- the type of a connective
+abbrev pub truths_of : Leaf → Leaf → Result Leaf PredicateError
+truths_of leaf.Bool leaf.Bool = Ok leaf.Bool
+truths_of a b = Err error.NotBoolean
+
+-- the type of a comparison of two types
+abbrev pub IsSameOf : Leaf → Leaf → Result Leaf PredicateError → Type 0
+IsSameOf a b (Ok l) = (l ≡ leaf.Bool) × (a ≡ b)
+IsSameOf a b (Err r) = (r ≡ error.UnequalTypes) × (a ≢ b)

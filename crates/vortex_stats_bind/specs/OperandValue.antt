@@ -1,0 +1,30 @@
+-- What an operand says.
+use Rattle.std.specs.Prelude.{pos, Bool, Option, Some, None}
+use Rattle.vortex_model.specs.Content.{Content, content_of, null, boolean, integer}
+use Rattle.std.specs.declared.cmp.Ordering.{Ordering}
+use Rattle.vortex_model.specs.Order.{content_cmp}
+use Rattle.vortex_scalar_value.specs.View.{raw_of}
+use Rattle.vortex_stats_bind.specs.declared.value.Value.{Value}
+use Rattle.vortex_stats_bind.specs.declared.value.Value.TheVariants as value
+
+abbrev pub operand_value : Value → Content
+operand_value value.Null = null
+operand_value (value.Truth b) = boolean b
+operand_value (value.Count n) = integer (pos n)
+operand_value (value.Stored r) = content_of (raw_of r.now)
+
+-- null stands for neither true nor false
+abbrev pub truth_content : Option Bool → Content
+truth_content None = null
+truth_content (Some b) = boolean b
+
+-- the truth value, where it is one
+abbrev pub boolean_in : Content → Option Bool
+boolean_in (boolean b) = Some b
+boolean_in c = None
+
+-- how two contents stand, neither of which is null
+abbrev pub order_of : Content → Content → Option Ordering
+order_of null d = None
+order_of c null = None
+order_of c d = content_cmp c d

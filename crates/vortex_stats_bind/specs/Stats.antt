@@ -1,0 +1,24 @@
+-- What placeholders stand for, and what is left of a proof where they are bound.
+use Rattle.std.specs.Prelude.{◌≡◌, Option, Some, None}
+use Rattle.vortex_model.specs.Content.{Content, null}
+use Rattle.vortex_model.specs.Path.{Positions}
+use Rattle.vortex_model.specs.Expression.{Aggregate}
+use Rattle.vortex_stats_bind.specs.Bound.{Bound, Provided, fixed, reads_places, evaluate_bound}
+
+-- A binder's answer: a literal of the value, or none for null.
+abbrev pub IsAnswer : Option Bound → Content → Type 0
+IsAnswer None c = c ≡ null
+IsAnswer (Some (fixed d)) c = d ≡ c
+IsAnswer (Some b) c = ⊥
+
+-- Whatever the columns are, the bound proof has the value that the proof has where placeholders
+-- stand for these. It has none left.
+pub record IsBinding (given : Bound → Aggregate → Content) (proof bound : Bound) : Type 0 where
+  pub value : (columns : Positions → Content) (left : Bound → Aggregate → Content) →
+      evaluate_bound (record { columns = columns; statistics = left }) bound
+      ≡ evaluate_bound (record { columns = columns; statistics = given }) proof
+  pub columns_read : reads_places bound ≡ reads_places proof
+
+-- neither columns nor statistics
+abbrev pub of_nothing : Provided
+of_nothing = record { columns = λ is. null; statistics = λ x a. null }

@@ -1,0 +1,234 @@
+//! Predicates and proofs whose columns are resolved to positions, and their values.
+//!
+//! One walk evaluates both. What columns and placeholders stand for is handed to it: at a row the
+//! row's values, and of a zone of rows its statistics.
+ghost use Rattle.std.specs.Prelude.{◌≡◌, IfOk, IfSome, IfNone, None};
+ghost use Rattle.vortex_model.specs.Content.{content_of};
+ghost use Rattle.vortex_model.specs.Path.{at, part_of};
+ghost use Rattle.vortex_model.specs.Truth.{is_true};
+ghost use Rattle.vortex_scalar_value.specs.View.{raw_of, content_at, content_in};
+ghost use Rattle.vortex_stats_bind.specs.Bound.{Provided, fixed, place, test, each, some, placeholder, place_of, evaluate_bound, bound_value};
+ghost use Rattle.vortex_stats_bind.specs.OperandValue.{operand_value};
+ghost use Rattle.vortex_stats_expr.specs.Tree.{comparison_of, aggregate_of};
+
+use crate::value::{Value, compare_values, kleene_and, kleene_or, read, truth_of, truth_value};
+use std::alloc::{AllocError, Global};
+use std::marker::Model;
+use vortex_scalar_value::scalar_value::ScalarValue;
+use vortex_stats_expr::aggregate::AggregateFn;
+use vortex_stats_expr::operator::Comparison;
+
+/// A predicate or a proof over rows of one type, as Vortex's `BoundExpression`. `bind` makes one of
+/// a predicate without a fault, and `bind_proof` of any proof. Contracts see it as a tree with
+/// positions in place of names.
+#[cycle(bound)]
+#[derive(Drop)]
+pub struct BoundExpression {
+    pub(crate) node: BoundNode,
+}
+
+#[cycle(bound)]
+pub(crate) enum BoundNode {
+    Literal(Option<ScalarValue>),
+    Column(Vec<usize>),
+    Compare(Comparison, Box<BoundExpression>, Box<BoundExpression>),
+    And(Box<BoundExpression>, Box<BoundExpression>),
+    Or(Box<BoundExpression>, Box<BoundExpression>),
+    Stat(AggregateFn, Box<BoundExpression>),
+}
+
+impl Drop for BoundNode {
+    #[cycle(drop_bound_node)]
+    fn drop(self) {
+        match self {
+            BoundNode::Literal(_value) => {}
+            BoundNode::Column(_path) => {}
+            BoundNode::Compare(_, _left, _right) => {}
+            BoundNode::And(_left, _right) => {}
+            BoundNode::Or(_left, _right) => {}
+            BoundNode::Stat(_, _input) => {}
+        }
+    }
+}
+
+impl Model for BoundExpression {
+    ghost use Rattle.vortex_stats_bind.specs.Bound.{Bound, bound_size};
+    ghost use Rattle.vortex_stats_bind.specs.BoundCode.{bound_code};
+
+    ghost Value = { Bound };
+
+    ghost coded = { bound_code };
+
+    ghost use Rattle.vortex_stats_bind.specs.BoundTree.{bound_tree};
+
+    ghost view = { λ a. bound_tree a.node };
+
+    ghost size = { bound_size };
+
+    ghost use Rattle.vortex_stats_bind.specs.BoundFalls.{depth_le-size};
+
+    ghost size_decreases = { λ a h. depth_le-size a.node };
+}
+
+pub(crate) fn bound_compare(
+    alloc: Global,
+    comparison: Comparison,
+    left: BoundExpression,
+    right: BoundExpression,
+) -> Result<BoundExpression, AllocError>
+    ensures { IfOk result (λ bound. bound ≡ test (comparison_of comparison) left right) }
+{
+    Ok(BoundExpression {
+        node: BoundNode::Compare(comparison, Box::new(alloc, left)?, Box::new(alloc, right)?),
+    })
+}
+
+pub(crate) fn bound_and(
+    alloc: Global,
+    left: BoundExpression,
+    right: BoundExpression,
+) -> Result<BoundExpression, AllocError>
+    ensures { IfOk result (λ bound. bound ≡ each left right) }
+{
+    Ok(BoundExpression {
+        node: BoundNode::And(Box::new(alloc, left)?, Box::new(alloc, right)?),
+    })
+}
+
+pub(crate) fn bound_or(
+    alloc: Global,
+    left: BoundExpression,
+    right: BoundExpression,
+) -> Result<BoundExpression, AllocError>
+    ensures { IfOk result (λ bound. bound ≡ some left right) }
+{
+    Ok(BoundExpression {
+        node: BoundNode::Or(Box::new(alloc, left)?, Box::new(alloc, right)?),
+    })
+}
+
+pub(crate) fn bound_stat(
+    alloc: Global,
+    aggregate: AggregateFn,
+    input: BoundExpression,
+) -> Result<BoundExpression, AllocError>
+    ensures { IfOk result (λ bound. bound ≡ placeholder input (aggregate_of aggregate)) }
+{
+    Ok(BoundExpression {
+        node: BoundNode::Stat(aggregate, Box::new(alloc, input)?),
+    })
+}
+
+/// A literal, where `None` is null. Binders answer placeholders by it.
+pub fn bound_literal(value: Option<ScalarValue>) -> BoundExpression
+    ensures { result ≡ fixed (content_in value) }
+{
+    BoundExpression {
+        node: BoundNode::Literal(value),
+    }
+}
+
+/// What the columns and the placeholders of a bound expression stand for, as values that stay where
+/// they are.
+pub trait Operands {
+    ghost provided: { Self → Provided };
+
+    /// The value of the column at these positions.
+    fn column<'a>(&'a self, path: &[usize]) -> Value<'a>
+        ensures { operand_value result ≡ (provided self.now).columns path.now };
+
+    /// The value of a statistic of the values of `input`, null where it is not known.
+    fn statistic<'a>(&'a self, input: &BoundExpression, aggregate: AggregateFn) -> Value<'a>
+        ensures { operand_value result
+            ≡ (provided self.now).statistics input.now (aggregate_of aggregate) };
+}
+
+/// A row is the source of its columns, and of no statistic.
+impl Operands for ScalarValue {
+    ghost use Rattle.vortex_model.specs.Content.{content_of};
+    ghost use Rattle.vortex_scalar_value.specs.View.{raw_of};
+    ghost use Rattle.vortex_stats_bind.specs.Bound.{in_row};
+
+    ghost provided = { λ row. in_row (content_of (raw_of row)) };
+
+    fn column<'a>(&'a self, path: &[usize]) -> Value<'a> {
+        read(part_at(self, path))
+    }
+
+    fn statistic<'a>(&'a self, _input: &BoundExpression, _aggregate: AggregateFn) -> Value<'a> {
+        Value::Null
+    }
+}
+
+/// The value of a bound expression, borrowed from it or from what its columns and placeholders
+/// stand for.
+pub fn value_of<'a, S: Operands>(e: &'a BoundExpression, source: &'a S) -> Value<'a>
+    ensures { operand_value result ≡ evaluate_bound (S.provided source.now) e.now }
+{
+    match &e.node {
+        BoundNode::Literal(value) => read(value.as_ref()),
+        BoundNode::Column(path) => source.column(path),
+        BoundNode::Compare(comparison, x, y) => truth_value(compare_values(
+            *comparison,
+            value_of(x, source),
+            value_of(y, source),
+        )),
+        BoundNode::And(x, y) => truth_value(kleene_and(value_of(x, source), value_of(y, source))),
+        BoundNode::Or(x, y) => truth_value(kleene_or(value_of(x, source), value_of(y, source))),
+        BoundNode::Stat(aggregate, input) => source.statistic(input, *aggregate),
+    }
+}
+
+impl BoundExpression {
+    /// Whether it is true where its columns and placeholders stand for these: neither false nor
+    /// null. It allocates nothing.
+    #[tactic(auto, using(crate::proofs::Truths::is_true_by))]
+    pub fn holds<S: Operands>(&self, source: &S) -> bool
+        ensures { result ≡ is_true (evaluate_bound (S.provided source.now) self.now) }
+    {
+        truth_of(value_of(self, source)).unwrap_or(false)
+    }
+
+    /// Whether the predicate is true at a row of the type that it was bound to: neither false nor
+    /// null. It allocates nothing.
+    pub fn selects(&self, row: &ScalarValue) -> bool
+        ensures { result ≡ is_true (bound_value self.now (content_of (raw_of row.now))) }
+    {
+        self.holds(row)
+    }
+
+    /// The positions of the column, where it is a column and nothing else. What answers
+    /// placeholders asks it of their inputs.
+    pub fn as_column(&self) -> Option<&[usize]>
+        ensures path { IfSome result (λ path. self.now ≡ place path.now) }
+        ensures none { IfNone result (place_of self.now ≡ None) }
+    {
+        match &self.node {
+            BoundNode::Literal(_) => None,
+            BoundNode::Column(path) => Some(path),
+            BoundNode::Compare(_, _, _) => None,
+            BoundNode::And(_, _) => None,
+            BoundNode::Or(_, _) => None,
+            BoundNode::Stat(_, _) => None,
+        }
+    }
+}
+
+/// The value of a row at these positions, each the index of a field in the record before it.
+/// `None` is null, and stands also for a part of a null record.
+pub fn part_at<'a>(row: &'a ScalarValue, path: &[usize]) -> Option<&'a ScalarValue>
+    ensures { content_at result ≡ at (content_of (raw_of row.now)) path.now }
+{
+    let mut current = Some(row);
+    for index in path {
+        current = member(current, *index);
+    }
+    current
+}
+
+#[tactic(auto, using(crate::proofs::Items::parts))]
+fn member<'a>(value: Option<&'a ScalarValue>, index: usize) -> Option<&'a ScalarValue>
+    ensures { content_at result ≡ part_of (content_at value.entry) index }
+{
+    value?.child_at(index)
+}

@@ -1,0 +1,7 @@
+//! Predicates and proofs bound to a type, and their values.
+#![tactic(auto)]
+
+pub mod bind;
+pub mod bound;
+pub mod stats;
+pub mod value;

@@ -1,0 +1,150 @@
+//! Values for the placeholders of a bound proof, and its truth without placeholders.
+//!
+//! `bind_stats` and `prove` are the two steps apart, for a caller that looks at the proof between
+//! them. `BoundExpression::holds` evaluates a proof in one walk that allocates nothing.
+ghost use Rattle.std.specs.Prelude.{◌≡◌, IfOk, None, false, true};
+ghost use Rattle.vortex_model.specs.Content.{Content};
+ghost use Rattle.vortex_model.specs.Expression.{Aggregate};
+ghost use Rattle.vortex_scalar_value.specs.View.{content_at};
+ghost use Rattle.vortex_stats_bind.specs.Bound.{Bound, fixed, placeholder, reads_places, evaluate_bound};
+ghost use Rattle.vortex_stats_bind.specs.OperandValue.{boolean_in};
+ghost use Rattle.vortex_stats_bind.specs.Stats.{IsAnswer, IsBinding, of_nothing};
+ghost use Rattle.vortex_stats_expr.specs.Tree.{aggregate_of};
+
+use crate::bound::{
+    BoundExpression, BoundNode, Operands, bound_and, bound_compare, bound_literal, bound_or,
+    value_of,
+};
+use crate::value::{Value, truth_of};
+use std::alloc::{AllocError, Global};
+use vortex_scalar_value::clone::clone_value;
+use vortex_scalar_value::scalar_value::ScalarValue;
+use vortex_stats_expr::aggregate::AggregateFn;
+
+/// A source of statistics of some rows, as Vortex's `StatBinder`.
+pub trait StatBinder {
+    /// The value of a statistic of an expression, null where it is not known.
+    ghost meaning: { Self → Bound → Aggregate → Content };
+
+    /// A literal of the statistic's value. `None` where it isn't known, which counts as null.
+    fn bind_aggregate(
+        &self,
+        alloc: Global,
+        input: &BoundExpression,
+        aggregate: AggregateFn,
+    ) -> Result<Option<BoundExpression>, AllocError>
+        ensures { IfOk result
+            (λ found. IsAnswer found (meaning self.now input.now (aggregate_of aggregate))) };
+}
+
+/// The proof with each placeholder replaced by the binder's literal, or by null where there is
+/// none, as Vortex's `bind_stats`. It asks the binder once for each placeholder.
+#[cycle(bind)]
+pub fn bind_stats<B: StatBinder>(
+    alloc: Global,
+    proof: &BoundExpression,
+    binder: &B,
+) -> Result<BoundExpression, AllocError>
+    ensures { IfOk result (λ bound. IsBinding (B.meaning binder.now) proof.now bound) }
+{
+    match &proof.node {
+        BoundNode::Literal(value) => copy_literal(value.as_ref()),
+        BoundNode::Column(path) => Ok(BoundExpression {
+            node: BoundNode::Column(path.clone()?),
+        }),
+        BoundNode::Compare(comparison, x, y) => {
+            let (left, right) = bind_both(alloc, x, y, binder)?;
+            bound_compare(alloc, *comparison, left, right)
+        }
+        BoundNode::And(x, y) => {
+            let (left, right) = bind_both(alloc, x, y, binder)?;
+            bound_and(alloc, left, right)
+        }
+        BoundNode::Or(x, y) => {
+            let (left, right) = bind_both(alloc, x, y, binder)?;
+            bound_or(alloc, left, right)
+        }
+        BoundNode::Stat(aggregate, input) => bind_stat(alloc, *aggregate, input, binder),
+    }
+}
+
+#[cycle(bind)]
+fn bind_both<B: StatBinder>(
+    alloc: Global,
+    x: &BoundExpression,
+    y: &BoundExpression,
+    binder: &B,
+) -> Result<(BoundExpression, BoundExpression), AllocError>
+    ensures left { IfOk result (λ bound. IsBinding (B.meaning binder.now) x.now bound.0) }
+    ensures right { IfOk result (λ bound. IsBinding (B.meaning binder.now) y.now bound.1) }
+{
+    let left = bind_stats(alloc, x, binder)?;
+    let right = bind_stats(alloc, y, binder)?;
+    Ok((left, right))
+}
+
+fn copy_literal(value: Option<&ScalarValue>) -> Result<BoundExpression, AllocError>
+    ensures { IfOk result (λ bound. bound ≡ fixed (content_at value.entry)) }
+{
+    let value = clone_value(value)?;
+    Ok(bound_literal(value))
+}
+
+fn bind_stat<B: StatBinder>(
+    alloc: Global,
+    aggregate: AggregateFn,
+    input: &BoundExpression,
+    binder: &B,
+) -> Result<BoundExpression, AllocError>
+    ensures { IfOk result (λ bound. IsBinding (B.meaning binder.now)
+        (placeholder input.now (aggregate_of aggregate)) bound) }
+{
+    match binder.bind_aggregate(alloc, input, aggregate)? {
+        Some(found) => Ok(found),
+        None => Ok(bound_literal(None)),
+    }
+}
+
+// What has neither columns nor statistics.
+struct NoOperands;
+
+impl Operands for NoOperands {
+    ghost use Rattle.vortex_stats_bind.specs.Stats.{of_nothing};
+
+    ghost provided = { λ none. of_nothing };
+
+    fn column<'a>(&'a self, _path: &[usize]) -> Value<'a> {
+        Value::Null
+    }
+
+    fn statistic<'a>(&'a self, _input: &BoundExpression, _aggregate: AggregateFn) -> Value<'a> {
+        Value::Null
+    }
+}
+
+/// The truth of a proof without placeholders, as Vortex's `prove`. `None` where it is null, and
+/// where it reads a column, which has no value outside a row. Placeholders count as null.
+pub fn prove(bound: &BoundExpression) -> Option<bool>
+    ensures value { reads_places bound.now ≡ false → result
+        ≡ boolean_in (evaluate_bound of_nothing bound.now) }
+    ensures of_columns { reads_places bound.now ≡ true → result ≡ None }
+{
+    if reads_columns(bound) {
+        return None;
+    }
+    truth_of(value_of(bound, &NoOperands))
+}
+
+// A column inside a placeholder doesn't count.
+fn reads_columns(e: &BoundExpression) -> bool
+    ensures { result ≡ reads_places e.now }
+{
+    match &e.node {
+        BoundNode::Literal(_) => false,
+        BoundNode::Column(_) => true,
+        BoundNode::Compare(_, x, y) => reads_columns(x) || reads_columns(y),
+        BoundNode::And(x, y) => reads_columns(x) || reads_columns(y),
+        BoundNode::Or(x, y) => reads_columns(x) || reads_columns(y),
+        BoundNode::Stat(_, _) => false,
+    }
+}

@@ -1,0 +1,131 @@
+//! Values of operands, borrowed while a predicate or a proof is evaluated.
+//!
+//! What is no truth value counts as null under AND and OR, and null compares with nothing.
+ghost use Rattle.std.specs.Prelude.{◌≡◌, pos};
+ghost use Rattle.vortex_model.specs.Content.{content_of, integer};
+ghost use Rattle.vortex_model.specs.Truth.{compared, kleene_and, kleene_or};
+ghost use Rattle.vortex_scalar_value.specs.View.{raw_of, content_at};
+ghost use Rattle.vortex_stats_bind.specs.OperandValue.{operand_value, truth_content, boolean_in, order_of};
+ghost use Rattle.vortex_stats_expr.specs.Tree.{comparison_of};
+
+use std::cmp::Ordering;
+use vortex_scalar_ops::compare::compare_values as order_values;
+use vortex_scalar_value::pvalue::PValue;
+use vortex_scalar_value::scalar_value::ScalarValue;
+use vortex_stats_expr::operator::Comparison;
+
+/// The value of an operand: null, a truth value or a count that was computed, or a value that
+/// stands in a literal, a row or a statistic.
+#[derive(Clone, Copy)]
+pub enum Value<'a> {
+    Null,
+    Truth(bool),
+    Count(u64),
+    Stored(&'a ScalarValue),
+}
+
+/// An operand that a literal or a row holds, where `None` is null.
+pub fn read<'a>(value: Option<&'a ScalarValue>) -> Value<'a>
+    ensures { operand_value result ≡ content_at value.entry }
+{
+    match value {
+        Some(value) => Value::Stored(value),
+        None => Value::Null,
+    }
+}
+
+/// An operand that was computed. `None` is null.
+pub fn truth_value<'a>(truth: Option<bool>) -> Value<'a>
+    ensures { operand_value result ≡ truth_content truth }
+{
+    match truth {
+        Some(b) => Value::Truth(b),
+        None => Value::Null,
+    }
+}
+
+/// The truth value of an operand, and `None` where it is null or no truth value.
+#[tactic(auto, using(crate::proofs::Truths::stored))]
+pub fn truth_of(value: Value) -> Option<bool>
+    ensures { result ≡ boolean_in (operand_value value.entry) }
+{
+    match value {
+        Value::Truth(b) => Some(b),
+        Value::Stored(value) => value.as_bool(),
+        Value::Count(_) => None,
+        Value::Null => None,
+    }
+}
+
+// How two operands stand, and `None` also where one is null.
+#[tactic(auto, using(crate::proofs::Truths::orders))]
+fn order(left: Value, right: Value) -> Option<Ordering>
+    ensures { result ≡ order_of (operand_value left.entry) (operand_value right.entry) }
+{
+    match left {
+        Value::Null => None,
+        Value::Truth(left) => order_stored(&ScalarValue::Bool(left), right),
+        Value::Count(left) => order_stored(&ScalarValue::Primitive(PValue::U64(left)), right),
+        Value::Stored(left) => order_stored(left, right),
+    }
+}
+
+#[tactic(auto, using(crate::proofs::Truths::orders))]
+fn order_stored(left: &ScalarValue, right: Value) -> Option<Ordering>
+    ensures { result ≡ order_of (content_of (raw_of left.now)) (operand_value right.entry) }
+{
+    match right {
+        Value::Null => None,
+        Value::Truth(right) => order_values(Some(left), Some(&ScalarValue::Bool(right))),
+        Value::Count(right) => order_count(left, right),
+        Value::Stored(right) => order_values(Some(left), Some(right)),
+    }
+}
+
+#[tactic(auto, using(crate::proofs::Truths::orders))]
+fn order_count(left: &ScalarValue, right: u64) -> Option<Ordering>
+    ensures { result ≡ order_of (content_of (raw_of left.now)) (integer (pos right)) }
+{
+    order_values(
+        Some(left),
+        Some(&ScalarValue::Primitive(PValue::U64(right))),
+    )
+}
+
+/// The truth of a comparison, and `None`, which is null, where an operand is null or the two don't
+/// compare.
+pub fn compare_values(comparison: Comparison, left: Value, right: Value) -> Option<bool>
+    ensures { truth_content result ≡ compared (comparison_of comparison) (operand_value left.entry)
+        (operand_value right.entry) }
+{
+    match order(left, right) {
+        Some(found) => Some(comparison.holds(found)),
+        None => None,
+    }
+}
+
+/// AND in Kleene's logic, where false decides against null.
+#[tactic(auto, using(crate::proofs::Truths::both))]
+pub fn kleene_and(left: Value, right: Value) -> Option<bool>
+    ensures { truth_content result ≡ kleene_and (operand_value left.entry)
+        (operand_value right.entry) }
+{
+    match (truth_of(left), truth_of(right)) {
+        (Some(false), _) | (_, Some(false)) => Some(false),
+        (Some(true), Some(true)) => Some(true),
+        (Some(true), None) | (None, Some(true)) | (None, None) => None,
+    }
+}
+
+/// OR in Kleene's logic, where true decides against null.
+#[tactic(auto, using(crate::proofs::Truths::one))]
+pub fn kleene_or(left: Value, right: Value) -> Option<bool>
+    ensures { truth_content result ≡ kleene_or (operand_value left.entry)
+        (operand_value right.entry) }
+{
+    match (truth_of(left), truth_of(right)) {
+        (Some(true), _) | (_, Some(true)) => Some(true),
+        (Some(false), Some(false)) => Some(false),
+        (Some(false), None) | (None, Some(false)) | (None, None) => None,
+    }
+}
