@@ -1,7 +1,7 @@
 //! Arrays: columns of values of one type, in eight layouts, with the buffers, masks and views of
 //! sixteen bytes that they are made of.
 //!
-//! The layer stands in nine crates, and this one gathers their items. A caller of arrays alone
+//! The layer stands in several crates, and this one gathers their items. A caller of arrays alone
 //! depends on it; nothing below does.
 #![tactic(auto)]
 
@@ -13,6 +13,9 @@ pub use vortex_arrays_buffer::element::Element;
 pub use vortex_arrays_buffer::error::ArrayError;
 pub use vortex_arrays_buffer::mask::Mask;
 pub use vortex_arrays_buffer::primitive_buffer::PrimitiveBuffer;
+pub use vortex_arrays_builder::constant::build_constant;
+pub use vortex_arrays_builder::fits::{fits_constant, fits_dictionary};
+pub use vortex_arrays_builder::plain::build_plain;
 pub use vortex_arrays_core::array::{ArrayLayout, ArrayRef, StringKind, Validity};
 pub use vortex_arrays_leaf::bool_array::{BoolArray, BoolDataParts};
 pub use vortex_arrays_leaf::constant_array::ConstantArray;
@@ -23,10 +26,16 @@ pub use vortex_arrays_nested::fixed_size_list::{
     FixedSizeListArray, FixedSizeListDataParts, FixedSizeListSlots,
 };
 pub use vortex_arrays_nested::list_view::{ListViewArray, ListViewDataParts, ListViewSlots};
+pub use vortex_arrays_numbers::bool_array_ext::BoolArrayExt;
+pub use vortex_arrays_numbers::native_buffer::NativeBuffer;
+pub use vortex_arrays_numbers::primitive_array_ext::PrimitiveArrayExt;
+pub use vortex_arrays_rebuild::density::ListViewArrayExt;
 pub use vortex_arrays_rebuild::rebuild::{ListViewRebuild, ListViewRebuildMode};
 pub use vortex_arrays_struct::column::column_at;
+pub use vortex_arrays_struct::fields::StructDataParts;
 pub use vortex_arrays_struct::mask::mask;
 pub use vortex_arrays_struct::struct_array::StructArray;
+pub use vortex_arrays_struct::unmasked_fields_iter::UnmaskedFieldsIter;
 pub use vortex_arrays_validity::validity_ext::ValidityExt;
 pub use vortex_arrays_view::build::{MAX_BUFFER_LEN, build_views, build_views_from_offsets};
 pub use vortex_arrays_view::inlined::Inlined;

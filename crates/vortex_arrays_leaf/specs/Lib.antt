@@ -3,4 +3,3 @@ pub mod Options
 pub mod Shapes
 pub mod Strings
 pub mod ViewFaults
-pub mod builders

@@ -1,9 +1,7 @@
-//! Typed arrays of truth values, of integers, of texts and bytes, and of one value; and leaf arrays
-//! made of values.
+//! Typed arrays of truth values, of integers, of texts and bytes, and of one value.
 #![tactic(auto)]
 
 pub mod bool_array;
-pub mod builders;
 mod check_views;
 pub mod constant_array;
 pub mod options;

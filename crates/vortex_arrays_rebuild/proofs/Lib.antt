@@ -1,4 +1,5 @@
 pub mod CopyLemmas
+pub mod DensityLemmas
 pub mod NameLemmas
 pub mod PlanLemmas
 pub mod ReadLemmas

@@ -1,5 +1,5 @@
 -- The plan of a layout without gaps.
-use Rattle.std.proofs.Common.{◌≡◌, ◌<◌, ◌≤◌, ◌+◌, ◌^◌, ℕ, Bool, true, false, cond, List, [], length, map, take, get_or, sum_by, refl, sym, ap, subst, ◌∙◌, arith}
+use Rattle.std.proofs.Common.{◌≡◌, ◌<◌, ◌≤◌, ◌+◌, ℕ, List, length, map, take, get_or, sym, ap, subst, ◌∙◌, arith}
 use Rattle.std.specs.List.{flat_map, range_with_len}
 use Rattle.std.proofs.lemmas.List.{length-map}
 use Rattle.std.proofs.lemmas.List.Concat.{length-flat_map}
@@ -8,11 +8,10 @@ use Rattle.std.proofs.lemmas.List.FromFn.{length-map-range_with_len}
 use Rattle.vortex_model.specs.Content.{Content, null}
 use Rattle.vortex_arrays_buffer.specs.declared.error.ArrayError.{ArrayError}
 use Rattle.vortex_arrays_buffer.specs.declared.error.ArrayError.TheVariants as error
-use Rattle.vortex_arrays_model.specs.Layout.{Layout, list_views, Valid, len_of, content_at, is_valid, number_in, rows_of, IsSound}
+use Rattle.vortex_arrays_model.specs.Layout.{Layout, len_of, content_at, rows_of}
 use Rattle.vortex_arrays_model.specs.Canonical.{items_of, IsCanonical}
 use Rattle.vortex_arrays_model.proofs.CanonicalLemmas.{canonical_none, canonical_all}
 use Rattle.vortex_arrays_model.proofs.RowsLemmas.{row_at_position, row_count}
-use Rattle.vortex_arrays_model.proofs.ValidRows.{view_within}
 use Rattle.vortex_arrays_rebuild.specs.Rebuilds.{total_of, IsSumFault}
 use Rattle.vortex_arrays_rebuild.specs.Runs.{IsLengthFault}
 

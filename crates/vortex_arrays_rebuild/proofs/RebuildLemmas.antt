@@ -1,5 +1,5 @@
 -- A view laid out anew.
-use Rattle.std.proofs.Common.{◌≡◌, ◌<◌, ℕ, Bool, true, false, List, length, map, get_or, refl, sym, subst, ◌∙◌, arith}
+use Rattle.std.proofs.Common.{◌≡◌, ◌<◌, ℕ, true, false, List, length, map, get_or, refl, sym, subst, ◌∙◌, arith}
 use Rattle.std.proofs.lemmas.List.{length-map, get_or-map}
 use Rattle.vortex_model.specs.Content.{null}
 use Rattle.vortex_arrays_buffer.specs.declared.error.ArrayError.{ArrayError}

@@ -7,17 +7,16 @@ use Rattle.std.proofs.lemmas.List.Elements.{All-from_get_or}
 use Rattle.vortex_model.specs.LogicalType.{LogicalType, integer_type, non_nullable, IntKind, u8, u16, u32, u64, i8, i16, i32, i64}
 use Rattle.vortex_model.specs.Content.{Content, integer}
 use Rattle.vortex_model.specs.Valid.{InRange, in_range, IsContent, least_number}
-use Rattle.vortex_dtype_ptype.specs.Numbers.{NumberKind, integral, floating, Has}
+use Rattle.vortex_dtype_ptype.specs.Numbers.{NumberKind, integral, Has}
 use Rattle.vortex_dtype_core.specs.Parts.{numbers_in_type}
-use Rattle.vortex_arrays_model.specs.Layout.{Layout, numbers, required, list_views, Valid, len_of, array_type_of, content_at, number_in, IsOffsets, IsView, AreEndToEnd, IsSound, HasLength}
-use Rattle.vortex_arrays_model.specs.Parts.{valid_in}
+use Rattle.vortex_arrays_model.specs.Layout.{Layout, numbers, required, list_views, Valid, len_of, array_type_of, content_at, number_in, IsOffsets, IsView, IsSound, HasLength}
 use Rattle.vortex_arrays_model.specs.Picks.{Picks}
 use Rattle.vortex_arrays_model.specs.Trimmed.{AreBounds}
 use Rattle.vortex_arrays_model.proofs.ValidRows.{rows_valid}
-use Rattle.vortex_arrays_nested.specs.Parts.{elements_of, offsets_of, sizes_of, is_flagged}
+use Rattle.vortex_arrays_nested.specs.Parts.{elements_of, offsets_of, sizes_of}
 use Rattle.vortex_arrays_rebuild.specs.Indices.{IsAtMost, AreAtMost, AreRead}
 use Rattle.vortex_arrays_rebuild.proofs.NameLemmas.{only_memory}
-use Rattle.vortex_arrays_rebuild.specs.Trims.{begin_of, end_of, LieBetween, IsLowered, HasLowered, HasNatural, HasElementsBetween, IsTrimmedView}
+use Rattle.vortex_arrays_rebuild.specs.Trims.{LieBetween, IsLowered, HasLowered, HasNatural, HasElementsBetween, IsTrimmedView}
 
 -- a number that counts is its content
 counts_itself : (n : ℕ) (c : Content) → IsAtMost n c → c ≡ integer (pos (number_in c - 0))

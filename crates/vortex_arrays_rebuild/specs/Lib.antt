@@ -1,3 +1,4 @@
+pub mod Density
 pub mod Indices
 pub mod Rebuilds
 pub mod Runs

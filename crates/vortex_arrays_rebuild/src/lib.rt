@@ -2,6 +2,7 @@
 #![tactic(auto)]
 
 mod copy;
+pub mod density;
 mod plan;
 mod read;
 pub mod rebuild;

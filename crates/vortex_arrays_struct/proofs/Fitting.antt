@@ -1,10 +1,9 @@
 -- Parts that fit together.
-use Rattle.std.proofs.Common.{◌≡◌, ◌≢◌, ◌<◌, ◌+◌, ℕ, zero, suc, List, [], ◌∷◌, length, get_or, ⊎_elim, refl, sym, ap, subst, ◌∙◌, arith}
+use Rattle.std.proofs.Common.{◌≡◌, ◌≢◌, ◌<◌, ◌+◌, ℕ, zero, suc, List, [], ◌∷◌, length, get_or, ⊎_elim, sym, ap, subst, ◌∙◌, arith}
 use Rattle.std.specs.List.{All}
-use Rattle.vortex_model.specs.LogicalType.{boolean_type, non_nullable}
 use Rattle.vortex_arrays_buffer.specs.declared.error.ArrayError.{ArrayError}
 use Rattle.vortex_arrays_buffer.specs.declared.error.ArrayError.TheVariants.{Memory, LengthMismatch, WrongType}
-use Rattle.vortex_arrays_model.specs.Layout.{Layout, records, Valid, required, all_valid, all_null, by_array, len_of, array_type_of, IsSound, HasLength, HaveLength}
+use Rattle.vortex_arrays_model.specs.Layout.{Layout, records, Valid, required, all_valid, all_null, by_array, len_of, IsSound, HasLength}
 use Rattle.vortex_arrays_model.specs.Parts.{columns_of}
 use Rattle.vortex_arrays_model.proofs.PicksLemmas.{have_length}
 use Rattle.vortex_arrays_model.proofs.CanonicalLemmas.{last_or_before}
@@ -12,7 +11,7 @@ use Rattle.vortex_arrays_core.specs.Faults.{IsValidityFault}
 use Rattle.vortex_arrays_struct.specs.RecordFaults.{TellsNulls, TellsOf, FitTogether, IsRecordsFault}
 
 -- one field more
-item_at : (fs : List Layout) (k : ℕ) (a d : Layout) → k < length fs → a ≡ get_or fs k a → get_or fs k d ≡ a
+pub item_at : (fs : List Layout) (k : ℕ) (a d : Layout) → k < length fs → a ≡ get_or fs k a → get_or fs k d ≡ a
 item_at [] k a d l e = absurd (omega (arith, l))
 item_at (b ∷ fs) zero a d l e = sym e
 item_at (b ∷ fs) (suc k) a d l e = item_at fs k a d (omega (arith, l)) e

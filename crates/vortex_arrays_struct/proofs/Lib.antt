@@ -1,7 +1,10 @@
+mod Rows
 pub mod Columns
 pub mod Constants
+pub mod EditLemmas
 pub mod Fitting
+pub mod PairLemmas
 pub mod Places
+pub mod PushedLemmas
 pub mod Pushes
-mod Rows
 pub mod Steps

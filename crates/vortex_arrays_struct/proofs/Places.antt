@@ -1,9 +1,9 @@
 -- Names and fields, place by place.
-use Rattle.std.proofs.Common.{◌≡◌, ◌<◌, ℕ, zero, suc, List, [], ◌∷◌, length, get_or, slice_get, Option, Some, None, IsTrue, refl, sym, ap, subst, ◌∙◌, arith}
+use Rattle.std.proofs.Common.{◌≡◌, ◌<◌, ℕ, zero, suc, List, [], ◌∷◌, length, get_or, slice_get, Option, Some, IsTrue, refl, sym, ap, subst, ◌∙◌, arith}
 use Rattle.std.proofs.lemmas.Option.{slice_get_read}
 use Rattle.vortex_model.specs.LogicalType.{LogicalType, Fields}
 use Rattle.vortex_dtype_core.specs.Parts.{is_struct_type, fields_in_type}
-use Rattle.vortex_arrays_model.specs.Layout.{Layout, records, Valid, Columns, array_type_of, fields_of}
+use Rattle.vortex_arrays_model.specs.Layout.{Layout, records, Valid, array_type_of, fields_of}
 use Rattle.vortex_arrays_model.specs.Column.{array_at}
 use Rattle.vortex_arrays_model.specs.Parts.{columns_of}
 use Rattle.vortex_arrays_struct.specs.Records.{columns_in, validity_in, names_in, arrays_in}
@@ -19,7 +19,7 @@ arrays_in-columns_of xs [] = refl
 arrays_in-columns_of [] (a ∷ fs) = ap (λ bs. a ∷ bs) (arrays_in-columns_of [] fs)
 arrays_in-columns_of (x ∷ xs) (a ∷ fs) = ap (λ bs. a ∷ bs) (arrays_in-columns_of xs fs)
 
-array_at-columns_of : (xs : List (List ℕ)) (fs : List Layout) (i : ℕ) → array_at (columns_of xs fs) i ≡ slice_get fs i
+pub array_at-columns_of : (xs : List (List ℕ)) (fs : List Layout) (i : ℕ) → array_at (columns_of xs fs) i ≡ slice_get fs i
 array_at-columns_of xs [] i = refl
 array_at-columns_of [] (a ∷ fs) zero = refl
 array_at-columns_of (x ∷ xs) (a ∷ fs) zero = refl

@@ -1,20 +1,36 @@
 //! The parts of records.
-ghost use Rattle.std.specs.Prelude.{◌≡◌, ◌<◌, length, IfOk};
+ghost use Rattle.std.specs.Prelude.{◌≡◌, ◌<◌, length, Some, None, option_copied, IfOk, IfErr};
 ghost use Rattle.vortex_dtype_core.specs.View.{fields_in};
 ghost use Rattle.vortex_dtype_ptype.specs.View.{nullability_of_flag};
-ghost use Rattle.vortex_arrays_model.specs.Layout.{fields_of, nullability_by, len_of, records};
+ghost use Rattle.vortex_arrays_model.specs.Layout.{fields_of, nullability_by, len_of, records, HasLength, HaveLength};
 ghost use Rattle.vortex_arrays_model.specs.Column.{array_at};
 ghost use Rattle.vortex_arrays_model.specs.Parts.{columns_of};
 ghost use Rattle.vortex_arrays_core.specs.LayoutOf.{valid_of};
+ghost use Rattle.vortex_arrays_buffer.specs.declared.error.ArrayError.TheVariants.{NoSuchField};
+ghost use Rattle.vortex_arrays_struct.specs.Edited.{array_named};
 ghost use Rattle.vortex_arrays_struct.specs.Records.{columns_in, validity_in, names_in, arrays_in};
 
+use crate::mask::shared_fields;
 use crate::struct_array::{StructArray, parts_of};
-use std::alloc::AllocError;
+use crate::unmasked_fields_iter::UnmaskedFieldsIter;
+use std::alloc::{AllocError, Global};
 use std::rc::Rc;
+use vortex_arrays_buffer::error::ArrayError;
 use vortex_arrays_core::array::{ArrayRef, Validity};
 use vortex_dtype_core::struct_fields::StructFields;
 use vortex_dtype_ptype::field_names::FieldNames;
 use vortex_dtype_ptype::nullability::Nullability;
+
+/// What a `StructArray` is made of, as Vortex's `StructDataParts`.
+#[derive(Drop)]
+pub struct StructDataParts {
+    /// The names of the fields.
+    pub names: Rc<FieldNames>,
+    /// An array for each field, without the nulls of the records.
+    pub fields: Vec<ArrayRef>,
+    /// Which records are null.
+    pub validity: Validity,
+}
 
 impl StructArray {
     // The parts, of which there are as many names as fields.
@@ -27,6 +43,17 @@ impl StructArray {
             unreachable!()
         };
         parts
+    }
+
+    // How many records there are, which the columns and the validity fit.
+    #[tactic(auto, using(crate::proofs::EditLemmas::fitting))]
+    pub(crate) fn fitting_len(&self) -> usize
+        ensures count { result ≡ len_of self.now }
+        ensures columns { HaveLength (columns_in self.now) result }
+        ensures validity { HasLength (validity_in self.now) result }
+    {
+        let _ = self.parts();
+        self.array.len()
     }
 
     /// The names of the fields.
@@ -47,6 +74,13 @@ impl StructArray {
         fields
     }
 
+    /// The arrays of the fields one after the other, without the nulls of the records.
+    pub fn iter_unmasked_fields(&self) -> UnmaskedFieldsIter<'_>
+        ensures { result ≡ arrays_in (columns_in self.now) }
+    {
+        UnmaskedFieldsIter::new(self.unmasked_fields())
+    }
+
     /// The array of the field at this place, without the nulls of the records.
     #[tactic(auto, using(crate::proofs::Places::placed))]
     pub fn unmasked_field(&self, index: usize) -> &ArrayRef
@@ -55,6 +89,43 @@ impl StructArray {
     {
         let (_, fields, _) = self.parts();
         &fields[index]
+    }
+
+    /// The array of the field at this place, without the nulls of the records, and `None` past the
+    /// end.
+    #[tactic(auto, using(crate::proofs::Places::placed))]
+    pub fn unmasked_field_opt(&self, index: usize) -> Option<&ArrayRef>
+        ensures { option_copied result ≡ array_at (columns_in self.now) index }
+    {
+        let (_, fields, _) = self.parts();
+        fields.get(index)
+    }
+
+    /// The array of the first field of this name, without the nulls of the records, and `None`
+    /// where no field has it.
+    #[tactic(auto, using(crate::proofs::EditLemmas::found))]
+    pub fn unmasked_field_by_name_opt(&self, name: &str) -> Option<&ArrayRef>
+        ensures { option_copied result ≡ array_named (columns_in self.now) name.now }
+    {
+        let (names, fields, _) = self.parts();
+        match names.find(name) {
+            Some(place) => Some(&fields[place]),
+            None => None,
+        }
+    }
+
+    /// The array of the first field of this name, without the nulls of the records. `NoSuchField`
+    /// where no field has it.
+    pub fn unmasked_field_by_name(&self, name: &str) -> Result<&ArrayRef, ArrayError>
+        ensures found { IfOk result
+            (λ a. array_named (columns_in self.now) name.now ≡ Some a.now) }
+        ensures refused { IfErr result
+            (λ e. (e ≡ NoSuchField) × (array_named (columns_in self.now) name.now ≡ None)) }
+    {
+        match self.unmasked_field_by_name_opt(name) {
+            Some(array) => Ok(array),
+            None => Err(ArrayError::NoSuchField),
+        }
     }
 
     /// Which records are null, shared.
@@ -83,5 +154,22 @@ impl StructArray {
     {
         let _ = self.parts();
         self.dtype().as_struct_fields()
+    }
+
+    /// The names, the arrays and the validity.
+    pub fn into_data_parts(self, alloc: Global) -> Result<StructDataParts, AllocError>
+        ensures { IfOk result (λ parts. self
+            ≡ records (columns_of parts.names.value parts.fields.items) (len_of self)
+            (valid_of parts.validity)) }
+    {
+        let (names, fields, validity) = self.parts();
+        let names = names.clone()?;
+        let fields = shared_fields(alloc, fields)?;
+        let validity = validity.clone()?;
+        Ok(StructDataParts {
+            names,
+            fields,
+            validity,
+        })
     }
 }

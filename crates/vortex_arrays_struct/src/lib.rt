@@ -4,7 +4,11 @@
 pub mod check;
 pub mod column;
 mod constant;
+pub mod edit;
 pub mod fields;
 pub mod mask;
+pub mod pairs;
+pub mod push;
 pub mod slices;
 pub mod struct_array;
+pub mod unmasked_fields_iter;

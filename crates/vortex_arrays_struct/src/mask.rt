@@ -259,7 +259,7 @@ fn push_into_records(
 }
 
 /// The same arrays, shared.
-fn shared_fields(alloc: Global, fields: &[ArrayRef]) -> Result<Vec<ArrayRef>, AllocError>
+pub(crate) fn shared_fields(alloc: Global, fields: &[ArrayRef]) -> Result<Vec<ArrayRef>, AllocError>
     ensures { IfOk result (λ copies. copies.items ≡ fields.now) }
 {
     let mut copies = Vec::with_capacity(alloc, fields.len())?;

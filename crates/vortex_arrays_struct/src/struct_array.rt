@@ -66,6 +66,24 @@ impl StructArray {
         Ok(array)
     }
 
+    /// So many records of these fields, for a caller that knows that they fit together, as Vortex's
+    /// `StructArray::new`.
+    pub fn new(
+        alloc: Global,
+        names: Rc<FieldNames>,
+        fields: Vec<ArrayRef>,
+        len: usize,
+        validity: Validity,
+    ) -> Result<StructArray, AllocError>
+        requires named { length names.value ≡ length fields.items }
+        requires sound { IsSound
+            (records (columns_of names.value fields.items) len (valid_of validity)) }
+        ensures { IfOk result (λ a. a ≡ records (columns_of names.value fields.items) len
+            (valid_of validity)) }
+    {
+        StructArray::new_unchecked(alloc, names, fields, len, validity)
+    }
+
     /// So many records of these fields, for a caller that knows that they fit together.
     pub fn new_unchecked(
         alloc: Global,

@@ -1,9 +1,10 @@
-//! Calls views of sixteen bytes, buffers, numbers, masks, the makers of arrays, and what reads,
-//! slices, takes and filters their rows, and rebuilds list views.
+//! Calls views of sixteen bytes, buffers, numbers, masks, the makers of arrays, their builders, and what
+//! reads, slices, takes and filters their rows, and rebuilds list views.
 #![tactic(auto)]
 
 mod arrays;
 mod buffers;
+mod built;
 mod checks;
 mod rebuilt;
 mod rows;
@@ -26,6 +27,8 @@ fn run(alloc: Global, checks: &mut Checks<'_>) -> Result<(), DTypeError> {
     checks.end_part("arrays have their rows");
     rebuilt::run(alloc, checks)?;
     checks.end_part("list views are rebuilt");
+    built::run(alloc, checks)?;
+    checks.end_part("arrays are built of values");
     validities::run(alloc, checks)?;
     checks.end_part("validities say which rows are null");
     Ok(())

@@ -1,4 +1,4 @@
-use Rattle.std.proofs.Common.{◌≡◌, ◌<◌, ◌≤◌, ◌+◌, ◌++◌, ◌∙◌, ℕ, List, false, arith}
+use Rattle.std.proofs.Common.{◌<◌, ◌≤◌, ◌+◌, ◌++◌, ◌∙◌, ℕ, List, false, arith}
 use Rattle.vortex_arrays_model.specs.Layout.{Layout, list_views, content_at, len_of, rows_of}
 use Rattle.vortex_arrays_model.proofs.CanonicalLemmas.{canonical_more, canonical_all}
 use Rattle.vortex_arrays_core.specs.LayoutOf.{valid_of}

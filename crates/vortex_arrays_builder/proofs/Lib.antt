@@ -1,0 +1,10 @@
+pub mod ConstantLemmas
+pub mod FitsLemmas
+pub mod FixedLemmas
+pub mod ItemLemmas
+pub mod LeafLemmas
+pub mod ListLemmas
+pub mod PlainLemmas
+pub mod RecordLemmas
+pub mod StringLemmas
+pub mod TypeLemmas

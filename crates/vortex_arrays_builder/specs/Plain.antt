@@ -1,0 +1,79 @@
+-- An array that is laid out plain from values.
+use Rattle.std.specs.Prelude.{◌≡◌, ◌<◌, ◌⊎◌, ℕ, suc, ℤ, pos, List, length, map, Bool, true, false, not, slice_index_or}
+use Rattle.std.specs.List.{flat_map}
+use Rattle.vortex_model.specs.LogicalType.{LogicalType, utf8, binary, list, fixed_list, struct, Fields, no_fields, field, Nullability, non_nullable, nullable}
+use Rattle.vortex_model.specs.Content.{content_of, is_null, Raw, raw_null, raw_boolean, raw_number}
+use Rattle.vortex_model.specs.Valid.{valid}
+use Rattle.vortex_scalar_value.specs.Parts.{raw_part}
+use Rattle.vortex_arrays_buffer.specs.declared.error.ArrayError.{ArrayError}
+use Rattle.vortex_arrays_buffer.specs.declared.error.ArrayError.TheVariants as error
+use Rattle.vortex_arrays_model.specs.Layout.{Layout, Valid, Columns, no_columns, column, len_of, array_type_of, content_at, is_valid, nullability_by, IsSound, HasLength}
+use Rattle.vortex_arrays_builder.specs.Items.{raw_items, fixed_items}
+use Rattle.vortex_arrays_builder.specs.Strings.{IsStringsFault}
+use Rattle.vortex_arrays_builder.specs.Types.{IsPlainLayout}
+
+-- the raw value is null or one of the type
+abbrev pub is_held : LogicalType → Raw → Bool
+is_held k raw_null = true
+is_held k r = valid k r
+
+-- What stands where the value is of another form is no row's content.
+abbrev pub boolean_or_false : Raw → Bool
+boolean_or_false (raw_boolean b) = b
+boolean_or_false r = false
+
+abbrev pub whole_or_zero : Raw → ℤ
+whole_or_zero (raw_number j z) = z
+whole_or_zero r = pos 0
+
+-- whether a row is not null, in a column that null can stand in or not
+abbrev pub is_there : Nullability → Raw → Bool
+is_there non_nullable r = true
+is_there nullable r = not (is_null (content_of r))
+
+-- v has as many rows, null where the value is, if any can be
+pub record MarksNulls (n : Nullability) (rs : List Raw) (v : Valid) : Type 0 where
+  pub fits : HasLength v (length rs)
+  pub nullability : nullability_by v ≡ n
+  pub bits : (i : ℕ) → i < length rs → is_valid v i ≡ is_there n (slice_index_or rs i raw_null)
+
+-- a is of the type and plain, with a row for each value: the value's content, where the type has
+-- the value
+pub record IsPlain (k : LogicalType) (rs : List Raw) (a : Layout) : Type 0 where
+  pub sound : IsSound a
+  pub len : len_of a ≡ length rs
+  pub kind : array_type_of a ≡ k
+  pub layout : IsPlainLayout a
+  pub content : (i : ℕ) → i < length rs → valid k (slice_index_or rs i raw_null) ≡ true →
+      content_at a i ≡ content_of (slice_index_or rs i raw_null)
+
+-- what records have at a place
+abbrev pub parts_at : ℕ → List Raw → List Raw
+parts_at i rs = map (λ r. raw_part r i) rs
+
+-- a column for each field, plain of what the records have there, the first of them at the place
+abbrev pub ArePlain : Fields → ℕ → List Raw → Columns → Type 0
+ArePlain no_fields i rs no_columns = Unit {0}
+ArePlain (field x k fs) i rs (column y a cs) =
+    (y ≡ x) × IsPlain k (parts_at i rs) a × ArePlain fs (suc i) rs cs
+ArePlain fs i rs cs = ⊥
+
+-- A column of texts or of bytes, at whatever depth, can't be held by views and buffers.
+abbrev mutual
+  pub IsTooLarge : LogicalType → List Raw → Type 0
+  IsTooLarge (utf8 n) rs = IsStringsFault error.Total rs
+  IsTooLarge (binary n) rs = IsStringsFault error.Total rs
+  IsTooLarge (list k n) rs = IsTooLarge k (flat_map raw_items rs)
+  IsTooLarge (fixed_list k m n) rs = IsTooLarge k (flat_map (fixed_items m) rs)
+  IsTooLarge (struct fs n) rs = HasTooLarge fs 0 rs
+  IsTooLarge k rs = ⊥
+
+  pub HasTooLarge : Fields → ℕ → List Raw → Type 0
+  HasTooLarge no_fields i rs = ⊥
+  HasTooLarge (field x k fs) i rs = IsTooLarge k (parts_at i rs) ⊎ HasTooLarge fs (suc i) rs
+
+-- why values are not laid out plain
+abbrev pub IsPlainFault : ArrayError → LogicalType → List Raw → Type 0
+IsPlainFault error.Memory k rs = Unit {0}
+IsPlainFault error.Total k rs = IsTooLarge k rs
+IsPlainFault e k rs = ⊥

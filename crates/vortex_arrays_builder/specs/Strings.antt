@@ -1,0 +1,33 @@
+-- Texts and bytes as views and buffers.
+use Rattle.std.specs.Prelude.{◌≡◌, ◌<◌, ℕ, List, [], length, map, cond, leb, slice_index_or}
+use Rattle.std.specs.List.{flat_map}
+use Rattle.vortex_model.specs.Content.{Raw, raw_null, raw_text, raw_byte_string}
+use Rattle.vortex_arrays_view.specs.Views.{value_of, HasValue}
+use Rattle.vortex_arrays_view.specs.Built.{IsLimitFault}
+use Rattle.vortex_arrays_buffer.specs.declared.error.ArrayError.{ArrayError}
+
+-- the bytes of a text or of bytes, and none of anything else
+abbrev pub bytes_in : Raw → List ℕ
+bytes_in (raw_text bs) = bs
+bytes_in (raw_byte_string bs) = bs
+bytes_in r = []
+
+-- the bytes that stand in a buffer: those of a value that no view has room for
+abbrev pub buffered : Raw → List ℕ
+buffered r = cond (leb (length (bytes_in r)) 12) [] (bytes_in r)
+
+abbrev pub buffered_len : Raw → ℕ
+buffered_len r = length (buffered r)
+
+-- each view stands for the bytes of its value
+pub record AreViewsOf (rs : List Raw) (buffers views : List (List ℕ)) : Type 0 where
+  pub count : length views ≡ length rs
+  pub value : (i : ℕ) → i < length rs → HasValue (slice_index_or views i []) buffers
+  pub reads : (i : ℕ) → i < length rs →
+      value_of (slice_index_or views i []) buffers ≡ bytes_in (slice_index_or rs i raw_null)
+
+-- want of memory, or a value is longer than a buffer can be, or the values need more buffers than
+-- 32 bits count
+abbrev pub IsStringsFault : ArrayError → List Raw → Type 0
+IsStringsFault e rs =
+    IsLimitFault e (flat_map buffered rs) (map buffered_len rs) 0 2147483647

@@ -1,2 +1,0 @@
-//! Arrays that are laid out plain from values.
-pub mod leaves;

@@ -1,0 +1,4 @@
+pub mod ExtremeLemmas
+pub mod MaskLemmas
+pub mod NarrowLemmas
+pub mod ReinterpretLemmas

@@ -1,0 +1,60 @@
+//! The iterator of the fields of records. It is seen as the list of the arrays that are left.
+ghost use Rattle.std.specs.Prelude.{◌≡◌};
+ghost use Rattle.std.specs.Iterator.{YieldsFirstRef, item_count};
+
+use std::iter::ExactSizeIterator;
+use std::marker::Model;
+use vortex_arrays_core::array::ArrayRef;
+
+/// The arrays of fields one after the other, without the nulls of the records, as
+/// `StructArray::iter_unmasked_fields` gives them.
+#[derive(Drop)]
+pub struct UnmaskedFieldsIter<'a> {
+    fields: &'a [ArrayRef],
+}
+
+impl<'a> Model for UnmaskedFieldsIter<'a> {
+    ghost use Rattle.std.specs.Prelude.{List};
+    ghost use Rattle.std.specs.Coded.{codes};
+    ghost use Rattle.vortex_arrays_model.specs.Layout.{Layout};
+    ghost use Rattle.vortex_arrays_model.specs.LayoutCode.{layout_code};
+
+    ghost Value = { List Layout };
+
+    ghost coded = { Prim.hlevel (codes, layout_code) };
+
+    ghost view = { λ rest. rest.fields.now };
+}
+
+impl<'a> UnmaskedFieldsIter<'a> {
+    pub(crate) fn new(fields: &'a [ArrayRef]) -> UnmaskedFieldsIter<'a>
+        ensures { result ≡ fields.now }
+    {
+        UnmaskedFieldsIter { fields }
+    }
+}
+
+impl<'a> Iterator for UnmaskedFieldsIter<'a> {
+    type Item = &'a ArrayRef;
+
+    ghost next_gives = { YieldsFirstRef (λ rest. rest) };
+
+    ghost remaining = { item_count (λ rest. rest) };
+
+    fn next(&mut self) -> Option<&'a ArrayRef> {
+        let (first, others) = self.fields.split_first()?;
+        self.fields = others;
+        Some(first)
+    }
+
+    fn size_hint(&self) -> (usize, Option<usize>) {
+        let len = self.fields.len();
+        (len, Some(len))
+    }
+}
+
+impl<'a> ExactSizeIterator for UnmaskedFieldsIter<'a> {
+    fn len(&self) -> usize {
+        self.fields.len()
+    }
+}
