@@ -6,9 +6,11 @@ reference.py                      answers the lines of standard input
 reference.py --random N FOLDER    writes N random sessions and their answers to FOLDER, as NAME and
 NAME.stdout, for `rt try --cases`
 """
+import functools
 import json
 import os
 import random
+import re
 import sys
 
 RANGES = {
@@ -33,12 +35,16 @@ NAMES = {
     8: "NoSuchGroup",
     9: "UnknownPath",
     10: "ElementStep",
+    11: "Placeholder",
     12: "UnknownColumn",
     13: "NotALeaf",
     14: "UnequalTypes",
     15: "NotBoolean",
+    16: "UnsupportedLike",
     18: "BadLine",
     19: "NoTable",
+    20: "UnsupportedPredicate",
+    21: "RepeatedPath",
 }
 TESTS = {
     "=": lambda x, y: x == y,
@@ -224,14 +230,34 @@ def read_path(value):
     return value
 
 
-def read_operand(value):
-    need(isinstance(value, list) and value)
-    if value[0] == "col":
-        need(all(isinstance(name, str) for name in value[1:]))
-        return ("col", value[1:])
-    need(value[0] == "lit" and len(value) == 3)
+# How many items an array has that is a predicate of this name, and how many of these, behind the
+# name, are predicates themselves.
+FORMS = {
+    **{name: (3, 2) for name in (*TESTS, "and", "or")},
+    **{name: (2, 1) for name in ("not", "is_null", "is_not_null", "is_nan")},
+    "between": (6, 3),
+    "like": (5, 2),
+    "row_count": (1, 0),
+    "stat": (3, 1),
+}
+AGGREGATES = (
+    "min",
+    "max",
+    "sum",
+    "null_count",
+    "nan_count",
+    "uncompressed_size_in_bytes",
+    "min_max",
+    "all_null",
+    "all_non_null",
+    "all_nan",
+    "all_non_nan",
+)
+
+
+def read_literal(value):
+    need(len(value) == 3)
     dtype = read_type(value[1])
-    need(dtype[0] in RANGES or dtype[0] in PLAIN)
     try:
         content = reading(value[2], dtype)
     except Unreadable:
@@ -241,23 +267,42 @@ def read_operand(value):
 
 
 def read_predicate(value):
+    """A predicate as its name, its operands and its flags."""
     need(isinstance(value, list) and value and isinstance(value[0], str))
-    if value[0] in TESTS:
-        need(len(value) == 3)
-        return (value[0], read_operand(value[1]), read_operand(value[2]))
-    operand = read_operand(value)
-    # A root that is a literal truth value comes with the other predicates.
-    need(operand[0] == "col" or operand[1][0] != "bool")
-    return operand
+    if value[0] == "lit":
+        return read_literal(value)
+    if value[0] == "col":
+        need(are_texts(value[1:]))
+        return ("col", value[1:])
+    need(value[0] in FORMS)
+    items, operands = FORMS[value[0]]
+    need(len(value) == items)
+    flags = value[1 + operands :]
+    if value[0] == "stat":
+        need(isinstance(flags[0], str) and flags[0] in AGGREGATES)
+    else:
+        need(all(isinstance(flag, bool) for flag in flags))
+    return (value[0], *map(read_predicate, value[1 : 1 + operands]), *flags)
+
+
+def read_length(value):
+    need(isinstance(value, list) and len(value) == 2)
+    need(is_number(value[1]) and value[1] >= 0)
+    return (read_path(value[0]), value[1])
 
 
 def read_command(line):
     value = read_line(line)
     need(isinstance(value, dict))
     if value.get("cmd") == "create":
-        keys(value, ["cmd", "dtype", "length"])
+        keys(value, ["cmd", "dtype", "length"], ["lengths"])
         need(is_number(value["length"]) and value["length"] >= 0)
-        return ("create", read_type(value["dtype"]), value["length"])
+        lengths = value.get("lengths", [])
+        need(isinstance(lengths, list))
+        return ("create", read_type(value["dtype"]), value["length"], [*map(read_length, lengths)])
+    if value.get("cmd") == "retype":
+        keys(value, ["cmd", "dtype"])
+        return ("retype", read_type(value["dtype"]))
     if value.get("cmd") == "append":
         keys(value, ["cmd", "dtype", "rows"], ["layouts"])
         layouts = value.get("layouts", [])
@@ -282,8 +327,8 @@ def read_command(line):
     return ("scan", list(map(read_path, value["paths"])), read_predicate(value["where"]))
 
 
-# ---- the table: a type, a bound length, and a list of groups, each a chunk or the pair of those
-# that were joined. A chunk is a list of rows.
+# ---- the table: a type, the bound lengths of leaves by their positions, the length of all others, and
+# a list of groups, each a chunk or the pair of those that were joined. A chunk is a list of rows.
 
 
 def chunks_in(group):
@@ -309,6 +354,29 @@ def check_type(dtype):
     check_part(dtype)
 
 
+def positions(dtype, path):
+    """The positions of a path of names, and the type that it leads to."""
+    places = []
+    for step in path:
+        places.append([name for name, _ in dtype[1]].index(step))
+        dtype = dtype[1][places[-1]][1]
+    return tuple(places), dtype
+
+
+def create(dtype, length, lengths):
+    check_type(dtype)
+    table = {"dtype": dtype, "default": length, "lengths": {}, "groups": []}
+    for at, (path, length) in enumerate(lengths):
+        check_path(dtype, path, at)
+        places, part = positions(dtype, path)
+        if part[0] == "struct":
+            raise Refused(13)
+        if places in table["lengths"]:
+            raise Refused(21, at)
+        table["lengths"][places] = length
+    return table
+
+
 def append(table, dtype, rows):
     check_type(dtype)
     for i, row in enumerate(rows):
@@ -319,6 +387,21 @@ def append(table, dtype, rows):
             raise Refused(6, i)
     if rows:
         table["groups"].append(rows)
+
+
+def retype(table, dtype):
+    """Groups are joined anew, from their first chunk to their last, unless the type is the same."""
+    check_type(dtype)
+    rows = [row for group in table["groups"] for chunk in chunks_in(group) for row in chunk]
+    for i, row in enumerate(rows):
+        if not is_content(row, dtype):
+            raise Refused(6, i)
+    if dtype != table["dtype"]:
+        table["groups"] = [
+            functools.reduce(lambda left, right: (left, right), chunks_in(group))
+            for group in table["groups"]
+        ]
+    table["dtype"] = dtype
 
 
 def check_path(dtype, path, at):
@@ -337,10 +420,8 @@ def part_at(dtype, path):
     return dtype
 
 
-def operand_type(dtype, operand):
-    if operand[0] == "lit":
-        return operand[1][0]
-    for name in operand[1]:
+def column_type(dtype, path):
+    for name in path:
         parts = [part for other, part in dtype[1] or [] if other == name]
         if not parts:
             raise Refused(12)
@@ -350,19 +431,48 @@ def operand_type(dtype, operand):
     return dtype[0]
 
 
+def predicate_type(dtype, predicate):
+    """The type of a predicate of which no part is refused: operands go before their predicate, from
+    left to right."""
+    name = predicate[0]
+    if name == "lit":
+        if predicate[1][0] not in RANGES and predicate[1][0] not in PLAIN:
+            raise Refused(20)
+        return predicate[1][0]
+    if name == "col":
+        return column_type(dtype, predicate[1])
+    operands = operands_of(predicate)
+    types = [predicate_type(dtype, operand) for operand in operands]
+    if name == "stat":
+        raise Refused(11)
+    if name in ("is_nan", "row_count"):
+        raise Refused(20)
+    if name in TESTS or name == "between":
+        if len(set(types)) > 1:
+            raise Refused(14)
+    if name in ("and", "or", "not") and set(types) != {"bool"}:
+        raise Refused(15)
+    if name == "like":
+        if set(types) != {"utf8"}:
+            raise Refused(14)
+        pattern, ignores_case = operands[1], predicate[4]
+        if ignores_case or pattern[0] != "lit" or pattern[2] is None or "\\" in pattern[2]:
+            raise Refused(16)
+    return "bool"
+
+
 def check_predicate(dtype, predicate):
-    if predicate[0] not in TESTS:
-        if operand_type(dtype, predicate) != "bool":
-            raise Refused(15)
-    elif operand_type(dtype, predicate[1]) != operand_type(dtype, predicate[2]):
-        raise Refused(14)
+    if predicate_type(dtype, predicate) != "bool":
+        raise Refused(15)
 
 
-def operand_value(dtype, operand, row):
+def operands_of(predicate):
+    return predicate[1 : 1 + FORMS[predicate[0]][1]]
+
+
+def column_value(dtype, path, row):
     """A column's value is null where a record on the way is null."""
-    if operand[0] == "lit":
-        return operand[2]
-    for name in operand[1]:
+    for name in path:
         if row is None:
             return None
         place = [other for other, _ in dtype[1]].index(name)
@@ -472,42 +582,187 @@ def zone(table, path, group):
     kind = part_at(table["dtype"], path)[0]
     if isinstance(group, tuple):
         return joined(kind, *(zone(table, path, part) for part in group))
-    values = [operand_value(table["dtype"], ("col", path), row) for row in group]
-    return zone_of(kind, values, table["length"])
+    values = [column_value(table["dtype"], path, row) for row in group]
+    places, _ = positions(table["dtype"], path)
+    return zone_of(kind, values, table["lengths"].get(places, table["default"]))
 
 
-def bounds_of(table, operand, group):
-    """The bounds of an operand's values. A literal is its own."""
+# ---- truth: True, False, or None for null
+
+
+def compared(op, x, y):
+    return None if x is None or y is None else TESTS[op](in_order(x), in_order(y))
+
+
+def negated(x):
+    return None if x is None else not x
+
+
+def all_of(*truths):
+    return False if False in truths else None if None in truths else True
+
+
+def any_of(*truths):
+    return True if True in truths else None if None in truths else False
+
+
+def between(x, lower, upper, lower_strict, upper_strict):
+    return all_of(
+        compared("<" if lower_strict else "<=", lower, x),
+        compared("<" if upper_strict else "<=", x, upper),
+    )
+
+
+def is_like(pattern, text):
+    signs = {"%": ".*", "_": "."}
+    form = "".join(signs.get(sign, re.escape(sign)) for sign in pattern)
+    return re.fullmatch(form, text, re.DOTALL) is not None
+
+
+def value_of(dtype, predicate, row):
+    name = predicate[0]
+    if name == "lit":
+        return predicate[2]
+    if name == "col":
+        return column_value(dtype, predicate[1], row)
+    values = [value_of(dtype, operand, row) for operand in operands_of(predicate)]
+    if name in TESTS:
+        return compared(name, *values)
+    if name == "and":
+        return all_of(*values)
+    if name == "or":
+        return any_of(*values)
+    if name == "not":
+        return negated(*values)
+    if name == "between":
+        return between(*values, *predicate[4:])
+    if name == "like":
+        if None in values:
+            return None
+        return is_like(values[1], values[0]) != predicate[3]
+    return (values[0] is None) == (name == "is_null")
+
+
+# ---- proofs over what is known of a chunk or a group. A proof that isn't there is None; one that is
+# there is a function from what is known to its truth.
+
+
+def least(known, operand):
+    """The bound from below: of a literal itself, of a column what is known of it, and else none."""
     if operand[0] == "lit":
-        return (operand[2], operand[2])
-    known = zone(table, operand[1], group)
-    return tuple(it and it[1] for it in (known["min"], known["max"]))
+        return operand[2]
+    bound = known(operand[1])["min"] if operand[0] == "col" else None
+    return bound and bound[1]
 
 
-def is_hopeless(table, predicate, group):
-    """Whether the bounds of the two sides alone tell that no row of a chunk, or of a group,
-    satisfies the comparison. One with a bound that isn't there tells nothing, and of a truth value
-    there is no proof."""
-    if predicate[0] not in TESTS:
-        return False
-    (a, b), (c, d) = (bounds_of(table, operand, group) for operand in predicate[1:])
-    tells = lambda op, x, y: x is not None and y is not None and TESTS[op](in_order(x), in_order(y))
-    return {
-        "=": tells(">", a, d) or tells(">", c, b),
-        "!=": tells("=", a, d) and tells("=", b, c),
-        ">": tells("<=", b, c),
-        ">=": tells("<", b, c),
-        "<": tells(">=", a, d),
-        "<=": tells(">", a, d),
-    }[predicate[0]]
+def greatest(known, operand):
+    if operand[0] == "lit":
+        return operand[2]
+    bound = known(operand[1])["max"] if operand[0] == "col" else None
+    return bound and bound[1]
 
 
-def is_selected(dtype, predicate, row):
-    """A comparison with null is neither true nor false."""
-    if predicate[0] not in TESTS:
-        return operand_value(dtype, predicate, row) is True
-    x, y = (operand_value(dtype, operand, row) for operand in predicate[1:])
-    return x is not None and y is not None and TESTS[predicate[0]](in_order(x), in_order(y))
+def nulls(known, operand):
+    if operand[0] == "lit":
+        return int(operand[2] is None)
+    return known(operand[1])["null_count"][1] if operand[0] == "col" else None
+
+
+def null_proof(nothing, operand):
+    """Whether no row is null, or every one is."""
+
+    def proof(known, rows):
+        count, least_nulls = nulls(known, operand), 0 if nothing else rows
+        # `all_null` and `all_non_null` are known of columns alone.
+        same = count == least_nulls if operand[0] == "col" else None
+        return any_of(compared("=", count, least_nulls), same)
+
+    return proof
+
+
+def comparison_proof(op, x, y):
+    def proof(known, rows):
+        a, b, c, d = least(known, x), greatest(known, x), least(known, y), greatest(known, y)
+        return {
+            "=": any_of(compared(">", a, d), compared(">", c, b)),
+            "!=": all_of(compared("=", a, d), compared("=", b, c)),
+            ">": compared("<=", b, c),
+            ">=": compared("<", b, c),
+            "<": compared(">=", a, d),
+            "<=": compared(">", a, d),
+        }[op]
+
+    return proof
+
+
+def raised(text):
+    """The text raised at the latest character that can be."""
+    for place in reversed(range(len(text))):
+        if higher(text[place]):
+            return text[:place] + higher(text[place])
+    return None
+
+
+def like_proof(x, pattern):
+    """Of a pattern that is a text, or begins with one that can be raised."""
+    prefix = re.split("[%_]", pattern)[0]
+    is_exact = prefix == pattern
+    end = prefix if is_exact else raised(prefix)
+    if end is None:
+        return None
+
+    def proof(known, rows):
+        beyond = compared(">" if is_exact else ">=", least(known, x), end)
+        return any_of(beyond, compared("<", greatest(known, x), prefix))
+
+    return proof
+
+
+def joined_proof(join, proofs):
+    return lambda known, rows: join(*(proof(known, rows) for proof in proofs))
+
+
+def falsifier(predicate):
+    """Where it is true, no row satisfies the predicate."""
+    name = predicate[0]
+    if name == "lit":
+        return None if predicate[2] is None else lambda known, rows: not predicate[2]
+    if name in TESTS:
+        return comparison_proof(*predicate)
+    if name == "between":
+        _, x, lower, upper, lower_strict, upper_strict = predicate
+        return joined_proof(
+            any_of,
+            [
+                comparison_proof("<" if lower_strict else "<=", lower, x),
+                comparison_proof("<" if upper_strict else "<=", x, upper),
+            ],
+        )
+    if name in ("is_null", "is_not_null"):
+        return null_proof(name == "is_null", predicate[1])
+    if name == "like" and not predicate[3]:
+        return like_proof(predicate[1], predicate[2][2])
+    if name in ("and", "or"):
+        proofs = [proof for proof in map(falsifier, predicate[1:]) if proof]
+        if len(proofs) == 2:
+            return joined_proof(any_of if name == "and" else all_of, proofs)
+        return proofs[0] if name == "and" and proofs else None
+    return None
+
+
+def satisfier(predicate):
+    """Where it is true, every row satisfies the predicate."""
+    if predicate[0] == "lit":
+        return None if predicate[2] is None else lambda known, rows: predicate[2]
+    if predicate[0] in ("is_null", "is_not_null"):
+        return null_proof(predicate[0] == "is_not_null", predicate[1])
+    return None
+
+
+def is_proved(table, proof, group):
+    """Whether a proof is there, and true of a chunk or a group."""
+    rows = sum(map(len, chunks_in(group)))
+    return proof is not None and proof(lambda path: zone(table, path, group), rows) is True
 
 
 def is_kept(paths, here):
@@ -545,29 +800,37 @@ def scan(table, paths, predicate):
     for at, path in enumerate(paths):
         check_path(dtype, path, at)
     check_predicate(dtype, predicate)
-    rows, skipped, tested, tried, number = [], [], 0, 0, 0
+    never, always = falsifier(predicate), satisfier(predicate)
+    rows, skipped, whole, tested, tried, number = [], [], [], 0, 0, 0
     for group in table["groups"]:
         chunks = chunks_in(group)
-        many = len(chunks) > 1
-        whole_group = many and is_hopeless(table, predicate, group)
-        tried += many + (0 if whole_group else len(chunks))
+        is_many = len(chunks) > 1
+        tried += is_many and never is not None
+        skips_all = is_many and is_proved(table, never, group)
         for chunk in chunks:
-            if whole_group or is_hopeless(table, predicate, chunk):
+            skips = skips_all
+            if not skips_all:
+                skips = is_proved(table, never, chunk)
+                tried += never is not None
+                tried += not skips and always is not None
+            if skips:
                 skipped.append(number)
+            elif is_proved(table, always, chunk):
+                whole.append(number)
             else:
                 tested += len(chunk)
             number += 1
             for row in chunk:
-                if is_selected(dtype, predicate, row):
+                if value_of(dtype, predicate, row) is True:
                     rows.append(row_json(cut_row(dtype, row, paths, [])))
     return {
         "dtype": type_json(cut_type(dtype, paths, [])),
         "ok": True,
-        "proofs": tried if predicate[0] in TESTS else 0,
+        "proofs": tried,
         "rows": rows,
         "rows_tested": tested,
         "skipped": skipped,
-        "whole": [],
+        "whole": whole,
     }
 
 
@@ -622,8 +885,7 @@ class Session:
         try:
             command = read_command(line)
             if command[0] == "create":
-                check_type(command[1])
-                self.table = {"dtype": command[1], "length": command[2], "groups": []}
+                self.table = create(*command[1:])
                 return compact({"ok": True})
             if self.table is None:
                 raise Refused(19)
@@ -632,6 +894,9 @@ class Session:
                 return compact({"ok": True})
             if command[0] == "join":
                 join(self.table, *command[1:])
+                return compact({"ok": True})
+            if command[0] == "retype":
+                retype(self.table, *command[1:])
                 return compact({"ok": True})
             if command[0] == "describe":
                 return compact(describe(self.table, *command[1:]))
@@ -838,15 +1103,7 @@ def parts_of(dtype, here):
     return parts
 
 
-def random_operand(chance, columns, kinds):
-    if chance.random() < 0.55 and columns:
-        column = chance.choice(columns)
-        return ["col"] + (
-            column
-            if chance.random() < 0.97
-            else chance.choice([[], ["zz"], column[:-1], column + column])
-        )
-    kind = chance.choice(kinds) if kinds and chance.random() < 0.95 else "u16"
+def random_literal(chance, kind):
     dtype = {"kind": kind, "nullable": chance.random() < 0.2}
     return [
         "lit",
@@ -855,23 +1112,111 @@ def random_operand(chance, columns, kinds):
     ]
 
 
+def random_column(chance, leaves, kind):
+    """A column of the kind, if there is one."""
+    columns = [path for path, other in leaves if other == kind]
+    return ["col"] + chance.choice(columns) if columns else random_literal(chance, kind)
+
+
+def random_operand(chance, leaves, kind, depth):
+    """An operand of the kind: a column or a literal, or for truth a predicate."""
+    if kind == "bool" and depth and chance.random() < 0.5:
+        return random_predicate(chance, leaves, depth - 1)
+    if chance.random() < 0.6:
+        return random_column(chance, leaves, kind)
+    return random_literal(chance, kind)
+
+
+def random_pattern(chance):
+    """A LIKE pattern of the characters of texts, with wildcards."""
+    letters = list(random_text(chance))
+    for place in range(len(letters)):
+        if chance.random() < 0.2:
+            letters[place] = chance.choice(["%", "_", "_"])
+    if chance.random() < 0.5:
+        letters = letters[: chance.randint(0, len(letters))] + ["%"]
+    text = "".join(letters)
+    return text if chance.random() < 0.03 else text.replace("\\", "")
+
+
+def random_like(chance, leaves):
+    pattern = ["lit", {"kind": "utf8"}, random_pattern(chance)]
+    operand = random_operand(chance, leaves, "utf8", 0)
+    return ["like", operand, pattern, chance.random() < 0.2, False]
+
+
+def random_odd(chance, leaves):
+    """A form that no scan takes, or that is none, or that seldom fits where it stands."""
+    column = ["col"] + (chance.choice(leaves)[0] if leaves else [])
+    text = ["lit", {"kind": "utf8"}, "a"]
+    return chance.choice(
+        [
+            column,
+            column[:-1],
+            [*column, "zz"],
+            text,
+            ["like", text, text, False, True],
+            ["like", text, column, False, False],
+            ["like", text, ["lit", {"kind": "utf8", "nullable": True}, None], False, False],
+            ["like", text, ["lit", {"kind": "utf8"}, "a\\%"], False, False],
+            ["row_count"],
+            ["is_nan", column],
+            ["stat", column, chance.choice(AGGREGATES)],
+            ["stat", column, "mean"],
+            ["lit", {"kind": "f32", "nullable": True}, None],
+            ["lit", {"kind": "struct", "names": ["a"], "children": [{"kind": "i8"}]}, [1]],
+            ["row_count", 1],
+            ["not"],
+            ["is_null", column, True],
+            ["between", column, column, column, True, 1],
+            ["like", column, column, False],
+            ["xor", column, column],
+            [],
+            None,
+        ]
+    )
+
+
+def spoiled(chance, predicate, leaves):
+    """The predicate with one of its parts replaced by an odd one."""
+    _, operands = FORMS.get(predicate[0], (0, 0))
+    if not operands or chance.random() < 0.3:
+        return random_odd(chance, leaves)
+    place = chance.randint(1, operands)
+    part = spoiled(chance, predicate[place], leaves)
+    return [*predicate[:place], part, *predicate[place + 1 :]]
+
+
+def random_predicate(chance, leaves, depth):
+    kinds = [kind for _, kind in leaves] or ["bool"]
+    kind = chance.choice(kinds) if chance.random() < 0.95 else chance.choice(["u16", *PLAIN])
+    operand = lambda: random_operand(chance, leaves, kind, depth)
+    roll = chance.random()
+    if depth and roll < 0.4:
+        inner = lambda: random_predicate(chance, leaves, depth - 1)
+        name = chance.choice(["and", "and", "or", "or", "not"])
+        return ["not", inner()] if name == "not" else [name, inner(), inner()]
+    if roll < 0.65:
+        return [chance.choice(list(TESTS)), operand(), operand()]
+    if roll < 0.77:
+        flags = [chance.random() < 0.5, chance.random() < 0.5]
+        return ["between", operand(), operand(), operand(), *flags]
+    if roll < 0.88:
+        return [chance.choice(["is_null", "is_not_null"]), operand()]
+    if roll < 0.96:
+        return random_like(chance, leaves)
+    return random_operand(chance, leaves, "bool", 0)
+
+
 def random_scan(chance, dtype):
     leaves = [
-        (path, part["kind"]) for path, part in parts_of(dtype, []) if part["kind"] != "struct"
+        (path, part["kind"])
+        for path, part in parts_of(dtype, [])
+        if part["kind"] in RANGES or part["kind"] in PLAIN
     ]
-    columns, kinds = [path for path, _ in leaves], [kind for _, kind in leaves]
-    if leaves and chance.random() < 0.8:
-        # One kind for both sides, so that most scans are accepted.
-        kind = chance.choice(kinds)
-        columns = [path for path, other in leaves if other == kind]
-        kinds = [kind]
-    where = [
-        chance.choice(list(TESTS)),
-        random_operand(chance, columns, kinds),
-        random_operand(chance, columns, kinds),
-    ]
-    if chance.random() < 0.03:
-        where = where[1]
+    where = random_predicate(chance, leaves, chance.choice([0, 0, 0, 1, 1, 2, 3, 4, 5]))
+    if chance.random() < 0.12:
+        where = spoiled(chance, where, leaves)
     paths = [path for path, _ in parts_of(dtype, [])]
     paths = chance.sample(paths, min(len(paths), chance.choice([0, 1, 1, 2, 2, 3, 4, 9])))
     if chance.random() < 0.7 and [] in paths:
@@ -879,6 +1224,14 @@ def random_scan(chance, dtype):
     if chance.random() < 0.05:
         paths.append(chance.choice([["zz"], [None], ["a", None], ["a", "a"], ["b", "c", "zz"]]))
     return {"cmd": "scan", "paths": paths, "where": where}
+
+
+def random_lengths(chance, dtype):
+    paths = [path for path, part in parts_of(dtype, []) if part["kind"] != "struct"]
+    paths = [path for path in paths if chance.random() < 0.5]
+    if chance.random() < 0.1:
+        paths.append(chance.choice([["zz"], [None], [], *paths]))
+    return [[path, chance.choice([0, 1, 2, 3, 7, 20])] for path in paths]
 
 
 def random_group(chance, groups):
@@ -907,6 +1260,7 @@ def random_session(chance):
                     "cmd": "create",
                     "dtype": dtype,
                     "length": chance.choice([0, 1, 2, 3, 4, 5, 16, 2**64 - 1]),
+                    **({"lengths": random_lengths(chance, dtype)} if chance.random() < 0.5 else {}),
                 }
             )
         elif roll < 0.45:
@@ -914,13 +1268,18 @@ def random_session(chance):
             if chance.random() < 0.05:
                 batch = random_type(chance, len(dtype["names"]))
             lines.append({"cmd": "append", "dtype": batch, "rows": random_rows(chance, batch)})
+        elif roll < 0.5:
+            other = alike(chance, dtype) if chance.random() < 0.9 else dtype
+            lines.append({"cmd": "retype", "dtype": other})
         elif roll < 0.6:
             lines.append({"cmd": "join", "group": random_group(chance, groups - 1)})
         elif roll < 0.75:
             lines.append(random_description(chance, dtype, groups))
         else:
             lines.append(random_scan(chance, dtype))
-        session.answer(json.dumps(lines[-1]).encode())
+        answer = session.answer(json.dumps(lines[-1]).encode())
+        if lines[-1]["cmd"] == "retype" and answer == compact({"ok": True}):
+            dtype = lines[-1]["dtype"]
     return "".join(
         json.dumps(line, ensure_ascii=chance.random() < 0.5) + "\n" for line in lines
     ).encode()

@@ -5,7 +5,7 @@ pub mod byte_bounds;
 pub mod characters;
 pub mod laws;
 pub mod private;
-mod raising;
+pub mod raising;
 pub mod string_like;
 pub mod text_bounds;
 pub mod truncation;

@@ -6,23 +6,43 @@
 
 pub mod laws;
 
+pub use vortex_stats_array::array_stats::ArrayStats;
+pub use vortex_stats_array::of_array::array_stats;
+pub use vortex_stats_bind::bind::{PredicateError, bind, bind_proof};
+pub use vortex_stats_bind::bound::{BoundExpression, Operands, bound_literal};
+pub use vortex_stats_bind::stats::{StatBinder, bind_stats, prove};
+pub use vortex_stats_bind::value::Value;
 pub use vortex_stats_bound::bound::{LowerBound, UpperBound};
 pub use vortex_stats_bound::bound_ord::BoundOrd;
 pub use vortex_stats_bound::intersection::IntersectionResult;
 pub use vortex_stats_bound::precision::Precision;
-pub use vortex_stats_bound::stat_bound::{BoundOf, StatBound};
-pub use vortex_stats_expr::aggregate::AggregateFn;
-pub use vortex_stats_bind::bind::{PredicateError, bind, bind_proof};
-pub use vortex_stats_bind::bound::{BoundExpression, Operands, bound_literal};
+pub use vortex_stats_bound::stat_bound::{StatBound, StatType};
 pub use vortex_stats_expr::expression::{
-    Expression, and, binary, col, eq, gt, gt_eq, lit, lt, lt_eq, not_eq, or, root, stat,
+    Expression, and, between, binary, col, eq, gt, gt_eq, is_nan, is_not_null, is_null, like, lit,
+    lt, lt_eq, not, not_eq, or, root, row_count, stat,
 };
 pub use vortex_stats_expr::operator::Operator;
-pub use vortex_stats_bind::stats::{StatBinder, bind_stats, prove};
-pub use vortex_stats_bind::value::Value;
+pub use vortex_stats_expr::options::{BetweenOptions, LikeOptions, StrictComparison};
+pub use vortex_stats_expr::placeholders::{
+    all_nan, all_non_nan, all_non_null, all_null, min_max, nan_count, null_count, sum,
+};
+pub use vortex_stats_expr::scalar_fn::ScalarFnId;
+pub use vortex_stats_like::matching::{has_backslash, is_like};
+pub use vortex_stats_mask::column::{Column, Items, Strings};
+pub use vortex_stats_mask::compare::compare_literal;
+pub use vortex_stats_mask::pairs::compare_columns;
+pub use vortex_stats_provider::markers::{
+    IsConstant, IsSorted, IsStrictSorted, Max, Min, NaNCount, NullCount, Sum,
+    UncompressedSizeInBytes,
+};
+pub use vortex_stats_provider::provider::StatsProvider;
+pub use vortex_stats_provider::provider_ext::StatsProviderExt;
+pub use vortex_stats_provider::stat_scalar::stat_scalar;
+pub use vortex_stats_provider::stats_set_ext::StatsSetExt;
 pub use vortex_stats_rewrite::rewrite::{falsify, satisfy};
-pub use vortex_stats_set::stats_set::{StatsSet, StatsSetIntoIter};
+pub use vortex_stats_set::stats_set::{StatsArray, StatsSet, StatsSetIntoIter};
 pub use vortex_stats_set::typed::{MutTypedStatsSetRef, TypedStatsSetRef};
+pub use vortex_stats_stat::aggregate::AggregateFn;
 pub use vortex_stats_stat::bitset::{
     PRUNING_STATS, as_stat_bitset_bytes, stats_from_bitset_bytes, written_statistics_are_read,
 };

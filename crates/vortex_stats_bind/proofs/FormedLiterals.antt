@@ -1,10 +1,10 @@
--- A value that its type has says a content of the type.
-use Rattle.std.specs.Prelude.{IsTrue}
-use Rattle.vortex_model.specs.LogicalType.{LogicalType, stored}
-use Rattle.vortex_model.specs.Content.{Raw, content_of}
-use Rattle.vortex_model.specs.Valid.{valid, IsContent}
+-- The literals of an expression are contents of their types.
+use Rattle.vortex_model.specs.LogicalType.{stored}
+use Rattle.vortex_model.specs.Valid.{IsContent}
 use Rattle.vortex_model.proofs.Contents.{said}
 use Rattle.vortex_model.proofs.Tests.{has_so}
+use Rattle.vortex_scalar_core.specs.Scalar.{scalar_type, scalar_raw, scalar_content}
+use Rattle.vortex_scalar_core.specs.declared.scalar.Scalar.{Scalar}
 
-pub valid_is_formed : (k : LogicalType) (r : Raw) → IsTrue (valid k r) → IsContent k (content_of r)
-valid_is_formed k r h = said (stored k) r (has_so (stored k) r h)
+pub scalar_is_formed : (s : Scalar) → IsContent (scalar_type s) (scalar_content s)
+scalar_is_formed s = said (stored (scalar_type s)) (scalar_raw s) (has_so (stored (scalar_type s)) (scalar_raw s) s.is_valid)

@@ -1,17 +1,17 @@
 -- The truth values among operands.
-use Rattle.std.proofs.Common.{◌≡◌, refl, sym, ap, ◌∙◌, ℕ, pos, Bool, true, false, Option, Some, None}
+use Rattle.std.proofs.Common.{◌≡◌, refl, sym, ap, ◌∙◌, ℕ, List, pos, Bool, true, false, not, Option, Some, None}
 use Rattle.std.specs.Option.{unwrap_or}
-use Rattle.vortex_model.specs.Content.{Content, content_of, null, boolean, integer, is_null, Raw, raw_boolean}
+use Rattle.vortex_model.specs.Content.{Content, content_of, null, boolean, integer, text, is_null, Raw, raw_boolean, raw_text}
 use Rattle.vortex_model.specs.Order.{content_cmp}
-use Rattle.vortex_model.specs.Truth.{kleene_and, kleene_or, is_true}
-use Rattle.vortex_scalar_value.specs.Parts.{boolean_in as raw_truth_in}
+use Rattle.vortex_model.specs.Truth.{kleene_and, kleene_not, kleene_or, is_true, liked}
+use Rattle.vortex_scalar_value.specs.Parts.{boolean_in as raw_truth_in, text_in as raw_text_in}
 use Rattle.vortex_scalar_value.specs.View.{raw_of}
 use Rattle.vortex_scalar_value.specs.declared.pvalue.PValue.TheVariants as number
 use Rattle.vortex_scalar_value.specs.declared.scalar_value.ScalarValue.{ScalarValue}
 use Rattle.vortex_scalar_value.specs.declared.scalar_value.ScalarValue.TheVariants as value
 use Rattle.vortex_scalar_value.proofs.Nulls.{is_null-raw_of}
 use Rattle.vortex_scalar_value.proofs.Views.{raw_of-Bool, raw_of-Primitive}
-use Rattle.vortex_stats_bind.specs.OperandValue.{boolean_in, order_of}
+use Rattle.vortex_stats_bind.specs.OperandValue.{boolean_in, text_in, order_of}
 
 -- the truth value that a value is, is what it says
 pub truth_said : (r : Raw) → raw_truth_in r ≡ boolean_in (content_of r)
@@ -19,6 +19,15 @@ truth_said (raw_boolean b) = refl
 truth_said r = refl
 
 pub ruleset stored = (truth_said)
+
+-- the text that a value is, is what it says
+pub text_said : (r : Raw) → raw_text_in r ≡ text_in (content_of r)
+text_said (raw_text bs) = refl
+text_said r = refl
+
+pub ruleset texts = (text_said)
+
+pub ruleset nulls = (is_null-raw_of)
 
 -- ---- how operands stand
 
@@ -92,9 +101,32 @@ pub ruleset both = (both_by_truths)
 
 pub ruleset one = (one_by_truths)
 
+abbrev pub opposite_of : Option Bool → Content
+opposite_of None = null
+opposite_of (Some b) = boolean (not b)
+
+pub opposite_by_truth : (c : Content) → kleene_not c ≡ opposite_of (boolean_in c)
+opposite_by_truth (boolean b) = refl
+opposite_by_truth c = refl
+
+pub ruleset opposite = (opposite_by_truth)
+
 -- neither false nor null
 pub true_by_truth : (c : Content) → is_true c ≡ unwrap_or (boolean_in c) false
 true_by_truth (boolean b) = refl
 true_by_truth c = refl
 
 pub ruleset is_true_by = (true_by_truth)
+
+-- ---- LIKE
+
+abbrev pub like_by : Option (List ℕ) → Option (List ℕ) → Bool → Content
+like_by (Some value) (Some form) negated = liked (text value) (text form) negated
+like_by o p negated = null
+
+pub like_by_texts : (c d : Content) (negated : Bool) → liked c d negated ≡ like_by (text_in c) (text_in d) negated
+like_by_texts (text value) (text form) negated = refl
+like_by_texts (text value) d negated = refl
+like_by_texts c d negated = refl
+
+pub ruleset like_of = (like_by_texts)

@@ -7,7 +7,8 @@ use Rattle.vortex_model.specs.Truth.{Given, compared, kleene_and, kleene_or, kle
 use Rattle.vortex_model.specs.Expression.{Expression, literal, column, compare, both, either, negation, is_null, is_not_null, is_nan, between, like, row_count, statistic, Comparison, Aggregate}
 use Rattle.std.specs.Prelude.{pos}
 
--- A placeholder asks for a statistic of the values of a bound expression.
+-- `count_of_rows` is the number of rows, and a placeholder asks for a statistic of the values of a
+-- bound expression. Both stand in proofs.
 pub data Bound : Type 0 where
   fixed : Content → Bound
   place : Positions → Bound
@@ -19,6 +20,7 @@ pub data Bound : Type 0 where
   value_test : Bound → Bound
   range_test : Bound → Bound → Bound → Bool → Bool → Bound
   match_test : Bound → Bound → Bool → Bound
+  count_of_rows : Bound
   placeholder : Bound → Aggregate → Bound
 
 -- the positions of a column
@@ -26,10 +28,11 @@ abbrev pub place_of : Bound → Option Positions
 place_of (place is) = Some is
 place_of b = None
 
--- what the columns at positions are, and what placeholders stand for
+-- what the columns at positions are, what placeholders stand for, and how many rows there are
 pub record Provided : Type 0 where
   pub columns : Positions → Content
   pub statistics : Bound → Aggregate → Content
+  pub rows : ℕ
 
 abbrev pub evaluate_bound : Provided → Bound → Content
 evaluate_bound p (fixed c) = c
@@ -45,11 +48,12 @@ evaluate_bound p (range_test x lo hi lower_strict upper_strict) =
     (compared (end_of upper_strict) (evaluate_bound p x) (evaluate_bound p hi))
 evaluate_bound p (match_test x form negated) =
     liked (evaluate_bound p x) (evaluate_bound p form) negated
+evaluate_bound p count_of_rows = integer (pos p.rows)
 evaluate_bound p (placeholder x a) = p.statistics x a
 
--- the columns of a row, where no placeholder is known
+-- the columns of one row, where no placeholder is known
 abbrev pub in_row : Content → Provided
-in_row row = record { columns = at row; statistics = λ x a. null }
+in_row row = record { columns = at row; statistics = λ x a. null; rows = 1 }
 
 -- the value at a row
 abbrev pub bound_value : Bound → Content → Content
@@ -68,6 +72,7 @@ reads_places (value_test x) = reads_places x
 reads_places (range_test x lo hi lower_strict upper_strict) =
     reads_places x || reads_places lo || reads_places hi
 reads_places (match_test x form negated) = reads_places x || reads_places form
+reads_places count_of_rows = false
 reads_places (placeholder x a) = false
 
 abbrev pub bound_column : Option Positions → Bound
@@ -89,34 +94,17 @@ bound_of k (between x lo hi lower_strict upper_strict) =
     range_test (bound_of k x) (bound_of k lo) (bound_of k hi) lower_strict upper_strict
 bound_of k (like x form negated true) = fixed null
 bound_of k (like x form negated false) = match_test (bound_of k x) (bound_of k form) negated
-bound_of k row_count = fixed (integer (pos 1))
+bound_of k row_count = count_of_rows
 bound_of k (statistic x a) = placeholder (bound_of k x) a
 
 -- What names stand for in rows of a type: a column what its positions do, and null where it leads
 -- nowhere; a placeholder what the one of its resolved input does.
-abbrev pub by_names : LogicalType → Provided → ℕ → Given
-by_names k p rows = record {
+abbrev pub by_names : LogicalType → Provided → Given
+by_names k p = record {
   columns = λ xs. evaluate_bound p (bound_column (positions k xs));
   placeholders = λ x a. p.statistics (bound_of k x) a;
-  rows = rows;
+  rows = p.rows;
 }
-
--- it asks for the number of rows other than in a placeholder
-abbrev pub counts_rows : Expression → Bool
-counts_rows (literal k c) = false
-counts_rows (column xs) = false
-counts_rows (compare op x y) = counts_rows x || counts_rows y
-counts_rows (both x y) = counts_rows x || counts_rows y
-counts_rows (either x y) = counts_rows x || counts_rows y
-counts_rows (negation x) = counts_rows x
-counts_rows (is_null x) = counts_rows x
-counts_rows (is_not_null x) = counts_rows x
-counts_rows (is_nan x) = counts_rows x
-counts_rows (between x lo hi lower_strict upper_strict) =
-    counts_rows x || counts_rows lo || counts_rows hi
-counts_rows (like x form negated ignores_case) = counts_rows x || counts_rows form
-counts_rows row_count = true
-counts_rows (statistic x a) = false
 
 abbrev pub bound_size : Bound → ℕ
 bound_size (test op x y) = bound_size x + bound_size y + 1

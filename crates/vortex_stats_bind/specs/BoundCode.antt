@@ -6,7 +6,7 @@ use Rattle.std.proofs.Common.{ap, arith}
 use Rattle.vortex_stats_expr.specs.KindCode.{head, tail, tag}
 use Rattle.vortex_stats_expr.specs.ContentCode.{content_code, content_inj}
 use Rattle.vortex_stats_expr.specs.TreeCode.{comparison_code, comparison_inj, aggregate_code, aggregate_inj}
-use Rattle.vortex_stats_bind.specs.Bound.{Bound, fixed, place, test, each, some, opposite, null_test, value_test, range_test, match_test, placeholder}
+use Rattle.vortex_stats_bind.specs.Bound.{Bound, fixed, place, test, each, some, opposite, null_test, value_test, range_test, match_test, count_of_rows, placeholder}
 
 abbrev pub coded_positions : Coded (List ℕ)
 coded_positions = coded_list coded_ℕ
@@ -25,7 +25,8 @@ code_of (range_test x l h s t) =
     (gcons (code_of l) (gcons (code_of h) (gcons (coded_bool.code s) (coded_bool.code t)))))
 code_of (match_test x f n) =
     gcons (gnum 9) (gcons (code_of x) (gcons (code_of f) (coded_bool.code n)))
-code_of (placeholder x a) = gcons (gnum 10) (gcons (code_of x) (aggregate_code a))
+code_of count_of_rows = gnum 10
+code_of (placeholder x a) = gcons (gnum 11) (gcons (code_of x) (aggregate_code a))
 
 pub code_inj : (s t : Bound) → code_of s ≡ code_of t → s ≡ t
 code_inj (fixed c) (fixed d) p = ap fixed (content_inj c d (ap tail p))
@@ -53,6 +54,7 @@ code_inj (match_test x f n) (match_test x' f' n') p =
     λ i. match_test (code_inj x x' (ap (λ g. head (tail g)) p) i)
     (code_inj f f' (ap (λ g. head (tail (tail g))) p) i)
     (coded_bool.inj n n' (ap (λ g. tail (tail (tail g))) p) i)
+code_inj count_of_rows count_of_rows p = λ i. count_of_rows
 code_inj (placeholder x a) (placeholder y b) p =
     λ i. placeholder (code_inj x y (ap (λ g. head (tail g)) p) i)
     (aggregate_inj a b (ap (λ g. tail (tail g)) p) i)

@@ -1,8 +1,9 @@
 -- What a refusal of a predicate says.
-use Rattle.std.specs.Prelude.{◌≡◌, ◌≢◌, Option, Some, None, Result, Ok, Err}
+use Rattle.std.specs.Prelude.{◌≡◌, ◌≢◌, ◌⊎◌, Bool, true, false, List, ℕ, Option, Some, None, Result, Ok, Err}
 use Rattle.vortex_model.specs.LogicalType.{LogicalType}
-use Rattle.vortex_model.specs.Refusal.{Refusal, placeholder, unknown_column, not_a_leaf, unequal_types, not_boolean, unsupported_predicate}
-use Rattle.vortex_model.specs.Expression.{Expression}
+use Rattle.vortex_model.specs.Refusal.{Refusal, placeholder, unknown_column, not_a_leaf, unequal_types, not_boolean, unsupported_like, unsupported_predicate, or_else}
+use Rattle.vortex_model.specs.Content.{text}
+use Rattle.vortex_model.specs.Expression.{Expression, literal}
 use Rattle.vortex_model.specs.Typing.{expression_type}
 use Rattle.vortex_model.specs.Command.{expression_fault}
 use Rattle.vortex_stats_bind.specs.declared.bind.PredicateError.{PredicateError}
@@ -19,6 +20,7 @@ refusal_of error.UnknownColumn = Some unknown_column
 refusal_of error.NotALeaf = Some not_a_leaf
 refusal_of error.UnequalTypes = Some unequal_types
 refusal_of error.NotBoolean = Some not_boolean
+refusal_of error.UnsupportedLike = Some unsupported_like
 refusal_of error.UnsupportedPredicate = Some unsupported_predicate
 
 -- the error is for want of memory, or for this fault
@@ -31,6 +33,17 @@ abbrev pub IsChecked : LogicalType → Expression → Result Leaf PredicateError
 IsChecked k e (Ok l) = (expression_fault k e ≡ None) × IsLeaf l (expression_type k e)
 IsChecked k e (Err r) = IsReason r (expression_fault k e)
 
+-- what was found of two expressions: their types, if none has a fault, and else the first fault
+abbrev pub AreChecked : LogicalType → Expression → Expression →
+    Result (Leaf × Leaf) PredicateError → Type 0
+AreChecked k x y (Ok leaves) = IsChecked k x (Ok leaves.0) × IsChecked k y (Ok leaves.1)
+AreChecked k x y (Err r) = IsReason r (or_else (expression_fault k x) (expression_fault k y))
+
+-- the type of NOT
+abbrev pub truth_of : Leaf → Result Leaf PredicateError
+truth_of leaf.Bool = Ok leaf.Bool
+truth_of a = Err error.NotBoolean
+
 -- the type of a connective
 abbrev pub truths_of : Leaf → Leaf → Result Leaf PredicateError
 truths_of leaf.Bool leaf.Bool = Ok leaf.Bool
@@ -40,3 +53,19 @@ truths_of a b = Err error.NotBoolean
 abbrev pub IsSameOf : Leaf → Leaf → Result Leaf PredicateError → Type 0
 IsSameOf a b (Ok l) = (l ≡ leaf.Bool) × (a ≡ b)
 IsSameOf a b (Err r) = (r ≡ error.UnequalTypes) × (a ≢ b)
+
+-- the type of BETWEEN of a value and two ends
+abbrev pub IsRangeOf : Leaf → Leaf → Leaf → Result Leaf PredicateError → Type 0
+IsRangeOf a b c (Ok l) = (l ≡ leaf.Bool) × (a ≡ b) × (a ≡ c)
+IsRangeOf a b c (Err r) = (r ≡ error.UnequalTypes) × ((a ≢ b) ⊎ (a ≢ c))
+
+-- the text of an expression that is a literal text
+abbrev pub literal_text : Expression → Option (List ℕ)
+literal_text (literal k (text bs)) = Some bs
+literal_text e = None
+
+-- the type of a LIKE of a value and a pattern, which is supported or not
+abbrev pub like_of : Leaf → Leaf → Bool → Result Leaf PredicateError
+like_of leaf.Utf8 leaf.Utf8 true = Ok leaf.Bool
+like_of leaf.Utf8 leaf.Utf8 false = Err error.UnsupportedLike
+like_of a b supported = Err error.UnequalTypes

@@ -1,6 +1,6 @@
 -- What an operand says.
-use Rattle.std.specs.Prelude.{pos, Bool, Option, Some, None}
-use Rattle.vortex_model.specs.Content.{Content, content_of, null, boolean, integer}
+use Rattle.std.specs.Prelude.{pos, ℕ, List, Bool, Option, Some, None}
+use Rattle.vortex_model.specs.Content.{Content, content_of, null, boolean, integer, text}
 use Rattle.std.specs.declared.cmp.Ordering.{Ordering}
 use Rattle.vortex_model.specs.Order.{content_cmp}
 use Rattle.vortex_scalar_value.specs.View.{raw_of}
@@ -22,6 +22,11 @@ truth_content (Some b) = boolean b
 abbrev pub boolean_in : Content → Option Bool
 boolean_in (boolean b) = Some b
 boolean_in c = None
+
+-- the text, where it is one
+abbrev pub text_in : Content → Option (List ℕ)
+text_in (text bs) = Some bs
+text_in c = None
 
 -- how two contents stand, neither of which is null
 abbrev pub order_of : Content → Content → Option Ordering

@@ -1,5 +1,5 @@
 -- What placeholders stand for, and what is left of a proof where they are bound.
-use Rattle.std.specs.Prelude.{◌≡◌, Option, Some, None}
+use Rattle.std.specs.Prelude.{◌≡◌, ℕ, Option, Some, None}
 use Rattle.vortex_model.specs.Content.{Content, null}
 use Rattle.vortex_model.specs.Path.{Positions}
 use Rattle.vortex_model.specs.Expression.{Aggregate}
@@ -11,14 +11,14 @@ IsAnswer None c = c ≡ null
 IsAnswer (Some (fixed d)) c = d ≡ c
 IsAnswer (Some b) c = ⊥
 
--- Whatever the columns are, the bound proof has the value that the proof has where placeholders
--- stand for these. It has none left.
+-- Whatever the columns are, and however many rows, the bound proof has the value that the proof has
+-- where placeholders stand for these. It has none left.
 pub record IsBinding (given : Bound → Aggregate → Content) (proof bound : Bound) : Type 0 where
-  pub value : (columns : Positions → Content) (left : Bound → Aggregate → Content) →
-      evaluate_bound (record { columns = columns; statistics = left }) bound
-      ≡ evaluate_bound (record { columns = columns; statistics = given }) proof
+  pub value : (columns : Positions → Content) (left : Bound → Aggregate → Content) (rows : ℕ) →
+      evaluate_bound (record { columns = columns; statistics = left; rows = rows }) bound
+      ≡ evaluate_bound (record { columns = columns; statistics = given; rows = rows }) proof
   pub columns_read : reads_places bound ≡ reads_places proof
 
--- neither columns nor statistics
-abbrev pub of_nothing : Provided
-of_nothing = record { columns = λ is. null; statistics = λ x a. null }
+-- so many rows, of which neither columns nor statistics are known
+abbrev pub of_rows_alone : ℕ → Provided
+of_rows_alone rows = record { columns = λ is. null; statistics = λ x a. null; rows = rows }

@@ -7,16 +7,21 @@ ghost use Rattle.vortex_model.specs.Content.{content_of};
 ghost use Rattle.vortex_model.specs.Path.{at, part_of};
 ghost use Rattle.vortex_model.specs.Truth.{is_true};
 ghost use Rattle.vortex_scalar_value.specs.View.{raw_of, content_at, content_in};
-ghost use Rattle.vortex_stats_bind.specs.Bound.{Provided, fixed, place, test, each, some, placeholder, place_of, evaluate_bound, bound_value};
+ghost use Rattle.vortex_stats_bind.specs.Bound.{Provided, fixed, place, test, each, some, opposite, null_test, value_test, range_test, match_test, count_of_rows, placeholder, place_of, evaluate_bound, bound_value};
 ghost use Rattle.vortex_stats_bind.specs.OperandValue.{operand_value};
-ghost use Rattle.vortex_stats_expr.specs.Tree.{comparison_of, aggregate_of};
+ghost use Rattle.vortex_stats_expr.specs.Tree.{comparison_of, is_strict};
+ghost use Rattle.vortex_stats_stat.specs.Aggregate.{aggregate_of};
 
-use crate::value::{Value, compare_values, kleene_and, kleene_or, read, truth_of, truth_value};
+use crate::value::{
+    Value, compare_values, is_between, is_null, kleene_and, kleene_not, kleene_or, like_values,
+    read, truth_of, truth_value,
+};
 use std::alloc::{AllocError, Global};
 use std::marker::Model;
 use vortex_scalar_value::scalar_value::ScalarValue;
-use vortex_stats_expr::aggregate::AggregateFn;
 use vortex_stats_expr::operator::Comparison;
+use vortex_stats_expr::options::BetweenOptions;
+use vortex_stats_stat::aggregate::AggregateFn;
 
 /// A predicate or a proof over rows of one type, as Vortex's `BoundExpression`. `bind` makes one of
 /// a predicate without a fault, and `bind_proof` of any proof. Contracts see it as a tree with
@@ -34,6 +39,14 @@ pub(crate) enum BoundNode {
     Compare(Comparison, Box<BoundExpression>, Box<BoundExpression>),
     And(Box<BoundExpression>, Box<BoundExpression>),
     Or(Box<BoundExpression>, Box<BoundExpression>),
+    Not(Box<BoundExpression>),
+    IsNull(Box<BoundExpression>),
+    IsNotNull(Box<BoundExpression>),
+    // The value, the lower end and the upper end.
+    Between(Box<BoundExpression>, Box<BoundExpression>, Box<BoundExpression>, BetweenOptions),
+    // The value, the pattern, and whether the answer is negated. Letters keep their case.
+    Like(Box<BoundExpression>, Box<BoundExpression>, bool),
+    RowCount,
     Stat(AggregateFn, Box<BoundExpression>),
 }
 
@@ -46,6 +59,12 @@ impl Drop for BoundNode {
             BoundNode::Compare(_, _left, _right) => {}
             BoundNode::And(_left, _right) => {}
             BoundNode::Or(_left, _right) => {}
+            BoundNode::Not(_input) => {}
+            BoundNode::IsNull(_input) => {}
+            BoundNode::IsNotNull(_input) => {}
+            BoundNode::Between(_value, _lower, _upper, _) => {}
+            BoundNode::Like(_value, _pattern, _) => {}
+            BoundNode::RowCount => {}
             BoundNode::Stat(_, _input) => {}
         }
     }
@@ -107,6 +126,78 @@ pub(crate) fn bound_or(
     })
 }
 
+pub(crate) fn bound_not(
+    alloc: Global,
+    input: BoundExpression,
+) -> Result<BoundExpression, AllocError>
+    ensures { IfOk result (λ bound. bound ≡ opposite input) }
+{
+    Ok(BoundExpression {
+        node: BoundNode::Not(Box::new(alloc, input)?),
+    })
+}
+
+pub(crate) fn bound_is_null(
+    alloc: Global,
+    input: BoundExpression,
+) -> Result<BoundExpression, AllocError>
+    ensures { IfOk result (λ bound. bound ≡ null_test input) }
+{
+    Ok(BoundExpression {
+        node: BoundNode::IsNull(Box::new(alloc, input)?),
+    })
+}
+
+pub(crate) fn bound_is_not_null(
+    alloc: Global,
+    input: BoundExpression,
+) -> Result<BoundExpression, AllocError>
+    ensures { IfOk result (λ bound. bound ≡ value_test input) }
+{
+    Ok(BoundExpression {
+        node: BoundNode::IsNotNull(Box::new(alloc, input)?),
+    })
+}
+
+pub(crate) fn bound_between(
+    alloc: Global,
+    value: BoundExpression,
+    lower: BoundExpression,
+    upper: BoundExpression,
+    options: BetweenOptions,
+) -> Result<BoundExpression, AllocError>
+    ensures { IfOk result (λ bound. bound ≡ range_test value lower upper
+        (is_strict options.lower_strict) (is_strict options.upper_strict)) }
+{
+    let value = Box::new(alloc, value)?;
+    let lower = Box::new(alloc, lower)?;
+    let upper = Box::new(alloc, upper)?;
+    Ok(BoundExpression {
+        node: BoundNode::Between(value, lower, upper, options),
+    })
+}
+
+pub(crate) fn bound_like(
+    alloc: Global,
+    value: BoundExpression,
+    pattern: BoundExpression,
+    negated: bool,
+) -> Result<BoundExpression, AllocError>
+    ensures { IfOk result (λ bound. bound ≡ match_test value pattern negated) }
+{
+    Ok(BoundExpression {
+        node: BoundNode::Like(Box::new(alloc, value)?, Box::new(alloc, pattern)?, negated),
+    })
+}
+
+pub(crate) fn bound_row_count() -> BoundExpression
+    ensures { result ≡ count_of_rows }
+{
+    BoundExpression {
+        node: BoundNode::RowCount,
+    }
+}
+
 pub(crate) fn bound_stat(
     alloc: Global,
     aggregate: AggregateFn,
@@ -141,9 +232,13 @@ pub trait Operands {
     fn statistic<'a>(&'a self, input: &BoundExpression, aggregate: AggregateFn) -> Value<'a>
         ensures { operand_value result
             ≡ (provided self.now).statistics input.now (aggregate_of aggregate) };
+
+    /// The number of rows that a proof is about.
+    fn rows(&self) -> u64
+        ensures { result ≡ (provided self.now).rows };
 }
 
-/// A row is the source of its columns, and of no statistic.
+/// One row is the source of its columns, and of no statistic.
 impl Operands for ScalarValue {
     ghost use Rattle.vortex_model.specs.Content.{content_of};
     ghost use Rattle.vortex_scalar_value.specs.View.{raw_of};
@@ -157,6 +252,10 @@ impl Operands for ScalarValue {
 
     fn statistic<'a>(&'a self, _input: &BoundExpression, _aggregate: AggregateFn) -> Value<'a> {
         Value::Null
+    }
+
+    fn rows(&self) -> u64 {
+        1
     }
 }
 
@@ -175,6 +274,21 @@ pub fn value_of<'a, S: Operands>(e: &'a BoundExpression, source: &'a S) -> Value
         )),
         BoundNode::And(x, y) => truth_value(kleene_and(value_of(x, source), value_of(y, source))),
         BoundNode::Or(x, y) => truth_value(kleene_or(value_of(x, source), value_of(y, source))),
+        BoundNode::Not(x) => truth_value(kleene_not(value_of(x, source))),
+        BoundNode::IsNull(x) => Value::Truth(is_null(value_of(x, source))),
+        BoundNode::IsNotNull(x) => Value::Truth(!is_null(value_of(x, source))),
+        BoundNode::Between(x, lower, upper, options) => truth_value(is_between(
+            value_of(x, source),
+            value_of(lower, source),
+            value_of(upper, source),
+            *options,
+        )),
+        BoundNode::Like(x, pattern, negated) => truth_value(like_values(
+            value_of(x, source),
+            value_of(pattern, source),
+            *negated,
+        )),
+        BoundNode::RowCount => Value::Count(source.rows()),
         BoundNode::Stat(aggregate, input) => source.statistic(input, *aggregate),
     }
 }
@@ -209,6 +323,12 @@ impl BoundExpression {
             BoundNode::Compare(_, _, _) => None,
             BoundNode::And(_, _) => None,
             BoundNode::Or(_, _) => None,
+            BoundNode::Not(_) => None,
+            BoundNode::IsNull(_) => None,
+            BoundNode::IsNotNull(_) => None,
+            BoundNode::Between(_, _, _, _) => None,
+            BoundNode::Like(_, _, _) => None,
+            BoundNode::RowCount => None,
             BoundNode::Stat(_, _) => None,
         }
     }

@@ -6,20 +6,23 @@ ghost use Rattle.std.specs.Prelude.{◌≡◌, IfOk, None, false, true};
 ghost use Rattle.vortex_model.specs.Content.{Content};
 ghost use Rattle.vortex_model.specs.Expression.{Aggregate};
 ghost use Rattle.vortex_scalar_value.specs.View.{content_at};
-ghost use Rattle.vortex_stats_bind.specs.Bound.{Bound, fixed, placeholder, reads_places, evaluate_bound};
+ghost use Rattle.vortex_stats_bind.specs.Bound.{Bound, fixed, range_test, placeholder, reads_places, evaluate_bound};
 ghost use Rattle.vortex_stats_bind.specs.OperandValue.{boolean_in};
-ghost use Rattle.vortex_stats_bind.specs.Stats.{IsAnswer, IsBinding, of_nothing};
-ghost use Rattle.vortex_stats_expr.specs.Tree.{aggregate_of};
+ghost use Rattle.vortex_stats_bind.specs.Stats.{IsAnswer, IsBinding, of_rows_alone};
+ghost use Rattle.vortex_stats_expr.specs.Tree.{is_strict};
+ghost use Rattle.vortex_stats_stat.specs.Aggregate.{aggregate_of};
 
 use crate::bound::{
-    BoundExpression, BoundNode, Operands, bound_and, bound_compare, bound_literal, bound_or,
-    value_of,
+    BoundExpression, BoundNode, Operands, bound_and, bound_between, bound_compare,
+    bound_is_not_null, bound_is_null, bound_like, bound_literal, bound_not, bound_or,
+    bound_row_count, value_of,
 };
 use crate::value::{Value, truth_of};
 use std::alloc::{AllocError, Global};
 use vortex_scalar_value::clone::clone_value;
 use vortex_scalar_value::scalar_value::ScalarValue;
-use vortex_stats_expr::aggregate::AggregateFn;
+use vortex_stats_expr::options::BetweenOptions;
+use vortex_stats_stat::aggregate::AggregateFn;
 
 /// A source of statistics of some rows, as Vortex's `StatBinder`.
 pub trait StatBinder {
@@ -64,6 +67,26 @@ pub fn bind_stats<B: StatBinder>(
             let (left, right) = bind_both(alloc, x, y, binder)?;
             bound_or(alloc, left, right)
         }
+        BoundNode::Not(x) => {
+            let input = bind_stats(alloc, x, binder)?;
+            bound_not(alloc, input)
+        }
+        BoundNode::IsNull(x) => {
+            let input = bind_stats(alloc, x, binder)?;
+            bound_is_null(alloc, input)
+        }
+        BoundNode::IsNotNull(x) => {
+            let input = bind_stats(alloc, x, binder)?;
+            bound_is_not_null(alloc, input)
+        }
+        BoundNode::Between(x, lower, upper, options) => {
+            bind_range(alloc, x, lower, upper, *options, binder)
+        }
+        BoundNode::Like(x, pattern, negated) => {
+            let (value, pattern) = bind_both(alloc, x, pattern, binder)?;
+            bound_like(alloc, value, pattern, *negated)
+        }
+        BoundNode::RowCount => Ok(bound_row_count()),
         BoundNode::Stat(aggregate, input) => bind_stat(alloc, *aggregate, input, binder),
     }
 }
@@ -81,6 +104,23 @@ fn bind_both<B: StatBinder>(
     let left = bind_stats(alloc, x, binder)?;
     let right = bind_stats(alloc, y, binder)?;
     Ok((left, right))
+}
+
+#[cycle(bind)]
+fn bind_range<B: StatBinder>(
+    alloc: Global,
+    x: &BoundExpression,
+    lower: &BoundExpression,
+    upper: &BoundExpression,
+    options: BetweenOptions,
+    binder: &B,
+) -> Result<BoundExpression, AllocError>
+    ensures { IfOk result (λ bound. IsBinding (B.meaning binder.now) (range_test x.now lower.now
+        upper.now (is_strict options.lower_strict) (is_strict options.upper_strict)) bound) }
+{
+    let (lower, upper) = bind_both(alloc, lower, upper, binder)?;
+    let value = bind_stats(alloc, x, binder)?;
+    bound_between(alloc, value, lower, upper, options)
 }
 
 fn copy_literal(value: Option<&ScalarValue>) -> Result<BoundExpression, AllocError>
@@ -105,13 +145,16 @@ fn bind_stat<B: StatBinder>(
     }
 }
 
-// What has neither columns nor statistics.
-struct NoOperands;
+// Rows of which neither columns nor statistics are known.
+#[derive(Clone, Copy, Drop)]
+struct RowsAlone {
+    rows: u64,
+}
 
-impl Operands for NoOperands {
-    ghost use Rattle.vortex_stats_bind.specs.Stats.{of_nothing};
+impl Operands for RowsAlone {
+    ghost use Rattle.vortex_stats_bind.specs.Stats.{of_rows_alone};
 
-    ghost provided = { λ none. of_nothing };
+    ghost provided = { λ alone. of_rows_alone alone.rows };
 
     fn column<'a>(&'a self, _path: &[usize]) -> Value<'a> {
         Value::Null
@@ -120,19 +163,24 @@ impl Operands for NoOperands {
     fn statistic<'a>(&'a self, _input: &BoundExpression, _aggregate: AggregateFn) -> Value<'a> {
         Value::Null
     }
+
+    fn rows(&self) -> u64 {
+        self.rows
+    }
 }
 
-/// The truth of a proof without placeholders, as Vortex's `prove`. `None` where it is null, and
-/// where it reads a column, which has no value outside a row. Placeholders count as null.
-pub fn prove(bound: &BoundExpression) -> Option<bool>
+/// The truth of a proof about `rows` rows whose placeholders are bound, as Vortex's `prove`. `None`
+/// where it is null, and where it reads a column, which has no value outside a row. Placeholders
+/// that are left count as null.
+pub fn prove(bound: &BoundExpression, rows: u64) -> Option<bool>
     ensures value { reads_places bound.now ≡ false → result
-        ≡ boolean_in (evaluate_bound of_nothing bound.now) }
+        ≡ boolean_in (evaluate_bound (of_rows_alone rows) bound.now) }
     ensures of_columns { reads_places bound.now ≡ true → result ≡ None }
 {
     if reads_columns(bound) {
         return None;
     }
-    truth_of(value_of(bound, &NoOperands))
+    truth_of(value_of(bound, &RowsAlone { rows }))
 }
 
 // A column inside a placeholder doesn't count.
@@ -145,6 +193,14 @@ fn reads_columns(e: &BoundExpression) -> bool
         BoundNode::Compare(_, x, y) => reads_columns(x) || reads_columns(y),
         BoundNode::And(x, y) => reads_columns(x) || reads_columns(y),
         BoundNode::Or(x, y) => reads_columns(x) || reads_columns(y),
+        BoundNode::Not(x) => reads_columns(x),
+        BoundNode::IsNull(x) => reads_columns(x),
+        BoundNode::IsNotNull(x) => reads_columns(x),
+        BoundNode::Between(x, lower, upper, _) => {
+            reads_columns(x) || reads_columns(lower) || reads_columns(upper)
+        }
+        BoundNode::Like(x, pattern, _) => reads_columns(x) || reads_columns(pattern),
+        BoundNode::RowCount => false,
         BoundNode::Stat(_, _) => false,
     }
 }

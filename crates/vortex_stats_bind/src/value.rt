@@ -1,18 +1,21 @@
 //! Values of operands, borrowed while a predicate or a proof is evaluated.
 //!
-//! What is no truth value counts as null under AND and OR, and null compares with nothing.
-ghost use Rattle.std.specs.Prelude.{◌≡◌, pos};
-ghost use Rattle.vortex_model.specs.Content.{content_of, integer};
-ghost use Rattle.vortex_model.specs.Truth.{compared, kleene_and, kleene_or};
+//! What is no truth value counts as null under AND, OR and NOT, and null compares with nothing.
+ghost use Rattle.std.specs.Prelude.{◌≡◌, pos, option_copied};
+ghost use Rattle.vortex_model.specs.Content.{content_of, integer, is_null, text};
+ghost use Rattle.vortex_model.specs.Truth.{compared, end_of, kleene_and, kleene_not, kleene_or, liked};
 ghost use Rattle.vortex_scalar_value.specs.View.{raw_of, content_at};
-ghost use Rattle.vortex_stats_bind.specs.OperandValue.{operand_value, truth_content, boolean_in, order_of};
-ghost use Rattle.vortex_stats_expr.specs.Tree.{comparison_of};
+ghost use Rattle.vortex_stats_bind.specs.OperandValue.{operand_value, truth_content, boolean_in, text_in, order_of};
+ghost use Rattle.vortex_stats_expr.specs.Tree.{comparison_of, is_strict};
 
 use std::cmp::Ordering;
+use vortex_dtype_core::BufferString;
 use vortex_scalar_ops::compare::compare_values as order_values;
 use vortex_scalar_value::pvalue::PValue;
 use vortex_scalar_value::scalar_value::ScalarValue;
 use vortex_stats_expr::operator::Comparison;
+use vortex_stats_expr::options::BetweenOptions;
+use vortex_stats_like::matching::{has_backslash, is_like};
 
 /// The value of an operand: null, a truth value or a count that was computed, or a value that
 /// stands in a literal, a row or a statistic.
@@ -54,6 +57,30 @@ pub fn truth_of(value: Value) -> Option<bool>
         Value::Stored(value) => value.as_bool(),
         Value::Count(_) => None,
         Value::Null => None,
+    }
+}
+
+/// Whether the operand is null.
+#[tactic(auto, using(crate::proofs::Truths::nulls))]
+pub fn is_null(value: Value) -> bool
+    ensures { result ≡ is_null (operand_value value.entry) }
+{
+    match value {
+        Value::Null => true,
+        Value::Truth(_) => false,
+        Value::Count(_) => false,
+        Value::Stored(_) => false,
+    }
+}
+
+// The text of an operand, and `None` where it is null or no text.
+#[tactic(auto, using(crate::proofs::Truths::texts))]
+fn text_of<'a>(value: Value<'a>) -> Option<&'a BufferString>
+    ensures { option_copied result ≡ text_in (operand_value value.entry) }
+{
+    match value {
+        Value::Stored(value) => value.as_utf8(),
+        Value::Null | Value::Truth(_) | Value::Count(_) => None,
     }
 }
 
@@ -127,5 +154,53 @@ pub fn kleene_or(left: Value, right: Value) -> Option<bool>
         (Some(true), _) | (_, Some(true)) => Some(true),
         (Some(false), Some(false)) => Some(false),
         (Some(false), None) | (None, Some(false)) | (None, None) => None,
+    }
+}
+
+/// NOT in Kleene's logic, where null stays null.
+#[tactic(auto, using(crate::proofs::Truths::opposite))]
+pub fn kleene_not(value: Value) -> Option<bool>
+    ensures { truth_content result ≡ kleene_not (operand_value value.entry) }
+{
+    Some(!truth_of(value)?)
+}
+
+/// Whether the value lies between the two ends: AND of the two comparisons.
+pub fn is_between(value: Value, lower: Value, upper: Value, options: BetweenOptions) -> Option<bool>
+    ensures { truth_content result ≡ kleene_and
+        (compared (end_of (is_strict options.lower_strict)) (operand_value lower.entry)
+        (operand_value value.entry))
+        (compared (end_of (is_strict options.upper_strict)) (operand_value value.entry)
+        (operand_value upper.entry)) }
+{
+    let above = compare_values(options.lower_strict.to_comparison(), lower, value);
+    let below = compare_values(options.upper_strict.to_comparison(), value, upper);
+    kleene_and(truth_value(above), truth_value(below))
+}
+
+/// Whether a text matches a pattern, or does not where that is asked for. `None`, which is null,
+/// where one of them is null or no text, and where the pattern has a backslash.
+#[tactic(auto, using(crate::proofs::Truths::like_of))]
+pub fn like_values(value: Value, pattern: Value, negated: bool) -> Option<bool>
+    ensures { truth_content result ≡ liked (operand_value value.entry)
+        (operand_value pattern.entry) negated }
+{
+    match (text_of(value), text_of(pattern)) {
+        (Some(text), Some(pattern)) => like_texts(text.as_str(), pattern.as_str(), negated),
+        (None, _) | (_, None) => None,
+    }
+}
+
+fn like_texts(value: &str, pattern: &str, negated: bool) -> Option<bool>
+    ensures { truth_content result ≡ liked (text value.now) (text pattern.now) negated }
+{
+    if has_backslash(pattern) {
+        return None;
+    }
+    let is_match = is_like(pattern, value);
+    if negated {
+        Some(!is_match)
+    } else {
+        Some(is_match)
     }
 }

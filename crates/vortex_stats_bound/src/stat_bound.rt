@@ -2,6 +2,7 @@
 ghost use Rattle.std.specs.Prelude.{◌≡◌, option_map};
 ghost use Rattle.std.specs.Option.{option_copied};
 ghost use Rattle.vortex_model.specs.Statistics.{Precision as Known};
+ghost use Rattle.vortex_stats_stat.specs.declared.stat.Stat.{Stat};
 ghost use Rattle.vortex_stats_bound.specs.Precision.{precision_of, exact_value, if_known};
 ghost use Rattle.vortex_stats_bound.specs.Bounds.{
   Union,
@@ -17,6 +18,7 @@ use crate::intersection::IntersectionResult;
 use crate::precision::Precision;
 use crate::union::Side;
 use std::cmp::Ordering;
+use vortex_stats_stat::stat::Stat;
 
 /// What is known of a statistic, read as a bound, as Vortex's `StatBound`.
 pub trait StatBound<T>: Sized {
@@ -49,16 +51,20 @@ pub trait StatBound<T>: Sized {
         ensures { option_copied result ≡ exact_value (known self.now) };
 }
 
-/// A statistic whose values are read as bounds of one kind: the part of Vortex's `StatType` that
-/// names the bound.
-pub trait BoundOf<T> {
-    /// The bound.
+/// A marker of a statistic whose values are of type `T`, as Vortex's `StatType`.
+pub trait StatType<T> {
+    /// What is known of the statistic, read as a bound.
     type Bound: StatBound<T>;
+
+    /// The statistic.
+    const STAT: Stat;
+
+    ghost STAT: { Stat };
 }
 
 impl<T> Precision<T> {
     /// What is known, as the statistic's bound. `None` where nothing is known.
-    pub fn bound<S: BoundOf<T>>(self) -> Option<S::Bound>
+    pub fn bound<S: StatType<T>>(self) -> Option<S::Bound>
         ensures { option_map S.Bound.known result ≡ if_known (precision_of self) }
     {
         match self {

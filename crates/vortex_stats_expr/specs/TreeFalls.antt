@@ -2,7 +2,7 @@
 use Rattle.std.specs.Prelude.{◌≤◌, max}
 use Rattle.std.proofs.Common.{arith}
 use Rattle.vortex_stats_expr.specs.declared.expression.Node.{Node}
-use Rattle.vortex_stats_expr.specs.declared.expression.Node.TheVariants.{Literal, Column, Compare, And, Or, Stat}
+use Rattle.vortex_stats_expr.specs.declared.expression.Node.TheVariants.{Literal, Column, Compare, And, Or, Not, IsNull, IsNotNull, IsNan, Between, Like, RowCount, Stat}
 use Rattle.vortex_stats_expr.specs.declared.expression.Expression.TheDeep.{deep-Node}
 use Rattle.vortex_stats_expr.specs.TreeCode.{size_of}
 use Rattle.vortex_stats_expr.specs.TreeOf.{tree_of}
@@ -13,4 +13,11 @@ depth_le-size (Column path) = omega arith
 depth_le-size (Compare o x y) = omega arith
 depth_le-size (And x y) = omega arith
 depth_le-size (Or x y) = omega arith
+depth_le-size (Not x) = omega arith
+depth_le-size (IsNull x) = omega arith
+depth_le-size (IsNotNull x) = omega arith
+depth_le-size (IsNan x) = omega arith
+depth_le-size (Between x lo hi o) = omega arith
+depth_le-size (Like x form o) = omega arith
+depth_le-size RowCount = omega arith
 depth_le-size (Stat f x) = omega arith

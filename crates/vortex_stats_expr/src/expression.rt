@@ -3,16 +3,19 @@
 //! The functions here make them from the leaves up; `bind` tests one against a type before it is
 //! used on rows.
 ghost use Rattle.std.specs.Prelude.{◌≡◌, IfOk, IfSome, IfNone, None, []};
-ghost use Rattle.vortex_model.specs.Expression.{literal, column, compare, both, either, equal, not_equal, greater, at_least, less, at_most, statistic};
+ghost use Rattle.vortex_model.specs.Expression.{literal, column, compare, both, either, negation, is_null, is_not_null, is_nan, between, like, row_count, equal, not_equal, greater, at_least, less, at_most, statistic};
 ghost use Rattle.vortex_scalar_core.specs.Scalar.{scalar_type, scalar_content};
-ghost use Rattle.vortex_stats_expr.specs.Tree.{combined, comparison_of, aggregate_of, path_of};
+ghost use Rattle.vortex_stats_expr.specs.Tree.{combined, comparison_of, is_strict, path_of, scalar_fn_of};
+ghost use Rattle.vortex_stats_stat.specs.Aggregate.{aggregate_of};
 
-use crate::aggregate::AggregateFn;
 use crate::operator::{Comparison, Operator};
+use crate::options::{BetweenOptions, LikeOptions};
+use crate::scalar_fn::ScalarFnId;
 use std::alloc::{AllocError, Global};
 use std::marker::Model;
 use vortex_dtype_ptype::field_names::FieldNames;
 use vortex_scalar_core::scalar::Scalar;
+use vortex_stats_stat::aggregate::AggregateFn;
 
 /// An expression over the rows of a table, as Vortex's `Expression`. It may be of any form and name
 /// any column: `bind` refuses what has no meaning. Contracts see it as a tree.
@@ -30,6 +33,16 @@ pub enum Node {
     Compare(Comparison, Box<Expression>, Box<Expression>),
     And(Box<Expression>, Box<Expression>),
     Or(Box<Expression>, Box<Expression>),
+    Not(Box<Expression>),
+    IsNull(Box<Expression>),
+    IsNotNull(Box<Expression>),
+    IsNan(Box<Expression>),
+    /// The value, the lower end and the upper end.
+    Between(Box<Expression>, Box<Expression>, Box<Expression>, BetweenOptions),
+    /// The value and the pattern.
+    Like(Box<Expression>, Box<Expression>, LikeOptions),
+    /// The number of rows, which stands in proofs.
+    RowCount,
     Stat(AggregateFn, Box<Expression>),
 }
 
@@ -42,6 +55,13 @@ impl Drop for Node {
             Node::Compare(_, _left, _right) => {}
             Node::And(_left, _right) => {}
             Node::Or(_left, _right) => {}
+            Node::Not(_input) => {}
+            Node::IsNull(_input) => {}
+            Node::IsNotNull(_input) => {}
+            Node::IsNan(_input) => {}
+            Node::Between(_value, _lower, _upper, _) => {}
+            Node::Like(_value, _pattern, _) => {}
+            Node::RowCount => {}
             Node::Stat(_, _input) => {}
         }
     }
@@ -202,6 +222,85 @@ pub fn binary(
     }
 }
 
+/// NOT in Kleene's logic: null where the input is null.
+pub fn not(alloc: Global, input: Expression) -> Result<Expression, AllocError>
+    ensures { IfOk result (λ e. e ≡ negation input) }
+{
+    Ok(Expression {
+        node: Node::Not(Box::new(alloc, input)?),
+    })
+}
+
+/// Whether the value is null. It is never null itself.
+pub fn is_null(alloc: Global, input: Expression) -> Result<Expression, AllocError>
+    ensures { IfOk result (λ e. e ≡ is_null input) }
+{
+    Ok(Expression {
+        node: Node::IsNull(Box::new(alloc, input)?),
+    })
+}
+
+/// Whether the value is not null. It is never null itself.
+pub fn is_not_null(alloc: Global, input: Expression) -> Result<Expression, AllocError>
+    ensures { IfOk result (λ e. e ≡ is_not_null input) }
+{
+    Ok(Expression {
+        node: Node::IsNotNull(Box::new(alloc, input)?),
+    })
+}
+
+/// Whether a float is NaN. Proofs are made of it, and no scan takes it.
+pub fn is_nan(alloc: Global, input: Expression) -> Result<Expression, AllocError>
+    ensures { IfOk result (λ e. e ≡ is_nan input) }
+{
+    Ok(Expression {
+        node: Node::IsNan(Box::new(alloc, input)?),
+    })
+}
+
+/// Whether the value lies between the lower and the upper end: AND of the two comparisons. The
+/// options say of each end whether it is inside.
+pub fn between(
+    alloc: Global,
+    value: Expression,
+    lower: Expression,
+    upper: Expression,
+    options: BetweenOptions,
+) -> Result<Expression, AllocError>
+    ensures { IfOk result (λ e. e ≡ between value lower upper (is_strict options.lower_strict)
+        (is_strict options.upper_strict)) }
+{
+    let (lower, upper) = boxed(alloc, lower, upper)?;
+    Ok(Expression {
+        node: Node::Between(Box::new(alloc, value)?, lower, upper, options),
+    })
+}
+
+/// Whether the whole text matches the pattern, where `%` stands for any run of characters and `_`
+/// for any one. The options say whether the answer is negated and whether case is ignored.
+pub fn like(
+    alloc: Global,
+    value: Expression,
+    pattern: Expression,
+    options: LikeOptions,
+) -> Result<Expression, AllocError>
+    ensures { IfOk result (λ e. e ≡ like value pattern options.negated options.case_insensitive) }
+{
+    let (value, pattern) = boxed(alloc, value, pattern)?;
+    Ok(Expression {
+        node: Node::Like(value, pattern, options),
+    })
+}
+
+/// The number of rows that a proof is about, a u64. A predicate over rows may hold none.
+pub fn row_count() -> Expression
+    ensures { result ≡ row_count }
+{
+    Expression {
+        node: Node::RowCount,
+    }
+}
+
 /// A placeholder, in a proof, for a statistic of the values of an expression. A binder replaces it
 /// by the statistic of a chunk; a predicate over rows may hold none.
 pub fn stat(
@@ -229,7 +328,35 @@ impl Expression {
             Node::Compare(_, _, _) => None,
             Node::And(_, _) => None,
             Node::Or(_, _) => None,
+            Node::Not(_) => None,
+            Node::IsNull(_) => None,
+            Node::IsNotNull(_) => None,
+            Node::IsNan(_) => None,
+            Node::Between(_, _, _, _) => None,
+            Node::Like(_, _, _) => None,
+            Node::RowCount => None,
             Node::Stat(_, _) => None,
+        }
+    }
+
+    /// The function of the root. Rules that rewrite predicates are chosen by it.
+    pub fn scalar_fn_id(&self) -> ScalarFnId
+        ensures { result ≡ scalar_fn_of self.now }
+    {
+        match &self.node {
+            Node::Literal(_) => ScalarFnId::Literal,
+            Node::Column(_) => ScalarFnId::Column,
+            Node::Compare(_, _, _) => ScalarFnId::Binary,
+            Node::And(_, _) => ScalarFnId::Binary,
+            Node::Or(_, _) => ScalarFnId::Binary,
+            Node::Not(_) => ScalarFnId::Not,
+            Node::IsNull(_) => ScalarFnId::IsNull,
+            Node::IsNotNull(_) => ScalarFnId::IsNotNull,
+            Node::IsNan(_) => ScalarFnId::IsNan,
+            Node::Between(_, _, _, _) => ScalarFnId::Between,
+            Node::Like(_, _, _) => ScalarFnId::Like,
+            Node::RowCount => ScalarFnId::RowCount,
+            Node::Stat(_, _) => ScalarFnId::Stat,
         }
     }
 }
@@ -261,11 +388,51 @@ fn copy_of(e: &Expression) -> Result<Expression, AllocError>
             let (left, right) = copy_both(x, y)?;
             or(*Box::allocator(x), left, right)
         }
+        Node::Not(x) => {
+            let input = copy_of(x)?;
+            not(*Box::allocator(x), input)
+        }
+        Node::IsNull(x) => {
+            let input = copy_of(x)?;
+            is_null(*Box::allocator(x), input)
+        }
+        Node::IsNotNull(x) => {
+            let input = copy_of(x)?;
+            is_not_null(*Box::allocator(x), input)
+        }
+        Node::IsNan(x) => {
+            let input = copy_of(x)?;
+            is_nan(*Box::allocator(x), input)
+        }
+        Node::Between(x, lower, upper, options) => {
+            copy_range(*Box::allocator(x), x, lower, upper, *options)
+        }
+        Node::Like(x, pattern, options) => {
+            let (value, pattern) = copy_both(x, pattern)?;
+            like(*Box::allocator(x), value, pattern, *options)
+        }
+        Node::RowCount => Ok(row_count()),
         Node::Stat(aggregate, x) => {
             let input = copy_of(x)?;
             stat(*Box::allocator(x), *aggregate, input)
         }
     }
+}
+
+#[cycle(copy)]
+fn copy_range(
+    alloc: Global,
+    value: &Expression,
+    lower: &Expression,
+    upper: &Expression,
+    options: BetweenOptions,
+) -> Result<Expression, AllocError>
+    ensures { IfOk result (λ copy. copy ≡ between value.now lower.now upper.now
+        (is_strict options.lower_strict) (is_strict options.upper_strict)) }
+{
+    let (lower, upper) = copy_both(lower, upper)?;
+    let value = copy_of(value)?;
+    between(alloc, value, lower, upper, options)
 }
 
 #[cycle(copy)]

@@ -1,7 +1,9 @@
 //! Expressions over rows, and predicates among them.
 #![tactic(auto)]
 
-pub mod aggregate;
 pub mod expression;
 pub mod operator;
+pub mod options;
+pub mod placeholders;
+pub mod scalar_fn;
 pub mod types;

@@ -56,9 +56,10 @@ pub fn class_of(dtype: &DType) -> TypeClass
     }
 }
 
-// The index and the type of a record's first field of this name.
+/// The index and the type of a record's first field of this name, and `None` where the type is no
+/// record or has no such field.
 #[tactic(auto, using(crate::proofs::Classes::by_fields))]
-pub(crate) fn field_named<'a>(dtype: &'a DType, name: &FieldName) -> Option<(usize, &'a DType)>
+pub fn field_named<'a>(dtype: &'a DType, name: &FieldName) -> Option<(usize, &'a DType)>
     ensures none { IfNone result (part_named (type_of dtype.now) name.now ≡ None) }
     ensures position { IfSome result (λ found. position_in (type_of dtype.now) name.now
         ≡ Some found.0) }

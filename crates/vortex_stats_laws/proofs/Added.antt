@@ -9,7 +9,7 @@ use Rattle.vortex_stats_bound.specs.Typed.{is_precision_of}
 use Rattle.vortex_stats_stat.specs.Stats.{number_type}
 use Rattle.vortex_stats_set.specs.Merge.{within, added, merged_count, merged_sum}
 use Rattle.vortex_stats_set.specs.Pairs.{or_nothing}
-use Rattle.vortex_stats_laws.specs.Laws.{said_number, said_count}
+use Rattle.vortex_stats_set.specs.Said.{said_number, said_count}
 
 within_is : (i : IntKind) (z : ℤ) (r : Raw) → within i z ≡ Some r →
     (in_range i z ≡ true) × (r ≡ raw_number i z)

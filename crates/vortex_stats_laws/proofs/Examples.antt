@@ -7,7 +7,7 @@ use Rattle.vortex_stats_stat.specs.declared.stat.Stat.TheVariants as stat
 use Rattle.vortex_stats_set.specs.Pairs.{Pairs}
 use Rattle.vortex_stats_set.specs.Merge.{merged_ordered}
 use Rattle.vortex_stats_set.specs.Combine.{combined_in_turn}
-use Rattle.vortex_stats_laws.specs.Laws.{statistics_in}
+use Rattle.vortex_stats_set.specs.Said.{statistics_in}
 
 -- A number of nulls below 0 says nothing of no rows, 1 is right of one null, and 0 is wrong of
 -- both.

@@ -19,7 +19,7 @@ use Rattle.vortex_scalar_ops.proofs.Ordered.{alike}
 use Rattle.vortex_stats_bound.specs.Precision.{precision_map, exact_value, known_value}
 use Rattle.vortex_stats_set.specs.Merge.{exact_flag, known_flag, are_equal, constant_flag, sorted_if, both_sorted}
 use Rattle.vortex_stats_set.specs.Pairs.{or_nothing}
-use Rattle.vortex_stats_laws.specs.Laws.{said_truth}
+use Rattle.vortex_stats_set.specs.Said.{said_truth}
 use Rattle.vortex_stats_laws.proofs.Bounded.{LowBounds, HighBounds, low_before, high_behind}
 
 pub never : true ≡ false → ⊥

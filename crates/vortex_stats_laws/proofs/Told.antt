@@ -13,7 +13,8 @@ use Rattle.vortex_stats_stat.specs.declared.stat.Stat.TheVariants as stat
 use Rattle.vortex_stats_stat.specs.Stats.{number_of_stat, is_commutative}
 use Rattle.vortex_stats_set.specs.Sets.{is_of, has_stat, is_set, value_in}
 use Rattle.vortex_stats_set.specs.Pairs.{Pairs, known, put, or_nothing}
-use Rattle.vortex_stats_laws.specs.Laws.{said_number, said_truth, IsHonestOf}
+use Rattle.vortex_stats_set.specs.Said.{said_number, said_truth}
+use Rattle.vortex_stats_laws.specs.Laws.{IsHonestOf}
 use Rattle.vortex_stats_laws.proofs.Added.{IsCount, IsNone}
 use Rattle.vortex_stats_laws.proofs.Bounded.{LowBounds, HighBounds, to_low, from_low, to_high, from_high, low_moved, high_moved}
 use Rattle.vortex_stats_laws.proofs.Flags.{are_one, one_constant, by_contra, never}

@@ -16,7 +16,8 @@ use Rattle.vortex_stats_stat.specs.declared.stat.Stat.TheVariants as stat
 use Rattle.vortex_stats_stat.specs.Stats.{number_of_stat, all_stats, is_commutative}
 use Rattle.vortex_stats_set.specs.Pairs.{Pairs, known, put, or_nothing}
 use Rattle.vortex_stats_set.specs.Merge.{merged, merged_if, merged_in_turn, merged_ordered, merged_unordered, merged_sum, merged_count, sorted_across, sorted_if, stands_before}
-use Rattle.vortex_stats_laws.specs.Laws.{said_number, said_truth, IsHonestOf, merged_behind}
+use Rattle.vortex_stats_set.specs.Said.{said_number, said_truth}
+use Rattle.vortex_stats_laws.specs.Laws.{IsHonestOf, merged_behind}
 use Rattle.vortex_stats_laws.proofs.Added.{IsCount, sum_append, sum_told, count_told, none_told}
 use Rattle.vortex_stats_laws.proofs.Bounded.{LowBounds, HighBounds, lows_united, highs_united}
 use Rattle.vortex_stats_laws.proofs.Flags.{between_at_most, between_below, constant_told, sorted_told}

@@ -1,12 +1,10 @@
--- What a set of statistics says of rows, and that merges and intersections of honest sets are
--- honest.
-use Rattle.std.specs.Prelude.{◌≡◌, ℕ, ℤ, pos, List, [], ◌∷◌, ◌++◌, map, flat_map, Bool, true}
+-- That merges and intersections of honest sets of statistics are honest.
+use Rattle.std.specs.Prelude.{◌≡◌, List, [], ◌∷◌, ◌++◌, map, flat_map, Bool, true}
 use Rattle.std.specs.List.{AllByRecursion}
 use Rattle.std.specs.List.Sorted.{IsPermutation}
 use Rattle.vortex_model.specs.LogicalType.{LogicalType}
-use Rattle.vortex_model.specs.Content.{Content, Raw, raw_boolean, raw_number, content_of}
-use Rattle.vortex_model.specs.Statistics.{Precision, exact, inexact, absent, Statistics, IsHonest}
-use Rattle.vortex_stats_bound.specs.Precision.{precision_map}
+use Rattle.vortex_model.specs.Content.{Content}
+use Rattle.vortex_model.specs.Statistics.{IsHonest}
 use Rattle.vortex_stats_bound.specs.Typed.{is_precision_of}
 use Rattle.vortex_stats_bound.specs.declared.precision.Precision as declared
 use Rattle.vortex_scalar_value.specs.declared.scalar_value.ScalarValue.{ScalarValue}
@@ -16,39 +14,12 @@ use Rattle.vortex_stats_stat.specs.declared.stat.Stat.TheVariants as stat
 use Rattle.vortex_stats_set.specs.Sets.{is_set}
 use Rattle.vortex_stats_set.specs.Pairs.{Pairs, known}
 use Rattle.vortex_stats_set.specs.Known.{raw_pairs}
+use Rattle.vortex_stats_set.specs.Said.{statistics_in}
 use Rattle.vortex_stats_set.specs.Valid.{are_valid_for}
 use Rattle.vortex_stats_set.specs.Merge.{merged_ordered, merged_unordered}
 use Rattle.vortex_stats_set.specs.Combine.{combined_in_turn}
 
--- ---- what the raw values say; one of another form says nothing
-
-abbrev pub said_number : Precision Raw → Precision ℤ
-said_number (exact (raw_number i z)) = exact z
-said_number (inexact (raw_number i z)) = inexact z
-said_number p = absent
-
-abbrev pub said_count : Precision Raw → Precision ℕ
-said_count (exact (raw_number i (pos n))) = exact n
-said_count (inexact (raw_number i (pos n))) = inexact n
-said_count p = absent
-
-abbrev pub said_truth : Precision Raw → Precision Bool
-said_truth (exact (raw_boolean b)) = exact b
-said_truth (inexact (raw_boolean b)) = inexact b
-said_truth p = absent
-
-abbrev pub statistics_in : Pairs → Statistics
-statistics_in xs = record {
-  least = precision_map content_of (known xs stat.Min);
-  greatest = precision_map content_of (known xs stat.Max);
-  total = said_number (known xs stat.Sum);
-  nulls = said_count (known xs stat.NullCount);
-  nans = said_count (known xs stat.NaNCount);
-  bytes = said_count (known xs stat.UncompressedSizeInBytes);
-  constant = said_truth (known xs stat.IsConstant);
-  sorted = said_truth (known xs stat.IsSorted);
-  strictly_sorted = said_truth (known xs stat.IsStrictSorted);
-}
+-- ---- honest sets
 
 -- What the set knows of how many rows are null is a number of rows, not below 0.
 abbrev pub CountsNulls : Pairs → Type 0

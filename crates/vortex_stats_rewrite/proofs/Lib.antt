@@ -1,4 +1,8 @@
 pub mod Falsifiers
+pub mod Outside
 pub mod Placeholders
+pub mod Rounds
+pub mod Signs
+pub mod StatsOfLiterals
 pub mod TruthLiterals
 pub mod Views

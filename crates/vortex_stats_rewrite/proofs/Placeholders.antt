@@ -7,11 +7,11 @@ use Rattle.vortex_dtype_ptype.specs.Numbers.{integral}
 use Rattle.vortex_dtype_ptype.specs.View.{number_kind_of}
 use Rattle.vortex_dtype_ptype.specs.declared.ptype.PType.{PType}
 use Rattle.vortex_dtype_ptype.specs.declared.ptype.PType.TheVariants as ptype
-use Rattle.vortex_stats_expr.specs.Tree.{aggregate_of}
+use Rattle.vortex_stats_stat.specs.Aggregate.{aggregate_of}
 use Rattle.vortex_stats_expr.specs.Types.{IsOfClass, IsClass}
 use Rattle.vortex_stats_rewrite.specs.Classes.{sum_class, count_class, boolean_class, of_floats, aggregate_class}
-use Rattle.vortex_stats_expr.specs.declared.aggregate.AggregateFn.{AggregateFn}
-use Rattle.vortex_stats_expr.specs.declared.aggregate.AggregateFn.TheVariants as aggregate
+use Rattle.vortex_stats_stat.specs.declared.aggregate.AggregateFn.{AggregateFn}
+use Rattle.vortex_stats_stat.specs.declared.aggregate.AggregateFn.TheVariants as aggregate
 use Rattle.vortex_stats_expr.specs.declared.types.Leaf.TheVariants as leaf
 use Rattle.vortex_stats_expr.specs.declared.types.TypeClass.{TypeClass}
 use Rattle.vortex_stats_expr.specs.declared.types.TypeClass.TheVariants as class

@@ -2,8 +2,8 @@
 use Rattle.std.specs.Prelude.{Option, Some, None}
 use Rattle.vortex_dtype_ptype.specs.declared.ptype.PType.{PType}
 use Rattle.vortex_dtype_ptype.specs.declared.ptype.PType.TheVariants as ptype
-use Rattle.vortex_stats_expr.specs.declared.aggregate.AggregateFn.{AggregateFn}
-use Rattle.vortex_stats_expr.specs.declared.aggregate.AggregateFn.TheVariants as aggregate
+use Rattle.vortex_stats_stat.specs.declared.aggregate.AggregateFn.{AggregateFn}
+use Rattle.vortex_stats_stat.specs.declared.aggregate.AggregateFn.TheVariants as aggregate
 use Rattle.vortex_stats_expr.specs.declared.types.Leaf.TheVariants as leaf
 use Rattle.vortex_stats_expr.specs.declared.types.TypeClass.{TypeClass}
 use Rattle.vortex_stats_expr.specs.declared.types.TypeClass.TheVariants as class

@@ -1,3 +1,4 @@
 pub mod Classes
 pub mod Guards
 pub mod Literals
+pub mod Patterns

@@ -1,20 +1,49 @@
 //! Classes of expressions' types: whether bounds and counts of NaN can be asked for.
-ghost use Rattle.std.specs.Prelude.{◌≡◌};
-ghost use Rattle.vortex_model.specs.Typing.{expression_type};
+ghost use Rattle.std.specs.Prelude.{◌≡◌, false};
+ghost use Rattle.std.specs.Option.{option_map_or};
+ghost use Rattle.vortex_model.specs.Typing.{expression_type, has_bounds, is_of_floats};
 ghost use Rattle.vortex_dtype_core.specs.View.{type_of};
 ghost use Rattle.vortex_stats_expr.specs.Types.{IsClass};
 ghost use Rattle.vortex_stats_rewrite.specs.Classes.{bound_class, bounds_class, sum_ptype, sum_class, of_floats, aggregate_class};
 
 use vortex_dtype_core::dtype::DType;
 use vortex_dtype_ptype::ptype::PType;
-use vortex_stats_expr::aggregate::AggregateFn;
 use vortex_stats_expr::expression::{Expression, Node};
 use vortex_stats_expr::types::{Leaf, TypeClass, class_of, column_class};
+use vortex_stats_stat::aggregate::AggregateFn;
+
+/// Whether the values of an expression have a least and a greatest one.
+#[tactic(auto, using(crate::proofs::Placeholders::bounded_by_class))]
+pub(crate) fn has_bounds(dtype: &DType, e: &Expression) -> bool
+    ensures { result ≡ option_map_or has_bounds (expression_type (type_of dtype.now) e.now) false }
+{
+    match type_class(dtype, e) {
+        Some(TypeClass::Leaf(_)) => true,
+        Some(TypeClass::Float) => true,
+        Some(TypeClass::Decimal) => true,
+        Some(TypeClass::Other) => false,
+        None => false,
+    }
+}
+
+/// Whether the values of an expression are floats, which may be NaN.
+#[tactic(auto, using(crate::proofs::Placeholders::float_by_class))]
+pub(crate) fn is_of_floats(dtype: &DType, e: &Expression) -> bool
+    ensures { result ≡ is_of_floats (type_of dtype.now) e.now }
+{
+    match type_class(dtype, e) {
+        Some(TypeClass::Leaf(_)) => false,
+        Some(TypeClass::Float) => true,
+        Some(TypeClass::Decimal) => false,
+        Some(TypeClass::Other) => false,
+        None => false,
+    }
+}
 
 // `None` where the expression has no type: a column that leads nowhere, or a statistic that its
 // input doesn't have.
 #[tactic(auto, using(crate::proofs::Placeholders::classes))]
-pub(crate) fn type_class(dtype: &DType, e: &Expression) -> Option<TypeClass>
+fn type_class(dtype: &DType, e: &Expression) -> Option<TypeClass>
     ensures { IsClass result (expression_type (type_of dtype.now) e.now) }
 {
     match &e.node {
@@ -23,6 +52,13 @@ pub(crate) fn type_class(dtype: &DType, e: &Expression) -> Option<TypeClass>
         Node::Compare(_, _, _) => Some(TypeClass::Leaf(Leaf::Bool)),
         Node::And(_, _) => Some(TypeClass::Leaf(Leaf::Bool)),
         Node::Or(_, _) => Some(TypeClass::Leaf(Leaf::Bool)),
+        Node::Not(_) => Some(TypeClass::Leaf(Leaf::Bool)),
+        Node::IsNull(_) => Some(TypeClass::Leaf(Leaf::Bool)),
+        Node::IsNotNull(_) => Some(TypeClass::Leaf(Leaf::Bool)),
+        Node::IsNan(_) => Some(TypeClass::Leaf(Leaf::Bool)),
+        Node::Between(_, _, _, _) => Some(TypeClass::Leaf(Leaf::Bool)),
+        Node::Like(_, _, _) => Some(TypeClass::Leaf(Leaf::Bool)),
+        Node::RowCount => Some(TypeClass::Leaf(Leaf::Primitive(PType::U64))),
         Node::Stat(aggregate, input) => match type_class(dtype, input) {
             Some(class) => placeholder_class(*aggregate, class),
             None => None,

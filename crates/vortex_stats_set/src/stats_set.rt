@@ -125,9 +125,9 @@ impl StatsSet {
         }
     }
 
-    // What is known of the statistic, where it stands.
+    /// What is known of the statistic, where it stands. It takes no memory.
     #[tactic(auto, using(crate::proofs::Seen::read))]
-    pub(crate) fn get_ref(&self, stat: Stat) -> Precision<&ScalarValue>
+    pub fn get_ref(&self, stat: Stat) -> Precision<&ScalarValue>
         ensures { raw_precision_at result ≡ known (raw_pairs self.now) stat }
     {
         match self.position(stat) {

@@ -1,3 +1,4 @@
+pub mod Aggregate
 pub mod Bitsets
 pub mod Refusals
 pub mod Stats

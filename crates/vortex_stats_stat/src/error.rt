@@ -6,7 +6,7 @@ ghost use Rattle.vortex_stats_stat.specs.Refusals.{number_of_error, name_of_erro
 use std::alloc::{AllocError, AllocFailed};
 use thiserror::Error;
 
-/// Why a call on statistics is refused. The numbers between are those of refused predicates.
+/// Why a call of this member is refused: one enum for statistics, predicates and proofs.
 #[derive(Clone, Copy, Debug, PartialEq, Eq, Drop, Error)]
 pub enum StatsError {
     /// There is no memory.
@@ -15,6 +15,24 @@ pub enum StatsError {
     /// Two statistics of the same rows can't both be honest.
     #[error("two statistics of the same rows don't overlap")]
     NoOverlap = 2,
+    /// A path leads to no column.
+    #[error("there is no such column")]
+    UnknownColumn = 3,
+    /// Operands have types that the operator doesn't take.
+    #[error("the operator doesn't take operands of these types")]
+    UnequalTypes = 4,
+    /// A predicate, or an operand of AND, OR or NOT, has another type than truth values.
+    #[error("not of truth type")]
+    NotBoolean = 5,
+    /// An aggregate function doesn't take values of the type.
+    #[error("the aggregate function doesn't take the type")]
+    UnsupportedAggregate = 6,
+    /// A rule of the caller failed, or its proof can't be evaluated as one.
+    #[error("a rewrite rule failed")]
+    RuleFault = 7,
+    /// The expression has no value here: it compares floats, or its pattern isn't supported.
+    #[error("the expression can't be evaluated")]
+    NotEvaluable = 8,
     /// No statistic has the number.
     #[error("there is no such statistic")]
     NoSuchStat = 9,
@@ -38,6 +56,12 @@ impl StatsError {
         match self {
             StatsError::Memory => "Memory",
             StatsError::NoOverlap => "NoOverlap",
+            StatsError::UnknownColumn => "UnknownColumn",
+            StatsError::UnequalTypes => "UnequalTypes",
+            StatsError::NotBoolean => "NotBoolean",
+            StatsError::UnsupportedAggregate => "UnsupportedAggregate",
+            StatsError::RuleFault => "RuleFault",
+            StatsError::NotEvaluable => "NotEvaluable",
             StatsError::NoSuchStat => "NoSuchStat",
             StatsError::InvalidStat => "InvalidStat",
         }

@@ -1,6 +1,7 @@
 //! Statistics of columns: which there are, and how a set of them is written in bits.
 #![tactic(auto)]
 
+pub mod aggregate;
 pub mod bitset;
 pub mod error;
 pub mod stat;

@@ -9,6 +9,7 @@ ghost use Rattle.vortex_dtype_core.specs.View.{type_of};
 ghost use Rattle.vortex_stats_stat.specs.declared.error.StatsError.TheVariants.{Memory, NoSuchStat};
 ghost use Rattle.vortex_stats_stat.specs.Stats.{number_of_stat, name_of_stat, all_stats, aggregate_fn_of, bound_type, stat_type, is_commutative, is_of_array_type};
 
+use crate::aggregate::AggregateFn;
 use crate::error::StatsError;
 use crate::stat_iter::StatIter;
 use std::cmp::Ordering;
@@ -16,7 +17,6 @@ use std::fmt;
 use vortex_dtype_core::dtype::DType;
 use vortex_dtype_ptype::nullability::Nullability;
 use vortex_dtype_ptype::ptype::PType;
-use vortex_stats_expr::aggregate::AggregateFn;
 
 /// A statistic of the rows of a column, as Vortex's `Stat`. Nulls are passed over but where they
 /// are counted. Statistics are ordered by their numbers.

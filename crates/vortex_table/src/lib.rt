@@ -109,16 +109,22 @@ pub mod scalar {
 
 /// Predicates over rows, and the proofs over statistics that are made of them.
 pub mod expr {
-    pub use vortex_stats_expr::aggregate::AggregateFn;
     pub use vortex_stats_bind::bind::{PredicateError, bind, bind_proof};
     pub use vortex_stats_bind::bound::{BoundExpression, Operands, bound_literal};
-    pub use vortex_stats_expr::expression::{
-        Expression, and, binary, col, eq, gt, gt_eq, lit, lt, lt_eq, not_eq, or, root, stat,
-    };
-    pub use vortex_stats_expr::operator::Operator;
     pub use vortex_stats_bind::stats::{StatBinder, bind_stats, prove};
     pub use vortex_stats_bind::value::Value;
+    pub use vortex_stats_expr::expression::{
+        Expression, and, between, binary, col, eq, gt, gt_eq, is_nan, is_not_null, is_null, like,
+        lit, lt, lt_eq, not, not_eq, or, root, row_count, stat,
+    };
+    pub use vortex_stats_expr::operator::Operator;
+    pub use vortex_stats_expr::options::{BetweenOptions, LikeOptions, StrictComparison};
+    pub use vortex_stats_expr::placeholders::{
+        all_nan, all_non_nan, all_non_null, all_null, min_max, nan_count, null_count, sum,
+    };
+    pub use vortex_stats_expr::scalar_fn::ScalarFnId;
     pub use vortex_stats_rewrite::rewrite::{falsify, satisfy};
+    pub use vortex_stats_stat::aggregate::AggregateFn;
 }
 
 /// The table of chunks, its refusals, what a scan finds, and what is known of a column.

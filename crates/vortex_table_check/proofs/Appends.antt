@@ -18,7 +18,7 @@ use Rattle.vortex_table_check.proofs.Explained.{explained_first}
 abbrev pub said : List (Option ScalarValue) → List Content
 said vs = map content_of (map raw_in vs)
 
-judged : (b : Bool) (r : Refusal) (q : Option Refusal) → or_else (unless b r) q ≡ (if b then q else Some r)
+pub judged : (b : Bool) (r : Refusal) (q : Option Refusal) → or_else (unless b r) q ≡ (if b then q else Some r)
 judged true r q = refl
 judged false r q = refl
 

@@ -131,17 +131,17 @@ placed o is e = ap (λ p. elim p [ None ↦ [] | Some is ↦ is ]) e
 pub accepted_place : (k : LogicalType) (steps : List Step) (is : Positions) → IsLeafPlace k (names_of steps) is → positions_of k steps ≡ is
 accepted_place k steps is h = placed (positions k (names_of steps)) is h.place
 
-pub accepted_leaf : (k : LogicalType) (steps : List Step) (is : Positions) → path_fault 0 k steps ≡ None → IsLeafPlace k (names_of steps) is →
-    or_else (path_fault 0 k steps) (leaf_fault k steps) ≡ None
-accepted_leaf k steps is e h =
+pub accepted_leaf : (n : ℕ) (k : LogicalType) (steps : List Step) (is : Positions) → path_fault n k steps ≡ None → IsLeafPlace k (names_of steps) is →
+    or_else (path_fault n k steps) (leaf_fault k steps) ≡ None
+accepted_leaf n k steps is e h =
     ap (λ p. or_else p (leaf_fault k steps)) e
     ∙ ap (λ js. if is_leaf_at k js then None else Some not_a_leaf) (accepted_place k steps is h)
     ∙ ap (λ b. if b then None else Some not_a_leaf) h.leaf
 
-pub refused_leaf : (k : LogicalType) (steps : List Step) → path_fault 0 k steps ≡ None →
+pub refused_leaf : (n : ℕ) (k : LogicalType) (steps : List Step) → path_fault n k steps ≡ None →
     ((is : Positions) → positions k (names_of steps) ≡ Some is → is_leaf_at k is ≡ false) →
-    or_else (path_fault 0 k steps) (leaf_fault k steps) ≡ Some not_a_leaf
-refused_leaf k steps e h = ap (λ p. or_else p (leaf_fault k steps)) e ∙ by_place (positions k (names_of steps)) refl (in_type 0 k steps e)
+    or_else (path_fault n k steps) (leaf_fault k steps) ≡ Some not_a_leaf
+refused_leaf n k steps e h = ap (λ p. or_else p (leaf_fault k steps)) e ∙ by_place (positions k (names_of steps)) refl (in_type n k steps e)
   where
     by_place : (o : Option Positions) → positions k (names_of steps) ≡ o → is_some o ≡ true → leaf_fault k steps ≡ Some not_a_leaf
     by_place None g s = absurd (cc (s))

@@ -1,4 +1,5 @@
 pub mod Appends
+pub mod BoundEntries
 pub mod Copied
 pub mod Explained
 pub mod LeafPlaces

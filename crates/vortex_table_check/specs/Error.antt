@@ -1,6 +1,6 @@
 -- Which refusal an error is.
 use Rattle.std.specs.Prelude.{◌≡◌, Option, Some, None, ⊤}
-use Rattle.vortex_model.specs.Refusal.{Refusal, not_a_record, unkept_type, repeated_name, invalid_value, not_convertible, no_such_group, unknown_path, element_step, placeholder, unknown_column, not_a_leaf, unequal_types, not_boolean, unsupported_predicate}
+use Rattle.vortex_model.specs.Refusal.{Refusal, not_a_record, unkept_type, repeated_name, invalid_value, not_convertible, no_such_group, unknown_path, element_step, placeholder, unknown_column, not_a_leaf, unequal_types, not_boolean, unsupported_like, unsupported_predicate, repeated_path}
 use Rattle.vortex_table_check.specs.declared.error.TableError.{TableError}
 use Rattle.vortex_table_check.specs.declared.error.TableError.TheVariants as error
 
@@ -21,7 +21,9 @@ refusal_of error.UnknownColumn = Some unknown_column
 refusal_of error.NotALeaf = Some not_a_leaf
 refusal_of error.UnequalTypes = Some unequal_types
 refusal_of error.NotBoolean = Some not_boolean
+refusal_of error.UnsupportedLike = Some unsupported_like
 refusal_of error.UnsupportedPredicate = Some unsupported_predicate
+refusal_of (error.RepeatedPath i) = Some (repeated_path i)
 
 -- The error is want of memory, a total where it passes the limit, or the refusal.
 abbrev pub Explains : Type 0 → Option Refusal → TableError → Type 0

@@ -57,6 +57,34 @@ pub fn check_batch(
     }
 }
 
+/// The value, which is null or one of the source type, cast to the target type. Where that can't
+/// hold it, `NotConvertible` with the index.
+pub fn convert_row(
+    alloc: Global,
+    source: &DType,
+    target: &DType,
+    index: usize,
+    value: Option<&ScalarValue>,
+) -> Result<ScalarValue, TableError>
+    requires kept { type_fault_so_far (type_of target.now) ≡ None }
+    requires valid { valid (type_of source.now) (raw_at value) ≡ true }
+    ensures converts { OnOk result
+        (converts (type_of source.now) (type_of target.now) (content_at value.entry) ≡ true) }
+    ensures content { IfOk result (λ row. row_content row ≡ content_at value.entry) }
+    ensures valid { IfOk result (λ row. valid (type_of target.now) (raw_of row) ≡ true) }
+    ensures refused { IfErr result (λ e. Explains ⊥
+        (unless (converts (type_of source.now) (type_of target.now) (content_at value.entry))
+        (not_convertible index)) e) }
+{
+    match cast_value(alloc, source, target, value) {
+        Ok(Some(row)) => Ok(row),
+        Ok(None) => Err(TableError::NotConvertible(index)),
+        Err(ScalarError::Memory) => Err(TableError::Memory),
+        Err(ScalarError::Invalid) => Err(TableError::NotConvertible(index)),
+        Err(ScalarError::NotConvertible) => Err(TableError::NotConvertible(index)),
+    }
+}
+
 // Pushes the value, cast from the source to the target type. A refusal has the index that the row
 // would have.
 fn push_converted(
@@ -79,17 +107,9 @@ fn push_converted(
         (unless (converts (type_of source.now) (type_of target.now) (content_at value.entry))
         (not_convertible (length rows.old.items))) e) }
 {
-    let index = rows.len();
-    match cast_value(alloc, source, target, value) {
-        Ok(Some(row)) => {
-            rows.push(row)?;
-            Ok(())
-        }
-        Ok(None) => Err(TableError::NotConvertible(index)),
-        Err(ScalarError::Memory) => Err(TableError::Memory),
-        Err(ScalarError::Invalid) => Err(TableError::NotConvertible(index)),
-        Err(ScalarError::NotConvertible) => Err(TableError::NotConvertible(index)),
-    }
+    let row = convert_row(alloc, source, target, rows.len(), value)?;
+    rows.push(row)?;
+    Ok(())
 }
 
 // Frees the row, once it isn't read any more, where the rows were handed over.

@@ -41,8 +41,8 @@ pub enum TableError {
     /// 12: the predicate has a column that isn't there.
     #[error("the predicate has an unknown column")]
     UnknownColumn,
-    /// 13: the predicate has a column that is no leaf.
-    #[error("the predicate has a column that is no leaf")]
+    /// 13: a column that has to be a leaf is none.
+    #[error("a column is no leaf")]
     NotALeaf,
     /// 14: two operands are of unequal types.
     #[error("operands are of unequal types")]
@@ -50,9 +50,15 @@ pub enum TableError {
     /// 15: an operand of a connective or the predicate is of another type than truth.
     #[error("an operand isn't boolean")]
     NotBoolean,
+    /// 16: a LIKE ignores case, or its pattern is no literal text without a backslash.
+    #[error("the LIKE isn't supported")]
+    UnsupportedLike,
     /// 20: the predicate has a part that scans don't take.
     #[error("the predicate isn't supported")]
     UnsupportedPredicate,
+    /// 21: the first entry of the bound lengths, by its index, whose path stands before it.
+    #[error("path {0} stands twice")]
+    RepeatedPath(usize),
 }
 
 impl TableError {
@@ -61,7 +67,7 @@ impl TableError {
     ghost use Rattle.vortex_table_check.specs.Error.{refusal_of};
     ghost use Rattle.vortex_table_check.specs.declared.error.TableError.TheVariants.{Memory, Total};
 
-    /// The error's number, from 1 to 20.
+    /// The error's number, from 1 to 21.
     pub fn number(self) -> u8
         ensures refusal { IfSome (refusal_of self) (λ r. result ≡ number_of r) }
         ensures memory { self ≡ Memory → result ≡ 1 }
@@ -83,11 +89,13 @@ impl TableError {
             TableError::NotALeaf => 13,
             TableError::UnequalTypes => 14,
             TableError::NotBoolean => 15,
+            TableError::UnsupportedLike => 16,
             TableError::UnsupportedPredicate => 20,
+            TableError::RepeatedPath(_) => 21,
         }
     }
 
-    /// The index of the row or the path at fault.
+    /// The index of the row, the path or the entry at fault.
     pub fn index(self) -> Option<usize>
         ensures { result ≡ option_and_then index_of (refusal_of self) }
     {
@@ -96,6 +104,7 @@ impl TableError {
             TableError::NotConvertible(row) => Some(row),
             TableError::UnknownPath(path) => Some(path),
             TableError::ElementStep(path) => Some(path),
+            TableError::RepeatedPath(entry) => Some(entry),
             _ => None,
         }
     }

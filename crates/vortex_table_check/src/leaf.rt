@@ -57,20 +57,26 @@ fn leaf_place(
     }
 }
 
-/// The positions of the leaf column that the path leads to. Refused are, in this order,
-/// `UnknownPath` and `ElementStep` by the first step at fault, with the index 0, and `NotALeaf`.
+/// The positions of the leaf column that the path leads to, which has this index among those of
+/// its command. Refused are, in this order, `UnknownPath` and `ElementStep` by the first step at
+/// fault, with the index, and `NotALeaf`.
 #[tactic(auto, using(crate::proofs::LeafPlaces::by_place))]
-pub fn leaf_at(alloc: Global, dtype: &DType, path: &FieldPath) -> Result<Vec<usize>, TableError>
+pub fn leaf_at(
+    alloc: Global,
+    index: usize,
+    dtype: &DType,
+    path: &FieldPath,
+) -> Result<Vec<usize>, TableError>
     ensures place { IfOk result
         (λ place. positions_of (type_of dtype.now) (steps_of path.now) ≡ place.items) }
     ensures leaf { IfOk result (λ place. is_leaf_at (type_of dtype.now) place.items ≡ true) }
-    ensures accepted { OnOk result (or_else (path_fault 0 (type_of dtype.now) (steps_of path.now))
+    ensures accepted { OnOk result (or_else (path_fault index (type_of dtype.now) (steps_of path.now))
         (leaf_fault (type_of dtype.now) (steps_of path.now)) ≡ None) }
     ensures refused { IfErr result (λ e. Explains ⊥
-        (or_else (path_fault 0 (type_of dtype.now) (steps_of path.now))
+        (or_else (path_fault index (type_of dtype.now) (steps_of path.now))
         (leaf_fault (type_of dtype.now) (steps_of path.now))) e) }
 {
-    check_path(0, dtype, path)?;
+    check_path(index, dtype, path)?;
     let names = names_of(alloc, path)?;
     match leaf_place(alloc, dtype, &names)? {
         Some(place) => Ok(place),

@@ -1,7 +1,9 @@
-//! What a table tests before a command changes anything: types, paths, rows, leaf columns.
+//! What a table tests before a command changes anything: types, paths, rows, leaf columns, bound
+//! lengths.
 #![tactic(auto)]
 
 pub mod append;
 pub mod check;
 pub mod error;
 pub mod leaf;
+pub mod lengths;

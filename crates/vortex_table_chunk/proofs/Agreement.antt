@@ -1,16 +1,16 @@
 -- Two answers to placeholders that agree on operands without a fault make the same of the built-in proofs.
-use Rattle.std.proofs.Common.{◌≡◌, refl, ap, ℕ, [], ◌∷◌, Bool, true, false, not, ◌&&◌, ◌||◌, if◌then◌else◌, Option, Some, None}
+use Rattle.std.proofs.Common.{◌≡◌, refl, ap, ℕ, List, [], ◌∷◌, Bool, true, false, not, ◌&&◌, ◌||◌, if◌then◌else◌, Option, Some, None}
+use Rattle.std.specs.Prelude.{chars, encode_utf8_all, option_map}
 use Rattle.vortex_model.specs.LogicalType.{LogicalType}
-use Rattle.vortex_model.specs.Content.{boolean, null as null_content, is_null as is_null_content}
-use Rattle.vortex_model.specs.Refusal.{Refusal, unequal_types, not_boolean, unsupported_predicate, or_else}
+use Rattle.vortex_model.specs.Content.{boolean, text, null as null_content, is_null as is_null_content}
+use Rattle.vortex_model.specs.Refusal.{Refusal, unequal_types, not_boolean, unsupported_like, unsupported_predicate, or_else}
 use Rattle.vortex_model.specs.Expression.{Expression, literal, column, compare, both, either, negation, is_null, is_not_null, is_nan, between, like, row_count, statistic, Comparison, equal, not_equal, greater, at_least, less, at_most, Aggregate, min, max, null_count, nan_count, all_null, all_non_null, all_non_nan}
 use Rattle.vortex_model.specs.Truth.{Given, evaluate, compared, kleene_and, kleene_or, kleene_not, end_of, liked}
 use Rattle.vortex_model.specs.Typing.{expression_type}
-use Rattle.vortex_model.specs.Rewrite.{bound_expression, null_count_expression, comparison_falsifier, comparison_falsifiers, guarded, no_nan_by_count, no_nan_by_flag, is_comparable, is_float_placeholder, joined_proofs, either_there, both_there, falsifier, satisfier}
+use Rattle.vortex_model.specs.Rewrite.{bound_expression, null_count_expression, comparison_falsifier, comparison_falsifiers, guarded, no_nan_by_count, no_nan_by_flag, is_comparable, is_float_placeholder, joined_proofs, either_there, both_there, as_list, outside, Shape, exact_text, beginning, no_shape, shape_of, shape_falsifier, like_falsifier, falsifier, satisfier}
+use Rattle.vortex_model.specs.Bounds.{raise}
 use Rattle.vortex_model.specs.Sound.{Placeholders}
-use Rattle.vortex_model.specs.Command.{expression_fault, unless, eq_optional_type, is_boolean}
-use Rattle.vortex_model.specs.Pruning.{has_no_like}
-use Rattle.vortex_model.proofs.ContentOrder.{true_left, true_right}
+use Rattle.vortex_model.specs.Command.{expression_fault, unless, eq_optional_type, is_boolean, is_utf8_type, is_supported_like}
 
 -- the answers agree on each placeholder of the proof
 abbrev pub AgreeOn : Placeholders → Placeholders → Expression → Type 0
@@ -91,27 +91,51 @@ module _ (k : LogicalType) (g h : Placeholders) (same : (x : Expression) → exp
     first_none (expression_fault k y) r (second_none (expression_fault k x) (or_else (expression_fault k y) r) e),
   )
 
-  pub falsifiers_agree : (e : Expression) → has_no_like e ≡ true → expression_fault k e ≡ None → AgreeIn g h (falsifier k e)
-  falsifiers_agree (literal l (boolean b)) w e = tt
-  falsifiers_agree (literal l c) w e = tt
-  falsifiers_agree (compare op x y) w e = let f = two_none x y (unless (eq_optional_type (expression_type k x) (expression_type k y)) unequal_types) e in comparisons_agree op x y f.0 f.1
-  falsifiers_agree (both x y) w e =
+  -- of LIKE
+
+  outside_agrees : (x : Expression) (below above : List ℕ) (op : Comparison) → expression_fault k x ≡ None → AgreeOn g h (outside x below above op)
+  outside_agrees x below above op e = ((bound_agrees min x e, tt), (bound_agrees max x e, tt))
+
+  shapes_agree : (x : Expression) (s : Shape) → expression_fault k x ≡ None → AgreeIn g h (shape_falsifier x s)
+  shapes_agree x (exact_text t) e = outside_agrees x (encode_utf8_all t) (encode_utf8_all t) greater e
+  shapes_agree x (beginning t) e = by_raised (raise (encode_utf8_all t))
+    where
+      by_raised : (o : Option (List ℕ)) → AgreeIn g h (option_map (λ above. outside x (encode_utf8_all t) above at_least) o)
+      by_raised None = tt
+      by_raised (Some above) = outside_agrees x (encode_utf8_all t) above at_least e
+  shapes_agree x no_shape e = tt
+
+  likes_agree : (x form : Expression) (negated ignores_case : Bool) → expression_fault k x ≡ None → AgreeIn g h (like_falsifier x form negated ignores_case)
+  likes_agree x (literal l (text bs)) false false e = shapes_agree x (shape_of (chars bs)) e
+  likes_agree x form negated ignores_case e = tt
+
+  listed_agrees : (o : Option Expression) → AgreeIn g h o → AgreeIn g h (joined_proofs (as_list o))
+  listed_agrees None a = tt
+  listed_agrees (Some proof) a = a
+
+  pub falsifiers_agree : (e : Expression) → expression_fault k e ≡ None → AgreeIn g h (falsifier k e)
+  falsifiers_agree (literal l (boolean b)) e = tt
+  falsifiers_agree (literal l c) e = tt
+  falsifiers_agree (compare op x y) e = let f = two_none x y (unless (eq_optional_type (expression_type k x) (expression_type k y)) unequal_types) e in comparisons_agree op x y f.0 f.1
+  falsifiers_agree (both x y) e =
       let f = two_none x y (unless (is_boolean (expression_type k x) && is_boolean (expression_type k y)) not_boolean) e in
-      either_agrees (falsifier k x) (falsifier k y) (falsifiers_agree x (true_left (has_no_like x) (has_no_like y) w) f.0) (falsifiers_agree y (true_right (has_no_like x) (has_no_like y) w) f.1)
-  falsifiers_agree (either x y) w e =
+      either_agrees (falsifier k x) (falsifier k y) (falsifiers_agree x f.0) (falsifiers_agree y f.1)
+  falsifiers_agree (either x y) e =
       let f = two_none x y (unless (is_boolean (expression_type k x) && is_boolean (expression_type k y)) not_boolean) e in
-      both_agree (falsifier k x) (falsifier k y) (falsifiers_agree x (true_left (has_no_like x) (has_no_like y) w) f.0) (falsifiers_agree y (true_right (has_no_like x) (has_no_like y) w) f.1)
-  falsifiers_agree (between x lo hi s u) w e =
+      both_agree (falsifier k x) (falsifier k y) (falsifiers_agree x f.0) (falsifiers_agree y f.1)
+  falsifiers_agree (between x lo hi s u) e =
       let r = unless (eq_optional_type (expression_type k x) (expression_type k lo) && eq_optional_type (expression_type k x) (expression_type k hi)) unequal_types in
       let f = two_none x lo (or_else (expression_fault k hi) r) e in
       let i = first_none (expression_fault k hi) r (second_none (expression_fault k lo) (or_else (expression_fault k hi) r) (second_none (expression_fault k x) (or_else (expression_fault k lo) (or_else (expression_fault k hi) r)) e)) in
       either_agrees (joined_proofs (comparison_falsifiers k (end_of s) lo x)) (joined_proofs (comparison_falsifiers k (end_of u) x hi))
       (comparisons_agree (end_of s) lo x f.1 f.0) (comparisons_agree (end_of u) x hi f.0 i)
-  falsifiers_agree (is_null x) w e = ((nulls_agree x e, tt), same x e all_non_null)
-  falsifiers_agree (is_not_null x) w e = ((nulls_agree x e, tt), same x e all_null)
-  falsifiers_agree (is_nan x) w e = let f = first_none (expression_fault k x) (Some unsupported_predicate) e in let s = second_none (expression_fault k x) (Some unsupported_predicate) e in absurd (cc (s))
-  falsifiers_agree (like x form negated ignores_case) w e = absurd (cc (w))
-  falsifiers_agree e w f = tt
+  falsifiers_agree (is_null x) e = ((nulls_agree x e, tt), same x e all_non_null)
+  falsifiers_agree (is_not_null x) e = ((nulls_agree x e, tt), same x e all_null)
+  falsifiers_agree (is_nan x) e = let f = first_none (expression_fault k x) (Some unsupported_predicate) e in let s = second_none (expression_fault k x) (Some unsupported_predicate) e in absurd (cc (s))
+  falsifiers_agree (like x form negated ignores_case) e =
+      listed_agrees (like_falsifier x form negated ignores_case) (likes_agree x form negated ignores_case (first_none (expression_fault k x) (or_else (expression_fault k form) (or_else
+      (unless (is_utf8_type (expression_type k x) && is_utf8_type (expression_type k form)) unequal_types) (unless (is_supported_like form ignores_case) unsupported_like))) e))
+  falsifiers_agree e f = tt
 
   pub satisfiers_agree : (e : Expression) → expression_fault k e ≡ None → AgreeIn g h (satisfier k e)
   satisfiers_agree (literal l (boolean b)) e = tt

@@ -24,7 +24,7 @@ use Rattle.vortex_table_chunk.specs.zones.Sums.{int_kind_of, eq_sum_kind}
 use Rattle.vortex_table_chunk.specs.zones.Join.{AreNeighbours, IsJoinOf, CanJoin, AreJoinsOf, zone_in}
 use Rattle.vortex_table_chunk.specs.Bounds.{column_at, AreBoundsOf, are_sums_of}
 use Rattle.vortex_table_schema.specs.Rows.{row_content}
-use Rattle.vortex_table_chunk.specs.Joined.{IsJoined, AreJoined, rows_in}
+use Rattle.vortex_table_chunk.specs.Joined.{IsLeafAt, IsJoined, AreJoined, rows_in}
 use Rattle.vortex_table_chunk.proofs.ProvenAlike.{all_of_type}
 use Rattle.vortex_table_chunk.proofs.zones.Forms.{FormIn, both_compare, group_low_form, group_high_form}
 
@@ -47,7 +47,7 @@ same_kind i32 i32 h = refl
 same_kind i64 i64 h = refl
 same_kind i j h = absurd (cc (h))
 
-same_sum_kind : (o p : Option IntKind) → eq_sum_kind o p ≡ true → o ≡ p
+pub same_sum_kind : (o p : Option IntKind) → eq_sum_kind o p ≡ true → o ≡ p
 same_sum_kind None None h = refl
 same_sum_kind (Some i) (Some j) h = ap Some (same_kind i j h)
 same_sum_kind o p h = absurd (cc (h))
@@ -57,34 +57,38 @@ kind_there k is part e = ap (λ o. elim o [ None ↦ null_only | Some t ↦ t ])
 
 -- ---- one chunk
 
-module _ (k : LogicalType) (L : ℕ) (rows : List ScalarValue) (typed : AllByRecursion (IsContent k) (map row_content rows)) where
+module _ (k : LogicalType) (L : Positions → ℕ) (rows : List ScalarValue) (typed : AllByRecursion (IsContent k) (map row_content rows)) where
   abbrev said : List Content
   said = map row_content rows
 
   column_length : (is : Positions) → rows_in (said ∷ []) ≡ length (column_at is rows)
   column_length is = one_row_count (length said) ∙ sym (length-map said (λ row. at row is))
 
-  one_joined : (is : Positions) (b : ColumnBounds) → IsBoundsOf L b (column_at is rows) → int_kind_of b.sum_type ≡ sum_kind (kind_at k is) → IsJoined k L is b (said ∷ [])
+  -- the statistics of a leaf are its zone map
+  pub one_zone : (is : Positions) (b : ColumnBounds) → IsBoundsOf (L is) b (column_at is rows) → int_kind_of b.sum_type ≡ sum_kind (kind_at k is) → (part : LogicalType) → IsLeafAt k is part →
+      zone_of part (L is) (column_at is rows) ≡ zone_in b (rows_in (said ∷ []))
+  one_zone is b honest sums part leaf =
+      let cs = column_at is rows in
+      let compare = leaves_compare part cs leaf.leaf (all_at_type k is part said leaf.there typed) in
+      sym (λ i. record {
+        low = honest.low compare i;
+        high = honest.high compare i;
+        nulls = honest.nulls i;
+        rows = column_length is i;
+        total = (honest.total ∙ ap (λ o. sum_in o (sum_of cs)) (sums ∙ ap sum_kind (kind_there k is part leaf.there))) i;
+        constant = honest.constant compare i;
+      })
+
+  one_joined : (is : Positions) (b : ColumnBounds) → IsBoundsOf (L is) b (column_at is rows) → int_kind_of b.sum_type ≡ sum_kind (kind_at k is) → IsJoined k L is b (said ∷ [])
   one_joined is b honest sums = record {
-    made = λ part leaf. (
-        let cs = column_at is rows in
-        let compare = leaves_compare part cs leaf.leaf (all_at_type k is part said leaf.there typed) in
-        let z : zone_of part L cs ≡ zone_in b (rows_in (said ∷ [])) = sym (λ i. record {
-          low = honest.low compare i;
-          high = honest.high compare i;
-          nulls = honest.nulls i;
-          rows = column_length is i;
-          total = (honest.total ∙ ap (λ o. sum_in o (sum_of cs)) (sums ∙ ap sum_kind (kind_there k is part leaf.there))) i;
-          constant = honest.constant compare i;
-        }) in
-        (alone (zone_of part L cs), refl, z));
+    made = λ part leaf. (alone (zone_of part (L is) (column_at is rows)), refl, one_zone is b honest sums part leaf);
     nulls = (
         let count = count_by-le-length is_null (column_at is rows) in let same = column_length is in let kept = honest.nulls in
         omega (arith, count, same, kept));
     sums = sums;
   }
 
-  pub chunk_joined : (leaves : List Positions) (bounds : List ColumnBounds) → AreBoundsOf L leaves bounds rows → are_sums_of k leaves bounds ≡ true → AreJoined k L leaves bounds (said ∷ [])
+  pub chunk_joined : (leaves : List Positions) (bounds : List ColumnBounds) → AreBoundsOf (map L leaves) leaves bounds rows → are_sums_of k leaves bounds ≡ true → AreJoined k L leaves bounds (said ∷ [])
   chunk_joined [] [] h g = tt
   chunk_joined [] (b ∷ bounds) h g = absurd h
   chunk_joined (is ∷ leaves) [] h g = absurd h
@@ -96,32 +100,38 @@ module _ (k : LogicalType) (L : ℕ) (rows : List ScalarValue) (typed : AllByRec
 
 -- ---- two neighbours
 
-module _ (k : LogicalType) (L : ℕ) (xs ys : List (List Content)) (front : AllByRecursion (λ chunk. AllByRecursion (IsContent k) chunk) xs) (back : AllByRecursion (λ chunk. AllByRecursion (IsContent k) chunk) ys) where
+module _ (k : LogicalType) (L : Positions → ℕ) (xs ys : List (List Content)) (front : AllByRecursion (λ chunk. AllByRecursion (IsContent k) chunk) xs) (back : AllByRecursion (λ chunk. AllByRecursion (IsContent k) chunk) ys) where
   abbrev m : ℕ
   m = rows_in xs
 
   abbrev n : ℕ
   n = rows_in ys
 
+  -- the statistics of both are of one column
+  pub neighbours : (is : Positions) (a b : ColumnBounds) → IsJoined k L is a xs → IsJoined k L is b ys → (part : LogicalType) → IsLeafAt k is part → AreNeighbours part a b
+  neighbours is a b left right part leaf =
+      let p = left.made part leaf in let q = right.made part leaf in
+      let us = map (values_at is) xs in let vs = map (values_at is) ys in
+      let typed_us = all_of_type k is part xs leaf.there front in let typed_vs = all_of_type k is part ys leaf.there back in
+      let has_us = bounds_of_column part (L is) us p.0 leaf.leaf typed_us p.1 in
+      let has_vs = bounds_of_column part (L is) vs q.0 leaf.leaf typed_vs q.1 in
+      let low_a : FormIn part (value_in (bound_in a.low)) = subst (λ x. FormIn part (value_in x)) (sym has_us.low ∙ ap (λ z. z.low) p.2) (group_low_form part (L is) leaf.leaf us typed_us) in
+      let low_b : FormIn part (value_in (bound_in b.low)) = subst (λ x. FormIn part (value_in x)) (sym has_vs.low ∙ ap (λ z. z.low) q.2) (group_low_form part (L is) leaf.leaf vs typed_vs) in
+      let high_a : FormIn part (value_in (bound_in a.high)) = subst (λ x. FormIn part (value_in x)) (sym has_us.high ∙ ap (λ z. z.high) p.2) (group_high_form part (L is) leaf.leaf us typed_us) in
+      let high_b : FormIn part (value_in (bound_in b.high)) = subst (λ x. FormIn part (value_in x)) (sym has_vs.high ∙ ap (λ z. z.high) q.2) (group_high_form part (L is) leaf.leaf vs typed_vs) in record {
+        lows = both_compare part (bound_in a.low) (bound_in b.low) low_a low_b;
+        highs = both_compare part (bound_in a.high) (bound_in b.high) high_a high_b;
+        sums = left.sums ∙ ap sum_kind (kind_there k is part leaf.there);
+      }
+
   two_joined : (is : Positions) (a b j : ColumnBounds) → IsJoined k L is a xs → IsJoined k L is b ys → IsJoinOf a b j → IsJoined k L is j (xs ++ ys)
   two_joined is a b j left right both = record {
     made = λ part leaf. (
         let p = left.made part leaf in let q = right.made part leaf in
         let us = map (values_at is) xs in let vs = map (values_at is) ys in
-        let typed_us = all_of_type k is part xs leaf.there front in let typed_vs = all_of_type k is part ys leaf.there back in
-        let has_us = bounds_of_column part L us p.0 leaf.leaf typed_us p.1 in
-        let has_vs = bounds_of_column part L vs q.0 leaf.leaf typed_vs q.1 in
-        let low_a : FormIn part (value_in (bound_in a.low)) = subst (λ x. FormIn part (value_in x)) (sym has_us.low ∙ ap (λ z. z.low) p.2) (group_low_form part L leaf.leaf us typed_us) in
-        let low_b : FormIn part (value_in (bound_in b.low)) = subst (λ x. FormIn part (value_in x)) (sym has_vs.low ∙ ap (λ z. z.low) q.2) (group_low_form part L leaf.leaf vs typed_vs) in
-        let high_a : FormIn part (value_in (bound_in a.high)) = subst (λ x. FormIn part (value_in x)) (sym has_us.high ∙ ap (λ z. z.high) p.2) (group_high_form part L leaf.leaf us typed_us) in
-        let high_b : FormIn part (value_in (bound_in b.high)) = subst (λ x. FormIn part (value_in x)) (sym has_vs.high ∙ ap (λ z. z.high) q.2) (group_high_form part L leaf.leaf vs typed_vs) in
-        let near : AreNeighbours part a b = record {
-          lows = both_compare part (bound_in a.low) (bound_in b.low) low_a low_b;
-          highs = both_compare part (bound_in a.high) (bound_in b.high) high_a high_b;
-          sums = left.sums ∙ ap sum_kind (kind_there k is part leaf.there);
-        } in (
+        let near = neighbours is a b left right part leaf in (
           together p.0 q.0,
-          (λ i. p.1 i ++ q.1 i) ∙ sym (ap (map (zone_of part L)) (map-append (values_at is) xs ys) ∙ map-append (zone_of part L) us vs),
+          (λ i. p.1 i ++ q.1 i) ∙ sym (ap (map (zone_of part (L is))) (map-append (values_at is) xs ys) ∙ map-append (zone_of part (L is)) us vs),
           (λ i. joined part (p.2 i) (q.2 i)) ∙ sym (both.zone part m n near) ∙ ap (zone_in j) (rows_append xs ys),
         ));
     nulls = (
@@ -130,7 +140,7 @@ module _ (k : LogicalType) (L : ℕ) (xs ys : List (List Content)) (front : AllB
     sums = ap int_kind_of both.sum_type ∙ left.sums;
   }
 
-  all_joined_up : (leaves : List Positions) (left right all : List ColumnBounds) → AreJoined k L leaves left xs → AreJoined k L leaves right ys → AreJoinsOf left right all → AreJoined k L leaves all (xs ++ ys)
+  pub all_joined_up : (leaves : List Positions) (left right all : List ColumnBounds) → AreJoined k L leaves left xs → AreJoined k L leaves right ys → AreJoinsOf left right all → AreJoined k L leaves all (xs ++ ys)
   all_joined_up [] [] [] [] h g j = tt
   all_joined_up (is ∷ leaves) (a ∷ left) (b ∷ right) (c ∷ all) h g j = (two_joined is a b c h.0 g.0 j.0, all_joined_up leaves left right all h.1 g.1 j.1)
   all_joined_up [] [] [] (c ∷ all) h g j = absurd j
@@ -151,7 +161,7 @@ CanJoin-prop [] [] = Unit-prop
 CanJoin-prop (a ∷ left) (b ∷ right) = ×_prop le_prop (CanJoin-prop left right)
 CanJoin-prop left right = λ p q. absurd p
 
-can_join : (k : LogicalType) (L : ℕ) (xs ys : List (List Content)) → rows_in xs + rows_in ys < 2 ^ 64 → (leaves : List Positions) (left right : List ColumnBounds) →
+can_join : (k : LogicalType) (L : Positions → ℕ) (xs ys : List (List Content)) → rows_in xs + rows_in ys < 2 ^ 64 → (leaves : List Positions) (left right : List ColumnBounds) →
     AreJoined k L leaves left xs → AreJoined k L leaves right ys → CanJoin left right
 can_join k L xs ys few [] [] [] h g = tt
 can_join k L xs ys few (is ∷ leaves) (a ∷ left) (b ∷ right) h g =
@@ -161,7 +171,7 @@ can_join k L xs ys few [] (a ∷ left) right h g = absurd h
 can_join k L xs ys few (is ∷ leaves) [] right h g = absurd h
 can_join k L xs ys few (is ∷ leaves) (a ∷ left) [] h g = absurd g
 
-pub groups_can_join : (k : LogicalType) (L : ℕ) (xs ys : List (List Content)) (leaves : List Positions) (left right : List ColumnBounds) → rows_in xs + rows_in ys < 2 ^ 64 →
+pub groups_can_join : (k : LogicalType) (L : Positions → ℕ) (xs ys : List (List Content)) (leaves : List Positions) (left right : List ColumnBounds) → rows_in xs + rows_in ys < 2 ^ 64 →
     ∥ AreJoined k L leaves left xs ∥₁ → ∥ AreJoined k L leaves right ys ∥₁ → CanJoin left right
 groups_can_join k L xs ys leaves left right few h g =
     ∥∥₁_elim h (CanJoin-prop left right) (λ p. ∥∥₁_elim g (CanJoin-prop left right) (λ q. can_join k L xs ys few leaves left right p q))

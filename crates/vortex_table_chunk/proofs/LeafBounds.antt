@@ -1,5 +1,5 @@
 -- The bounds that belong to the leaves.
-use Rattle.std.proofs.Common.{◌≡◌, refl, sym, ◌∙◌, ap, subst, zero, suc, ℕ, ◌+◌, ◌<◌, List, [], ◌∷◌, ◌++◌, length, take, drop, get_or, slice_get, Bool, true, false, ◌&&◌, ◌||◌, Option, Some, None, if◌then◌else◌, add-one, arith}
+use Rattle.std.proofs.Common.{◌≡◌, refl, sym, ◌∙◌, ap, subst, zero, suc, ℕ, ◌+◌, ◌<◌, List, [], ◌∷◌, ◌++◌, length, map, take, drop, get_or, slice_get, Bool, true, false, ◌&&◌, ◌||◌, Option, Some, None, if◌then◌else◌, add-one, arith}
 use Rattle.std.proofs.lemmas.List.{take_more}
 use Rattle.vortex_model.specs.LogicalType.{LogicalType, IntKind, u8, u16, u32, u64, i8, i16, i32, i64, eq_int_kind}
 use Rattle.vortex_model.specs.Path.{Positions, eq_positions}
@@ -41,17 +41,19 @@ passed_over leaves bounds is i leaf all h e other before =
     ∙ sym (bounds_from leaves bounds is i leaf h e ∙ ap (λ b. if b then slice_get bounds i else bounds_at (drop (suc i) leaves) (drop (suc i) bounds) is) other) ∙ before
 
 -- bounds of one more leaf
-pub one_more_leaf : (L : ℕ) (leaves : List Positions) (bounds : List ColumnBounds) (is : Positions) (b : ColumnBounds) (rows : List ScalarValue) → AreBoundsOf L leaves bounds rows → IsBoundsOf L b (column_at is rows) →
-    AreBoundsOf L (leaves ++ is ∷ []) (bounds ++ b ∷ []) rows
-one_more_leaf L [] [] is b rows h g = (g, tt)
-one_more_leaf L (js ∷ leaves) (d ∷ bounds) is b rows h g = (h.0, one_more_leaf L leaves bounds is b rows h.1 g)
-one_more_leaf L leaves bounds is b rows h g = absurd h
+pub one_more_leaf : (L : ℕ) (lengths : List ℕ) (leaves : List Positions) (bounds : List ColumnBounds) (is : Positions) (b : ColumnBounds) (rows : List ScalarValue) → AreBoundsOf lengths leaves bounds rows →
+    IsBoundsOf L b (column_at is rows) → AreBoundsOf (lengths ++ L ∷ []) (leaves ++ is ∷ []) (bounds ++ b ∷ []) rows
+one_more_leaf L [] [] [] is b rows h g = (g, tt)
+one_more_leaf L (M ∷ lengths) (js ∷ leaves) (d ∷ bounds) is b rows h g = (h.0, one_more_leaf L lengths leaves bounds is b rows h.1 g)
+one_more_leaf L lengths leaves bounds is b rows h g = absurd h
 
-pub leaf_pushed : (L : ℕ) (leaves : List Positions) (i : ℕ) (leaf : Positions) (old new : List ColumnBounds) (b : ColumnBounds) (rows : List ScalarValue) → i < length leaves → leaf ≡ get_or leaves i leaf → new ≡ old ++ b ∷ [] →
-    AreBoundsOf L (take i leaves) old rows → IsBoundsOf L b (column_at leaf rows) → AreBoundsOf L (take (i + 1) leaves) new rows
-leaf_pushed L leaves i leaf old new b rows h is made before g =
-    subst (λ ls. AreBoundsOf L ls new rows) (sym (take_more leaves i leaf h ∙ ap (λ l. take i leaves ++ l ∷ []) (sym is)))
-    (subst (λ bs. AreBoundsOf L (take i leaves ++ leaf ∷ []) bs rows) (sym made) (one_more_leaf L (take i leaves) old leaf b rows before g))
+pub leaf_pushed : (lengths : List ℕ) (leaves : List Positions) (i d L : ℕ) (leaf : Positions) (old new : List ColumnBounds) (b : ColumnBounds) (rows : List ScalarValue) → i < length lengths → L ≡ get_or lengths i d →
+    i < length leaves → leaf ≡ get_or leaves i leaf → new ≡ old ++ b ∷ [] →
+    AreBoundsOf (take i lengths) (take i leaves) old rows → IsBoundsOf L b (column_at leaf rows) → AreBoundsOf (take (i + 1) lengths) (take (i + 1) leaves) new rows
+leaf_pushed lengths leaves i d L leaf old new b rows g at_i h is made before own =
+    subst (λ ns. AreBoundsOf ns (take (i + 1) leaves) new rows) (sym (take_more lengths i d g ∙ ap (λ n. take i lengths ++ n ∷ []) (sym at_i)))
+    (subst (λ ls. AreBoundsOf (take i lengths ++ L ∷ []) ls new rows) (sym (take_more leaves i leaf h ∙ ap (λ l. take i leaves ++ l ∷ []) (sym is)))
+    (subst (λ bs. AreBoundsOf (take i lengths ++ L ∷ []) (take i leaves ++ leaf ∷ []) bs rows) (sym made) (one_more_leaf L (take i lengths) (take i leaves) old leaf b rows before own)))
 
 -- the sum of one more leaf
 abbrev is_sum_of : LogicalType → Positions → ColumnBounds → Bool
@@ -85,12 +87,12 @@ sum_pushed k leaves i leaf old new b h is made before g =
     ∙ one_more_sum k (take i leaves) old leaf b before (ap (λ o. eq_sum_kind o (sum_kind (kind_at k leaf))) g ∙ kind_itself (sum_kind (kind_at k leaf)))
 
 -- the bounds of a leaf that is there
-pub record Found (L : ℕ) (leaves : List Positions) (bounds : List ColumnBounds) (rows : List ScalarValue) (is : Positions) : Type 0 where
+pub record Found (L : Positions → ℕ) (leaves : List Positions) (bounds : List ColumnBounds) (rows : List ScalarValue) (is : Positions) : Type 0 where
   pub bounds_of : ColumnBounds
   pub there : bounds_at leaves bounds is ≡ Some bounds_of
-  pub honest : IsBoundsOf L bounds_of (column_at is rows)
+  pub honest : IsBoundsOf (L is) bounds_of (column_at is rows)
 
-pub found_among : (L : ℕ) (leaves : List Positions) (bounds : List ColumnBounds) (rows : List ScalarValue) (is : Positions) → AreBoundsOf L leaves bounds rows → is_among leaves is ≡ true → Found L leaves bounds rows is
+pub found_among : (L : Positions → ℕ) (leaves : List Positions) (bounds : List ColumnBounds) (rows : List ScalarValue) (is : Positions) → AreBoundsOf (map L leaves) leaves bounds rows → is_among leaves is ≡ true → Found L leaves bounds rows is
 found_among L [] bounds rows is h g = absurd (cc (g))
 found_among L (js ∷ leaves) [] rows is h g = absurd h
 found_among L (js ∷ leaves) (b ∷ bounds) rows is h g = by_test (eq_positions js is) refl g (found_among L leaves bounds rows is h.1)
@@ -99,10 +101,25 @@ found_among L (js ∷ leaves) (b ∷ bounds) rows is h g = by_test (eq_positions
     by_test true e s f = record {
       bounds_of = b;
       there = ap (λ t. if t then Some b else bounds_at leaves bounds is) e;
-      honest = subst (λ ks. IsBoundsOf L b (column_at ks rows)) (positions_so js is e) h.0;
+      honest = subst (λ ks. IsBoundsOf (L ks) b (column_at ks rows)) (positions_so js is e) h.0;
     }
     by_test false e s f = record {
       bounds_of = (f s).bounds_of;
       there = ap (λ t. if t then Some b else bounds_at leaves bounds is) e ∙ (f s).there;
       honest = (f s).honest;
     }
+
+-- what is found at a position are the bounds of its leaf
+pub found_bounds : (L : Positions → ℕ) (leaves : List Positions) (bounds : List ColumnBounds) (rows : List ScalarValue) (is : Positions) (b : ColumnBounds) → AreBoundsOf (map L leaves) leaves bounds rows →
+    bounds_at leaves bounds is ≡ Some b → IsBoundsOf (L is) b (column_at is rows)
+found_bounds L [] bounds rows is b h e = absurd (cc (e))
+found_bounds L (js ∷ leaves) [] rows is b h e = absurd h
+found_bounds L (js ∷ leaves) (d ∷ bounds) rows is b h e = by_test (eq_positions js is) refl e (found_bounds L leaves bounds rows is b h.1)
+  where
+    same : (x y : ColumnBounds) → Some x ≡ Some y → x ≡ y
+    same x y s = cc (s)
+
+    by_test : (t : Bool) → eq_positions js is ≡ t → ◌≡◌ {A = Option ColumnBounds} (if t then Some d else bounds_at leaves bounds is) (Some b) →
+        (bounds_at leaves bounds is ≡ Some b → IsBoundsOf (L is) b (column_at is rows)) → IsBoundsOf (L is) b (column_at is rows)
+    by_test true at s f = subst (λ x. IsBoundsOf (L is) x (column_at is rows)) (same d b s) (subst (λ ks. IsBoundsOf (L ks) d (column_at ks rows)) (positions_so js is at) h.0)
+    by_test false at s f = f s

@@ -1,6 +1,9 @@
 pub mod Agreement
+pub mod EqualLeaves
+pub mod Formed
 pub mod InColumn
 pub mod JoinLists
 pub mod JoinedLemmas
 pub mod LeafBounds
 pub mod ProvenAlike
+pub mod TypedRows

@@ -9,7 +9,6 @@ use Rattle.vortex_model.specs.Refusal.{Refusal, not_a_leaf}
 use Rattle.vortex_model.specs.Kept.{is_leaf}
 use Rattle.vortex_model.specs.Path.{Names, Positions, positions, type_at, eq_positions}
 use Rattle.vortex_model.specs.Rewrite.{falsifier, satisfier}
-use Rattle.vortex_model.specs.Pruning.{has_no_like}
 use Rattle.vortex_model.specs.ZoneMap.{ZoneMap, zone_of, values_at, group_bounds}
 use Rattle.vortex_model.specs.Expression.{Expression, column, like, Aggregate}
 use Rattle.vortex_model.specs.Truth.{Given, evaluate, is_true}
@@ -20,11 +19,10 @@ use Rattle.vortex_model.specs.Command.{expression_fault, column_fault, unless}
 use Rattle.vortex_model.proofs.Columns.{all_at_type}
 use Rattle.vortex_table_schema.specs.Leaves.{leaf_positions}
 use Rattle.vortex_table_schema.proofs.Places.{is_among, leaf_there, positions_so}
-use Rattle.vortex_table_chunk.specs.zones.Bounds.{IsBoundsOf}
 use Rattle.vortex_table_chunk.specs.declared.zones.bounds.ColumnBounds.{ColumnBounds}
 use Rattle.vortex_table_chunk.proofs.zones.StatValueLemmas.{stat_values_are_right, stat_values_alike}
 use Rattle.vortex_stats_bind.specs.Bound.{Bound, Provided, evaluate_bound, bound_of, bound_column, by_names}
-use Rattle.vortex_table_chunk.specs.Bounds.{column_at}
+use Rattle.vortex_table_chunk.specs.Bounds.{column_at, AreBoundsOf}
 use Rattle.vortex_table_schema.specs.Rows.{row_content}
 use Rattle.vortex_table_chunk.specs.Chunk.{chunk_rows}
 use Rattle.vortex_table_chunk.specs.BoundStat.{stat_value_or_null, zone_stat, zone_provided, bounds_at}
@@ -99,16 +97,16 @@ module _ (k : LogicalType) (leaves : List Positions) (bounds : List ColumnBounds
   abbrev nothing_else : Given
   nothing_else = record { columns = λ xs. null; placeholders = given; rows = rows }
 
-  by_bounds : by_names k provided rows ≡ nothing_else
+  by_bounds : by_names k provided ≡ nothing_else
   by_bounds = λ i. record { columns = λ xs. no_column (positions k xs) i; placeholders = given; rows = rows }
 
   proved_same : (o : Option Expression) (b : Option Bound) → IsBoundProof k o b → AgreeIn given shown o → proved_in provided b ≡ proves zones rows o
   proved_same None None is a = refl
-  proved_same (Some proof) (Some bound) is a = ap is_true (is provided rows ∙ ap (λ g. evaluate g proof) by_bounds ∙ eq_value k given shown said_same rows proof a)
+  proved_same (Some proof) (Some bound) is a = ap is_true (is provided ∙ ap (λ g. evaluate g proof) by_bounds ∙ eq_value k given shown said_same rows proof a)
   proved_same o b is a = absurd is
 
-  pub falsified_same : (e : Expression) (b : Option Bound) → IsBoundProof k (falsifier k e) b → has_no_like e ≡ true → expression_fault k e ≡ None → proved_in provided b ≡ proves zones rows (falsifier k e)
-  falsified_same e b is no_like no_fault = proved_same (falsifier k e) b is (falsifiers_agree k given shown said_same e no_like no_fault)
+  pub falsified_same : (e : Expression) (b : Option Bound) → IsBoundProof k (falsifier k e) b → expression_fault k e ≡ None → proved_in provided b ≡ proves zones rows (falsifier k e)
+  falsified_same e b is no_fault = proved_same (falsifier k e) b is (falsifiers_agree k given shown said_same e no_fault)
 
   pub satisfied_same : (e : Expression) (b : Option Bound) → IsBoundProof k (satisfier k e) b → expression_fault k e ≡ None → proved_in provided b ≡ proves zones rows (satisfier k e)
   satisfied_same e b is no_fault = proved_same (satisfier k e) b is (satisfiers_agree k given shown said_same e no_fault)
@@ -124,7 +122,7 @@ is_leaf_among k leaves xs own led = ap (λ ls. is_among ls own.place) led ∙ le
 -- ---- of a chunk with the leaves and the bound length of a table, whose rows are of its type
 
 module _ (t : Table) (chunk : Chunk) (of_type : AllByRecursion (IsContent t.kind) (chunk_rows chunk)) (led : chunk.leaves.value.items ≡ leaf_positions t.kind)
-    (long : (is : Positions) → chunk.bound_length ≡ bound_length t is) where
+    (long : chunk.lengths.value.items ≡ map (bound_length t) chunk.leaves.value.items) where
   abbrev rows : List Content
   rows = chunk_rows chunk
 
@@ -134,27 +132,28 @@ module _ (t : Table) (chunk : Chunk) (of_type : AllByRecursion (IsContent t.kind
   abbrev bounds : List ColumnBounds
   bounds = chunk.bounds.items
 
-  of_leaf : (xs : Names) (own : LeafAt t.kind (positions t.kind xs)) → Found chunk.bound_length leaves bounds chunk.rows.items own.place → (a : Aggregate) →
+  of_leaf : (xs : Names) (own : LeafAt t.kind (positions t.kind xs)) → Found (bound_length t) leaves bounds chunk.rows.items own.place → (a : Aggregate) →
       bound_stat t.kind leaves bounds (length rows) (column xs) a ≡ known (chunk_zone t rows) (length rows) (column xs) a
   of_leaf xs own found a =
       ap (λ o. zone_stat leaves bounds (length rows) (bound_column o) a) own.only ∙ ap (λ o. stat_value_or_null o (length rows) a) found.there
       ∙ stat_values_are_right found.bounds_of own.type (bound_length t own.place) (length rows) (column_at own.place chunk.rows.items) own.leaf
       (all_at_type t.kind own.place own.type rows own.there of_type)
-      (subst (λ L. IsBoundsOf L found.bounds_of (column_at own.place chunk.rows.items)) (long own.place) found.honest) xs (chunk_zone t rows)
+      found.honest xs (chunk_zone t rows)
       (ap (option_map (λ (leaf : Positions × LogicalType). chunk_zone_at t rows leaf.0 leaf.1)) (leaf_of_path t.kind xs own)) a
 
   of_own : (xs : Names) → LeafAt t.kind (positions t.kind xs) → (a : Aggregate) → bound_stat t.kind leaves bounds (length rows) (column xs) a ≡ known (chunk_zone t rows) (length rows) (column xs) a
   of_own xs own a =
-      of_leaf xs own (found_among chunk.bound_length leaves bounds chunk.rows.items own.place chunk.honest (is_leaf_among t.kind leaves xs own led)) a
+      of_leaf xs own
+      (found_among (bound_length t) leaves bounds chunk.rows.items own.place (subst (λ lengths. AreBoundsOf lengths leaves bounds chunk.rows.items) long chunk.honest) (is_leaf_among t.kind leaves xs own led)) a
 
   as_many_rows : length chunk.rows.items ≡ length rows
   as_many_rows = sym (length-map chunk.rows.items row_content)
 
-  pub chunk_falsified : (e : Expression) (b : Option Bound) → IsBoundProof t.kind (falsifier t.kind e) b → has_no_like e ≡ true → expression_fault t.kind e ≡ None →
+  pub chunk_falsified : (e : Expression) (b : Option Bound) → IsBoundProof t.kind (falsifier t.kind e) b → expression_fault t.kind e ≡ None →
       proved_in (chunk_provided chunk) b ≡ proves (chunk_zone t rows) (length rows) (falsifier t.kind e)
-  chunk_falsified e b is no_like no_fault =
+  chunk_falsified e b is no_fault =
       ap (λ n. proved_in (zone_provided leaves bounds n) b) as_many_rows
-      ∙ falsified_same t.kind leaves bounds (length rows) (chunk_zone t rows) of_own e b is no_like no_fault
+      ∙ falsified_same t.kind leaves bounds (length rows) (chunk_zone t rows) of_own e b is no_fault
 
   pub chunk_satisfied : (e : Expression) (b : Option Bound) → IsBoundProof t.kind (satisfier t.kind e) b → expression_fault t.kind e ≡ None →
       proved_in (chunk_provided chunk) b ≡ proves (chunk_zone t rows) (length rows) (satisfier t.kind e)
@@ -164,12 +163,12 @@ module _ (t : Table) (chunk : Chunk) (of_type : AllByRecursion (IsContent t.kind
 
 -- ---- of a group, whose statistics are those of its chunks joined
 
-pub record FoundJoined (k : LogicalType) (L : ℕ) (leaves : List Positions) (bounds : List ColumnBounds) (chunks : List (List Content)) (is : Positions) : Type 0 where
+pub record FoundJoined (k : LogicalType) (L : Positions → ℕ) (leaves : List Positions) (bounds : List ColumnBounds) (chunks : List (List Content)) (is : Positions) : Type 0 where
   pub bounds_of : ColumnBounds
   pub there : bounds_at leaves bounds is ≡ Some bounds_of
   pub joined : IsJoined k L is bounds_of chunks
 
-pub found_joined : (k : LogicalType) (L : ℕ) (leaves : List Positions) (bounds : List ColumnBounds) (chunks : List (List Content)) (is : Positions) → AreJoined k L leaves bounds chunks → is_among leaves is ≡ true →
+pub found_joined : (k : LogicalType) (L : Positions → ℕ) (leaves : List Positions) (bounds : List ColumnBounds) (chunks : List (List Content)) (is : Positions) → AreJoined k L leaves bounds chunks → is_among leaves is ≡ true →
     FoundJoined k L leaves bounds chunks is
 found_joined k L [] bounds chunks is h g = absurd (cc (g))
 found_joined k L (js ∷ leaves) [] chunks is h g = absurd h
@@ -193,18 +192,18 @@ all_of_type k is u [] e h = tt
 all_of_type k is u (chunk ∷ chunks) e h = (all_at_type k is u chunk e h.0, all_of_type k is u chunks e h.1)
 
 module _ (t : Table) (bounds : List ColumnBounds) (chunks : List (List Content)) (of_type : AllByRecursion (λ chunk. AllByRecursion (IsContent t.kind) chunk) chunks)
-    (long : (is : Positions) → t.default ≡ bound_length t is) (joined : ∥ AreJoined t.kind t.default (leaf_positions t.kind) bounds chunks ∥₁) where
+    (joined : ∥ AreJoined t.kind (bound_length t) (leaf_positions t.kind) bounds chunks ∥₁) where
   abbrev all : List Positions
   all = leaf_positions t.kind
 
   abbrev many : ℕ
   many = rows_in chunks
 
-  of_joined : (xs : Names) (own : LeafAt t.kind (positions t.kind xs)) → FoundJoined t.kind t.default all bounds chunks own.place → (a : Aggregate) →
+  of_joined : (xs : Names) (own : LeafAt t.kind (positions t.kind xs)) → FoundJoined t.kind (bound_length t) all bounds chunks own.place → (a : Aggregate) →
       bound_stat t.kind all bounds many (column xs) a ≡ known (group_zone t chunks) many (column xs) a
   of_joined xs own found a =
       let u = own.type in let is = own.place in let b = found.bounds_of in
-      let columns = map (values_at is) chunks in let L = t.default in
+      let columns = map (values_at is) chunks in let L = bound_length t is in
       let typed = all_of_type t.kind is u chunks own.there of_type in
       let made = found.joined.made u (record { there = own.there; leaf = own.leaf }) in
       let has = bounds_of_column u L columns made.0 own.leaf typed made.1 in
@@ -213,14 +212,13 @@ module _ (t : Table) (bounds : List ColumnBounds) (chunks : List (List Content))
       ∙ stat_values_alike b many (group_bounds (map (zone_of u L) columns)) (sym (ap (λ z. z.low) zone_is) ∙ has.low) (sym (ap (λ z. z.high) zone_is) ∙ has.high) (sym (ap (λ z. z.nulls) zone_is) ∙ has.nulls)
       xs (group_zone t chunks)
       (ap (option_map (λ (leaf : Positions × LogicalType). group_bounds (map (λ chunk. chunk_zone_at t chunk leaf.0 leaf.1) chunks))) (leaf_of_path t.kind xs own)
-      ∙ ap (λ n. Some (group_bounds (map (λ chunk. zone_of u n (values_at is chunk)) chunks))) (sym (long is))
       ∙ ap (λ zs. Some (group_bounds zs)) (sym (map_twice (zone_of u L) (values_at is) chunks))) a
 
   of_any : (xs : Names) → LeafAt t.kind (positions t.kind xs) → (a : Aggregate) → bound_stat t.kind all bounds many (column xs) a ≡ known (group_zone t chunks) many (column xs) a
   of_any xs own a =
       ∥∥₁_elim joined (Coded-set coded_content _ _)
-      (λ h. of_joined xs own (found_joined t.kind t.default all bounds chunks own.place h (leaf_there t.kind own.place own.type own.there own.leaf)) a)
+      (λ h. of_joined xs own (found_joined t.kind (bound_length t) all bounds chunks own.place h (leaf_there t.kind own.place own.type own.there own.leaf)) a)
 
-  pub group_falsified : (e : Expression) (b : Option Bound) → IsBoundProof t.kind (falsifier t.kind e) b → has_no_like e ≡ true → expression_fault t.kind e ≡ None →
+  pub group_falsified : (e : Expression) (b : Option Bound) → IsBoundProof t.kind (falsifier t.kind e) b → expression_fault t.kind e ≡ None →
       proved_in (zone_provided all bounds many) b ≡ proves (group_zone t chunks) many (falsifier t.kind e)
-  group_falsified e b is no_like no_fault = falsified_same t.kind all bounds many (group_zone t chunks) of_any e b is no_like no_fault
+  group_falsified e b is no_fault = falsified_same t.kind all bounds many (group_zone t chunks) of_any e b is no_fault

@@ -22,7 +22,7 @@ abbrev pub zone_stat : List Positions → List ColumnBounds → ℕ → Bound �
 zone_stat leaves bounds rows (place is) a = stat_value_or_null (bounds_at leaves bounds is) rows a
 zone_stat leaves bounds rows b a = null
 
--- what the bounds of the leaves of so many rows provide, and no column
+-- what the bounds of the leaves of so many rows provide: no column, and the number of rows
 abbrev pub zone_provided : List Positions → List ColumnBounds → ℕ → Provided
 zone_provided leaves bounds rows =
-    record { columns = λ is. null; statistics = zone_stat leaves bounds rows }
+    record { columns = λ is. null; statistics = zone_stat leaves bounds rows; rows = rows }

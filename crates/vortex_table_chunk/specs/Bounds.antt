@@ -18,12 +18,12 @@ use Rattle.vortex_table_chunk.specs.zones.Sums.{int_kind_of, eq_sum_kind}
 abbrev pub column_at : Positions → List ScalarValue → List Content
 column_at is rows = values_at is (map row_content rows)
 
--- one to one, the bounds are those of the rows' leaves at these positions, at this bound length
-abbrev pub AreBoundsOf : ℕ → List Positions → List ColumnBounds → List ScalarValue → Type 0
-AreBoundsOf L [] [] rows = Unit {0}
-AreBoundsOf L (is ∷ leaves) (b ∷ bounds) rows =
-    IsBoundsOf L b (column_at is rows) × AreBoundsOf L leaves bounds rows
-AreBoundsOf L leaves bounds rows = ⊥
+-- one to one, the bounds are those of the rows' leaves at these positions, each at its bound length
+abbrev pub AreBoundsOf : List ℕ → List Positions → List ColumnBounds → List ScalarValue → Type 0
+AreBoundsOf [] [] [] rows = Unit {0}
+AreBoundsOf (L ∷ lengths) (is ∷ leaves) (b ∷ bounds) rows =
+    IsBoundsOf L b (column_at is rows) × AreBoundsOf lengths leaves bounds rows
+AreBoundsOf lengths leaves bounds rows = ⊥
 
 -- one to one, the sums are of the kinds of a type's leaves at these positions
 abbrev pub are_sums_of : LogicalType → List Positions → List ColumnBounds → Bool
@@ -41,12 +41,12 @@ IsBoundsOf-prop L b cs = λ p q i. record {
   constant = λ c. Coded-set (coded_precision coded_bool) _ _ (p.constant c) (q.constant c) i;
 }
 
-pub AreBoundsOf-prop : (L : ℕ) (leaves : List Positions) (bounds : List ColumnBounds)
-    (rows : List ScalarValue) → IsProp (AreBoundsOf L leaves bounds rows)
-AreBoundsOf-prop L [] [] rows = λ p q i. tt
-AreBoundsOf-prop L (is ∷ leaves) (b ∷ bounds) rows =
+pub AreBoundsOf-prop : (lengths : List ℕ) (leaves : List Positions) (bounds : List ColumnBounds)
+    (rows : List ScalarValue) → IsProp (AreBoundsOf lengths leaves bounds rows)
+AreBoundsOf-prop [] [] [] rows = λ p q i. tt
+AreBoundsOf-prop (L ∷ lengths) (is ∷ leaves) (b ∷ bounds) rows =
     λ p q i. (
       IsBoundsOf-prop L b (column_at is rows) p.0 q.0 i,
-      AreBoundsOf-prop L leaves bounds rows p.1 q.1 i,
+      AreBoundsOf-prop lengths leaves bounds rows p.1 q.1 i,
     )
-AreBoundsOf-prop L leaves bounds rows = λ p q. absurd p
+AreBoundsOf-prop lengths leaves bounds rows = λ p q. absurd p

@@ -25,16 +25,16 @@ pub record IsLeafAt (k : LogicalType) (is : Positions) (part : LogicalType) : Ty
   pub there : type_at k is ≡ Some part
   pub leaf : is_leaf part ≡ true
 
--- The statistics are those of a column of these chunks of a type, at this bound length.
-pub record IsJoined (k : LogicalType) (L : ℕ) (is : Positions) (b : ColumnBounds)
+-- The statistics are those of a column of these chunks of a type, at these bound lengths.
+pub record IsJoined (k : LogicalType) (L : Positions → ℕ) (is : Positions) (b : ColumnBounds)
     (chunks : List (List Content)) : Type 0 where
   pub made : (part : LogicalType) → IsLeafAt k is part →
-      IsMadeOf part L (map (values_at is) chunks) (zone_in b (rows_in chunks))
+      IsMadeOf part (L is) (map (values_at is) chunks) (zone_in b (rows_in chunks))
   pub nulls : b.null_count ≤ rows_in chunks
   pub sums : int_kind_of b.sum_type ≡ sum_kind (kind_at k is)
 
 -- one to one, the statistics are those of the chunks' leaves at these positions
-abbrev pub AreJoined : LogicalType → ℕ → List Positions → List ColumnBounds →
+abbrev pub AreJoined : LogicalType → (Positions → ℕ) → List Positions → List ColumnBounds →
     List (List Content) → Type 0
 AreJoined k L [] [] chunks = Unit {0}
 AreJoined k L (is ∷ leaves) (b ∷ bounds) chunks =

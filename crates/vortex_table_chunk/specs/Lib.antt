@@ -2,6 +2,7 @@ pub mod BoundCode
 pub mod BoundStat
 pub mod Bounds
 pub mod Chunk
+pub mod Formed
 pub mod Joined
 pub mod Proved
 pub mod Zone

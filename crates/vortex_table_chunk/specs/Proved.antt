@@ -1,5 +1,5 @@
 -- Whether a proof is true of what is provided.
-use Rattle.std.specs.Prelude.{◌≡◌, ℕ, length, Option, Some, None, Bool, false}
+use Rattle.std.specs.Prelude.{◌≡◌, length, Option, Some, None, Bool, false}
 use Rattle.vortex_model.specs.LogicalType.{LogicalType}
 use Rattle.vortex_model.specs.Expression.{Expression}
 use Rattle.vortex_model.specs.Truth.{evaluate, is_true}
@@ -21,6 +21,6 @@ chunk_provided chunk =
 abbrev pub IsBoundProof : LogicalType → Option Expression → Option Bound → Type 0
 IsBoundProof k None None = Unit {0}
 IsBoundProof k (Some proof) (Some bound) =
-    (provided : Provided) (rows : ℕ) →
-    evaluate_bound provided bound ≡ evaluate (by_names k provided rows) proof
+    (provided : Provided) →
+    evaluate_bound provided bound ≡ evaluate (by_names k provided) proof
 IsBoundProof k proof bound = ⊥

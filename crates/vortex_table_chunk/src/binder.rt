@@ -2,7 +2,7 @@
 ghost use Rattle.std.specs.Prelude.{◌≡◌};
 ghost use Rattle.vortex_model.specs.Statistics.{shown};
 ghost use Rattle.vortex_stats_bind.specs.OperandValue.{operand_value};
-ghost use Rattle.vortex_stats_expr.specs.Tree.{aggregate_of};
+ghost use Rattle.vortex_stats_stat.specs.Aggregate.{aggregate_of};
 ghost use Rattle.vortex_table_chunk.specs.Proved.{proved_in};
 ghost use Rattle.vortex_table_chunk.specs.Zone.{provided_by};
 ghost use Rattle.vortex_table_chunk.specs.zones.Bounds.{bound_in};
@@ -12,7 +12,7 @@ use crate::chunk::bounds_at;
 use crate::zones::bounds::{Bound, ColumnBounds};
 use vortex_stats_bind::bound::{BoundExpression, Operands};
 use vortex_stats_bind::value::Value;
-use vortex_stats_expr::aggregate::AggregateFn;
+use vortex_stats_stat::aggregate::AggregateFn;
 use vortex_table_schema::leaves::LeafPath;
 
 fn bound_operand<'a>(bound: &'a Option<Bound>) -> Value<'a>
@@ -73,6 +73,10 @@ impl Operands for ZoneOperands<'_> {
             Some(bounds) => statistic(bounds, self.rows, aggregate),
             None => Value::Null,
         }
+    }
+
+    fn rows(&self) -> u64 {
+        self.rows as u64
     }
 }
 

@@ -1,5 +1,5 @@
 //! Statistics of all leaf columns of the rows of a chunk.
-ghost use Rattle.std.specs.Prelude.{◌≡◌, IfOk, IsTrue};
+ghost use Rattle.std.specs.Prelude.{◌≡◌, length, IfOk, IsTrue};
 ghost use Rattle.vortex_table_chunk.specs.zones.Join.{CanJoin, AreJoinsOf};
 ghost use Rattle.vortex_table_chunk.specs.zones.Bounds.{IsMinMaxOf, IsBoundsOf};
 ghost use Rattle.vortex_table_chunk.specs.Bounds.{column_at, AreBoundsOf, are_sums_of};
@@ -19,8 +19,8 @@ use vortex_scalar_value::scalar_value::ScalarValue;
 use vortex_stats_bind::bound::part_at;
 use vortex_table_schema::leaves::LeafPath;
 
-// `leaf` is the path of the column.
-fn leaf_pass<'a>(rows: &'a [ScalarValue], leaf: &[usize]) -> (MinMax<'a>, RunningSum)
+/// The least and the greatest value and the sum of the column at this path. Each value is read once.
+pub fn leaf_pass<'a>(rows: &'a [ScalarValue], leaf: &[usize]) -> (MinMax<'a>, RunningSum)
     ensures min_max { IsMinMaxOf result.0 (column_at leaf.now rows.now) }
     ensures sum { IsSumOf result.1 (column_at leaf.now rows.now) }
 {
@@ -35,7 +35,9 @@ fn leaf_pass<'a>(rows: &'a [ScalarValue], leaf: &[usize]) -> (MinMax<'a>, Runnin
     (min_max, sum)
 }
 
-fn leaf_bounds(
+/// The statistics of the column at this path. A bound that is a text or bytes of more than
+/// `max_length` bytes is shortened.
+pub fn leaf_bounds(
     alloc: Global,
     rows: &[ScalarValue],
     leaf: &[usize],
@@ -52,23 +54,26 @@ fn leaf_bounds(
 }
 
 /// The statistics of these columns of rows of a type, one for each, in the same order. A bound that
-/// is a text or bytes of more than `max_length` bytes is shortened. Each value is read once, and
-/// only the bounds are copied.
+/// is a text or bytes of more bytes than the column's of `max_lengths` is shortened. Each value is
+/// read once, and only the bounds are copied.
 pub fn all_bounds(
     alloc: Global,
     dtype: &DType,
     rows: &[ScalarValue],
     leaves: &[LeafPath],
-    max_length: usize,
+    max_lengths: &[usize],
 ) -> Result<Vec<ColumnBounds>, AllocError>
-    ensures statistics { IfOk result (λ all. AreBoundsOf max_length leaves.now all.items rows.now) }
+    requires { length max_lengths.now ≡ length leaves.now }
+    ensures statistics { IfOk result
+        (λ all. AreBoundsOf max_lengths.now leaves.now all.items rows.now) }
     ensures sums { IfOk result
         (λ all. IsTrue (are_sums_of (type_of dtype.now) leaves.now all.items)) }
 {
     let mut all = Vec::with_capacity(alloc, leaves.len())?;
-    for leaf in leaves {
+    for (index, leaf) in leaves.iter().enumerate() {
         let path = leaf.as_slice();
         let sum_type = sum_type(dtype, path);
+        let max_length = max_lengths[index];
         let bounds = leaf_bounds(alloc, rows, path, sum_type, max_length)?;
         all.push(bounds)?;
     }

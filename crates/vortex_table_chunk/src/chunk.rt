@@ -1,5 +1,5 @@
 //! Chunks of rows with statistics of their leaf columns.
-ghost use Rattle.std.specs.Prelude.{◌≡◌, IfOk, IsTrue, option_map};
+ghost use Rattle.std.specs.Prelude.{◌≡◌, length, IfOk, IsTrue, option_map};
 ghost use Rattle.vortex_dtype_core.specs.View.{type_of};
 ghost use Rattle.vortex_table_chunk.specs.Bounds.{AreBoundsOf, AreBoundsOf-prop, are_sums_of};
 ghost use Rattle.vortex_table_chunk.specs.BoundStat.{bounds_at};
@@ -18,36 +18,39 @@ pub struct Chunk {
     pub rows: Vec<ScalarValue>,
     /// The paths of the leaf columns, which the chunks of a table share.
     pub leaves: Rc<Vec<LeafPath>>,
-    /// The greatest number of bytes of a bound that is a text or bytes.
-    pub bound_length: usize,
+    /// The greatest number of bytes of a bound that is a text or bytes, of each leaf column in the
+    /// order of `leaves`.
+    pub lengths: Rc<Vec<usize>>,
     /// The statistics of each leaf column, in the order of `leaves`.
     pub bounds: Vec<ColumnBounds>,
-    pub ghost honest: { AreBoundsOf bound_length leaves.value.items bounds.items
-        rows.items } by { AreBoundsOf-prop bound_length leaves.value.items bounds.items
+    pub ghost honest: { AreBoundsOf lengths.value.items leaves.value.items bounds.items
+        rows.items } by { AreBoundsOf-prop lengths.value.items leaves.value.items bounds.items
             rows.items },
 }
 
-/// A chunk of these rows of a type. A bound that is a text or bytes is shortened to `bound_length`
-/// bytes.
+/// A chunk of these rows of a type. A bound that is a text or bytes is shortened to as many bytes as
+/// `lengths` has for its leaf column.
 pub fn new_chunk(
     alloc: Global,
     dtype: &DType,
     leaves: &Rc<Vec<LeafPath>>,
-    bound_length: usize,
+    lengths: &Rc<Vec<usize>>,
     rows: Vec<ScalarValue>,
 ) -> Result<Chunk, AllocError>
+    requires { length lengths.now.value.items ≡ length leaves.now.value.items }
     ensures rows { IfOk result (λ chunk. chunk.rows.items ≡ rows.items) }
     ensures leaves { IfOk result (λ chunk. chunk.leaves.value.items ≡ leaves.now.value.items) }
-    ensures bound_length { IfOk result (λ chunk. chunk.bound_length ≡ bound_length) }
+    ensures lengths { IfOk result (λ chunk. chunk.lengths.value.items ≡ lengths.now.value.items) }
     ensures sums { IfOk result (λ chunk.
         IsTrue (are_sums_of (type_of dtype.now) chunk.leaves.value.items chunk.bounds.items)) }
 {
-    let bounds = all_bounds(alloc, dtype, &rows, leaves, bound_length)?;
+    let bounds = all_bounds(alloc, dtype, &rows, leaves, lengths)?;
     let leaves = leaves.clone()?;
+    let lengths = lengths.clone()?;
     Ok(Chunk {
         rows,
         leaves,
-        bound_length,
+        lengths,
         bounds,
     })
 }

@@ -30,13 +30,14 @@ use Rattle.vortex_table_chunk.specs.declared.chunk.Chunk.{Chunk}
 use Rattle.vortex_table_chunk.specs.declared.zones.bounds.ColumnBounds.{ColumnBounds}
 use Rattle.vortex_table_chunk.proofs.ProvenAlike.{FoundJoined, found_joined, all_of_type}
 use Rattle.vortex_table_core.specs.Group.{IsGroup, AreGroups, chunks_of}
-use Rattle.vortex_table_core.specs.Table.{is_formed}
+use Rattle.vortex_table_chunk.specs.Formed.{is_formed}
 use Rattle.vortex_table_core.specs.TableView.{table_of}
 use Rattle.vortex_table_core.specs.declared.group.Group.{Group}
 use Rattle.vortex_table_core.specs.declared.table.Table.{Table}
 use Rattle.vortex_table_core.proofs.Groups.{take_said, drop_said, drop_on, formed_in}
 use Rattle.vortex_table_core.proofs.JoinedGroups.{group_at}
-use Rattle.vortex_table_core.proofs.Proven.{all_said}
+use Rattle.vortex_table_check.specs.Lengths.{length_in}
+use Rattle.vortex_table_chunk.proofs.TypedRows.{all_said}
 
 -- ---- one description of what is only known to be there
 
@@ -77,9 +78,9 @@ values_together is (chunk ∷ chunks) =
     ap (λ cs. values_at is chunk ++ cs) (values_together is chunks) ∙ sym (map-append _ chunk (flat_map (λ c. c) chunks))
 
 module _ (t : model.Table) (is : Positions) (part : LogicalType) (i : ℕ) (chunks : List (List Content)) (there : type_at t.kind is ≡ Some part) (leaf : is_leaf part ≡ true)
-    (typed : AllByRecursion (λ chunk. AllByRecursion (IsContent t.kind) chunk) chunks) (own : chunks_of_group t i ≡ chunks) (long : (js : Positions) → t.default ≡ model.bound_length t js) where
+    (typed : AllByRecursion (λ chunk. AllByRecursion (IsContent t.kind) chunk) chunks) (own : chunks_of_group t i ≡ chunks) where
   abbrev L : ℕ
-  L = t.default
+  L = model.bound_length t is
 
   abbrev columns : List (List Content)
   columns = map (values_at is) chunks
@@ -90,7 +91,7 @@ module _ (t : model.Table) (is : Positions) (part : LogicalType) (i : ℕ) (chun
   zones_are : map (zone_of part L) columns ≡ chunk_zones t is i
   zones_are =
       map_twice (zone_of part L) (values_at is) chunks
-      ∙ (λ j. map (λ chunk. zone_of (part_is j) (long is j) (values_at is chunk)) (sym own j))
+      ∙ (λ j. map (λ chunk. zone_of (part_is j) L (values_at is chunk)) (sym own j))
 
   sums_are : map sum_of columns ≡ map (λ chunk. sum_of (values_at is chunk)) (chunks_of_group t i)
   sums_are = map_twice sum_of (values_at is) chunks ∙ ap (λ cs. map (λ chunk. sum_of (values_at is chunk)) cs) (sym own)
@@ -98,7 +99,7 @@ module _ (t : model.Table) (is : Positions) (part : LogicalType) (i : ℕ) (chun
   rows_are : flat_map (λ column. column) columns ≡ values_at is (flat_map (λ chunk. chunk) (chunks_of_group t i))
   rows_are = values_together is chunks ∙ ap (λ cs. values_at is (flat_map (λ chunk. chunk) cs)) (sym own)
 
-  described_by_joins : (b : ColumnBounds) → IsJoined t.kind t.default is b chunks → Describes t is i (zone_in b (rows_in chunks))
+  described_by_joins : (b : ColumnBounds) → IsJoined t.kind (model.bound_length t) is b chunks → Describes t is i (zone_in b (rows_in chunks))
   described_by_joins b joined =
       let z = zone_in b (rows_in chunks) in
       let made = joined.made part (record { there = there; leaf = leaf }) in
@@ -118,10 +119,10 @@ module _ (t : model.Table) (is : Positions) (part : LogicalType) (i : ℕ) (chun
 
 -- the statistics of a leaf column of a group describe it
 pub group_describes : (t : model.Table) (is : Positions) (part : LogicalType) (b : ColumnBounds) (i : ℕ) (chunks : List (List Content)) → type_at t.kind is ≡ Some part → is_leaf part ≡ true →
-    AllByRecursion (λ chunk. AllByRecursion (IsContent t.kind) chunk) chunks → chunks_of_group t i ≡ chunks → ((js : Positions) → t.default ≡ model.bound_length t js) →
-    ∥ IsJoined t.kind t.default is b chunks ∥₁ → Describes t is i (zone_in b (rows_in chunks))
-group_describes t is part b i chunks there leaf typed own long joined =
-    described_once t is i (zone_in b (rows_in chunks)) (∥∥₁_map joined (λ h. described_by_joins t is part i chunks there leaf typed own long b h))
+    AllByRecursion (λ chunk. AllByRecursion (IsContent t.kind) chunk) chunks → chunks_of_group t i ≡ chunks →
+    ∥ IsJoined t.kind (model.bound_length t) is b chunks ∥₁ → Describes t is i (zone_in b (rows_in chunks))
+group_describes t is part b i chunks there leaf typed own joined =
+    described_once t is i (zone_in b (rows_in chunks)) (∥∥₁_map joined (λ h. described_by_joins t is part i chunks there leaf typed own b h))
 
 -- ---- the chunks of a group
 
@@ -129,7 +130,7 @@ group_describes t is part b i chunks there leaf typed own long joined =
 abbrev rows_of_group : List Group → List (List Content) → ℕ → List (List Content)
 rows_of_group groups rows j = elim (slice_get (grouped (map (λ x. x.chunks) groups) rows) j) [ None ↦ [] | Some own ↦ own ]
 
-module _ (k : LogicalType) (L : ℕ) (chunks : List Chunk) where
+module _ (k : LogicalType) (L : Positions → ℕ) (chunks : List Chunk) where
   chunks_at : (first : ℕ) (groups : List Group) → AreGroups k L first groups (drop first chunks) → (j : ℕ) (g : Group) → j < length groups →
       rows_of_group groups (map chunk_rows (drop first chunks)) j ≡ map chunk_rows (chunks_of chunks (get_or groups j g))
   chunks_at first [] h j g inside = absurd (omega (arith, inside))
@@ -141,7 +142,7 @@ module _ (k : LogicalType) (L : ℕ) (chunks : List Chunk) where
 
 -- of a table, those of the group at the index
 pub group_chunks : (t : Table) (i : ℕ) (g : Group) → i < length t.groups.items → chunks_of_group (table_of t) i ≡ map chunk_rows (chunks_of t.chunks.items (get_or t.groups.items i g))
-group_chunks t i g inside = chunks_at (type_of t.dtype) t.bound_length t.chunks.items 0 t.groups.items t.grouped i g inside
+group_chunks t i g inside = chunks_at (type_of t.dtype) (length_in t.bound_lengths) t.chunks.items 0 t.groups.items t.grouped i g inside
 
 -- ---- the group at an index of a table
 
@@ -155,24 +156,24 @@ module _ (t : Table) (i : ℕ) (g : Group) (inside : i < length t.groups.items) 
   pub chunks_there : chunks_of_group (table_of t) i ≡ map chunk_rows own
   chunks_there = group_chunks t i g inside ∙ ap (λ x. map chunk_rows (chunks_of t.chunks.items x)) (sym at_i)
 
-  pub group_there : IsGroup k t.bound_length g own
-  group_there = group_at k t.bound_length t.chunks.items 0 t.groups.items t.grouped i g inside at_i
+  pub group_there : IsGroup k (length_in t.bound_lengths) g own
+  group_there = group_at k (length_in t.bound_lengths) t.chunks.items 0 t.groups.items t.grouped i g inside at_i
 
-  pub chunks_formed : list_all (is_formed t.bound_length k) own ≡ true
-  chunks_formed = formed_in (is_formed t.bound_length k) g t.chunks.items t.formed
+  pub chunks_formed : list_all (is_formed (length_in t.bound_lengths) k) own ≡ true
+  chunks_formed = formed_in (is_formed (length_in t.bound_lengths) k) g t.chunks.items t.formed
 
   pub chunks_typed : AllByRecursion (λ chunk. AllByRecursion (IsContent k) chunk) (map chunk_rows own)
-  chunks_typed = all_said t.bound_length k own chunks_formed
+  chunks_typed = all_said (length_in t.bound_lengths) k own chunks_formed
 
   -- the statistics of a leaf column in its rows describe the column
   pub column_described : (is : Positions) (part : LogicalType) (b : ColumnBounds) → type_at k is ≡ Some part → is_leaf part ≡ true →
-      ∥ IsJoined k t.bound_length is b (map chunk_rows own) ∥₁ → Describes (table_of t) is i (zone_in b (rows_in (map chunk_rows own)))
+      ∥ IsJoined k (length_in t.bound_lengths) is b (map chunk_rows own) ∥₁ → Describes (table_of t) is i (zone_in b (rows_in (map chunk_rows own)))
   column_described is part b there leaf joined =
-      group_describes (table_of t) is part b i (map chunk_rows own) there leaf chunks_typed chunks_there (λ js. refl) joined
+      group_describes (table_of t) is part b i (map chunk_rows own) there leaf chunks_typed chunks_there joined
 
 -- ---- the statistics of one leaf
 
-module _ (k : LogicalType) (L : ℕ) (bounds : List ColumnBounds) (chunks : List (List Content)) (is : Positions) (part : LogicalType) (there : type_at k is ≡ Some part) (leaf : is_leaf part ≡ true)
+module _ (k : LogicalType) (L : Positions → ℕ) (bounds : List ColumnBounds) (chunks : List (List Content)) (is : Positions) (part : LogicalType) (there : type_at k is ≡ Some part) (leaf : is_leaf part ≡ true)
     (joined : ∥ AreJoined k L (leaf_positions k) bounds chunks ∥₁) where
   found : AreJoined k L (leaf_positions k) bounds chunks → FoundJoined k L (leaf_positions k) bounds chunks is
   found h = found_joined k L (leaf_positions k) bounds chunks is h (leaf_there k is part there leaf)

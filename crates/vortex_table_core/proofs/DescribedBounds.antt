@@ -57,17 +57,17 @@ of_leaf_form k (exact c) h = leaf_form k c h
 of_leaf_form k (inexact c) h = leaf_form k c h
 of_leaf_form k absent h = refl
 
-module _ (k : LogicalType) (L : ℕ) (is : Positions) (part : LogicalType) (b : ColumnBounds) (chunks : List (List Content)) (there : type_at k is ≡ Some part) (leaf : is_leaf part ≡ true)
+module _ (k : LogicalType) (L : Positions → ℕ) (is : Positions) (part : LogicalType) (b : ColumnBounds) (chunks : List (List Content)) (there : type_at k is ≡ Some part) (leaf : is_leaf part ≡ true)
     (of_type : AllByRecursion (λ chunk. AllByRecursion (IsContent k) chunk) chunks) where
   of_joined : IsJoined k L is b chunks → HasLeafBounds b
   of_joined joined =
       let columns = map (values_at is) chunks in
       let typed = all_of_type k is part chunks there of_type in
       let made = joined.made part (record { there = there; leaf = leaf }) in
-      let has = bounds_of_column part L columns made.0 leaf typed made.1 in
+      let has = bounds_of_column part (L is) columns made.0 leaf typed made.1 in
       record {
-        low = of_leaf_form part (bound_in b.low) (subst (λ p. FormIn part (value_in p)) (sym (sym (ap (λ z. z.low) made.2) ∙ has.low)) (group_low_form part L leaf columns typed));
-        high = of_leaf_form part (bound_in b.high) (subst (λ p. FormIn part (value_in p)) (sym (sym (ap (λ z. z.high) made.2) ∙ has.high)) (group_high_form part L leaf columns typed));
+        low = of_leaf_form part (bound_in b.low) (subst (λ p. FormIn part (value_in p)) (sym (sym (ap (λ z. z.low) made.2) ∙ has.low)) (group_low_form part (L is) leaf columns typed));
+        high = of_leaf_form part (bound_in b.high) (subst (λ p. FormIn part (value_in p)) (sym (sym (ap (λ z. z.high) made.2) ∙ has.high)) (group_high_form part (L is) leaf columns typed));
       }
 
   -- however its chunks were joined

@@ -4,12 +4,14 @@ use Rattle.std.specs.List.{list_all}
 use Rattle.vortex_model.specs.LogicalType.{LogicalType}
 use Rattle.vortex_model.specs.Content.{Content}
 use Rattle.vortex_model.specs.Valid.{valid}
+use Rattle.vortex_model.specs.Table.{bound_length}
 use Rattle.vortex_model.specs.Truth.{selects, is_true}
 use Rattle.vortex_model.specs.Cut.{cut_row}
 use Rattle.vortex_model.specs.Scan as model
 use Rattle.vortex_model.specs.Scan.{skipped, whole, tested, chunk_outcome}
 use Rattle.vortex_model.specs.Pruning.{found_in}
-use Rattle.vortex_model.proofs.Honesty.{sound_without_like}
+use Rattle.vortex_model.proofs.Accepted.{accepted_truth}
+use Rattle.vortex_model.proofs.Honesty.{sound_falsifier}
 use Rattle.vortex_model.proofs.Skipping.{FalsifiesRightly, found_rightly}
 use Rattle.vortex_scalar_value.specs.View.{raw_of}
 use Rattle.vortex_scalar_value.specs.declared.scalar_value.ScalarValue.{ScalarValue}
@@ -18,18 +20,20 @@ use Rattle.vortex_table_schema.specs.Cut.{content_cut, kept_by, raw_cut}
 use Rattle.vortex_table_core.specs.Plan.{IsPlan, table_in, paths_in, predicate_in}
 use Rattle.vortex_table_core.specs.Progress.{found_rows}
 use Rattle.vortex_table_core.specs.Selected.{is_selected, cut_rows, selected_rows, CanBeCut}
-use Rattle.vortex_table_core.specs.Table.{is_formed}
+use Rattle.vortex_table_chunk.specs.Formed.{is_formed}
 use Rattle.vortex_table_chunk.specs.declared.chunk.Chunk.{Chunk}
 use Rattle.vortex_table_core.specs.declared.plan.Scan.{Scan}
 use Rattle.vortex_table_schema.proofs.Cuts.{cut_is_valid}
-use Rattle.vortex_table_core.proofs.Formed.{valid_rows as formed_rows}
-use Rattle.vortex_table_core.proofs.Rows.{list_all_at, rows_said, kept_each, kept_all}
+use Rattle.vortex_table_chunk.proofs.Formed.{valid_rows as formed_rows}
+use Rattle.vortex_table_chunk.proofs.TypedRows.{list_all_at, rows_said}
+use Rattle.vortex_table_core.proofs.Rows.{kept_each, kept_all}
 
 -- the falsifier of the predicate may be believed
 pub sound_of : (plan : Scan) → IsPlan plan → FalsifiesRightly (table_in plan).kind (predicate_in plan)
-sound_of plan is = λ proof made. sound_without_like (table_in plan).kind (predicate_in plan) proof is.no_like made
+sound_of plan is = λ proof made.
+    sound_falsifier (table_in plan).kind (predicate_in plan) proof (accepted_truth (table_in plan).kind (predicate_in plan) is.faultless) is.formed made
 
-module _ (plan : Scan) (is : IsPlan plan) (chunk : Chunk) (formed : IsTrue (is_formed (table_in plan).default (table_in plan).kind chunk)) where
+module _ (plan : Scan) (is : IsPlan plan) (chunk : Chunk) (formed : IsTrue (is_formed (bound_length (table_in plan)) (table_in plan).kind chunk)) where
   abbrev k : LogicalType
   k = (table_in plan).kind
 
@@ -37,7 +41,7 @@ module _ (plan : Scan) (is : IsPlan plan) (chunk : Chunk) (formed : IsTrue (is_f
   rows = chunk.rows.items
 
   abbrev valid_rows : list_all (λ row. valid k (raw_of row)) rows ≡ true
-  valid_rows = formed_rows (table_in plan).default k chunk formed
+  valid_rows = formed_rows (bound_length (table_in plan)) k chunk formed
 
   pub can_be_cut : CanBeCut plan.prepared.now.cut rows
   can_be_cut i d inside =

@@ -6,10 +6,10 @@ use Rattle.std.proofs.Math.Seq.{drop-cons, take-length}
 use Rattle.std.proofs.lemmas.List.{length-map, length-drop, length-take}
 use Rattle.vortex_model.specs.LogicalType.{LogicalType}
 use Rattle.vortex_model.specs.Content.{Content}
-use Rattle.vortex_model.specs.Path.{Names}
+use Rattle.vortex_model.specs.Path.{Names, Positions}
 use Rattle.vortex_model.specs.Expression.{Expression}
 use Rattle.vortex_model.specs.Truth.{selects}
-use Rattle.vortex_model.specs.Table.{Table, IsTable}
+use Rattle.vortex_model.specs.Table.{Table, IsTable, bound_length}
 use Rattle.vortex_model.specs.Rewrite.{falsifier, satisfier}
 use Rattle.vortex_model.specs.Cut.{cut_row}
 use Rattle.vortex_model.proofs.Outcomes.{sum_first}
@@ -24,15 +24,15 @@ use Rattle.vortex_table_chunk.specs.declared.chunk.Chunk.{Chunk}
 use Rattle.vortex_table_core.specs.Group.{IsGroup, AreGroups, chunks_of}
 use Rattle.vortex_table_core.specs.Plan.{IsPlan, table_in, paths_in, predicate_in}
 use Rattle.vortex_table_core.specs.Progress.{with_chunk, with_chunks, with_group, with_groups, looked_at, is_group_skipped, outcome_in, group_proofs, numbers_from, no_answer}
-use Rattle.vortex_table_core.specs.Table.{is_formed}
+use Rattle.vortex_table_chunk.specs.Formed.{is_formed}
 use Rattle.vortex_table_core.specs.declared.group.Group.{Group}
 use Rattle.vortex_table_core.specs.declared.plan.Scan.{Scan}
 use Rattle.vortex_table_check.proofs.Explained.{none_so}
-use Rattle.vortex_table_core.proofs.Formed.{some_rows}
+use Rattle.vortex_table_chunk.proofs.Formed.{some_rows}
 use Rattle.vortex_table_core.proofs.Found.{sound_of}
 use Rattle.vortex_table_core.proofs.Progress.{count_first, saturated_once, rows_after, kind_after, skipped_after, whole_after, tested_after, proofs_after, whole_answer}
-use Rattle.vortex_table_core.proofs.Proven.{all_said}
-use Rattle.vortex_table_core.proofs.Rows.{list_all_at}
+use Rattle.vortex_table_chunk.proofs.TypedRows.{all_said}
+use Rattle.vortex_table_chunk.proofs.TypedRows.{list_all_at}
 
 -- ---- lists
 
@@ -104,8 +104,8 @@ module _ (plan : Scan) where
       (λ j. ahead (on j) (drop (add-one i j) chunks) (made j))
       ∙ sym (ap (λ cs. ahead (first + i) cs a) (drop-cons chunks i chunk inside ∙ ap (λ c. c ∷ drop (suc i) chunks) (sym is)))
 
-  pub formed_at : (chunks : List Chunk) (i : ℕ) (chunk : Chunk) → list_all (is_formed t.default k) chunks ≡ true → i < length chunks → chunk ≡ get_or chunks i chunk → IsTrue (is_formed t.default k chunk)
-  formed_at chunks i chunk formed inside is = ap (is_formed t.default k) is ∙ list_all_at (is_formed t.default k) chunks i chunk formed inside
+  pub formed_at : (chunks : List Chunk) (i : ℕ) (chunk : Chunk) → list_all (is_formed (bound_length t) k) chunks ≡ true → i < length chunks → chunk ≡ get_or chunks i chunk → IsTrue (is_formed (bound_length t) k chunk)
+  formed_at chunks i chunk formed inside is = ap (is_formed (bound_length t) k) is ∙ list_all_at (is_formed (bound_length t) k) chunks i chunk formed inside
 
   pub none_ahead : (first : ℕ) (chunks : List Chunk) (i : ℕ) (a : ScanAnswer) → length chunks ≤ i → ahead (first + i) (drop i chunks) a ≡ a
   none_ahead first chunks i a h = ap (λ cs. ahead (first + i) cs a) (past chunks i h)
@@ -119,7 +119,7 @@ none_taken : (p : Content → Bool) (chunks : List (List Content)) → flat_map 
 none_taken p [] = refl
 none_taken p (chunk ∷ chunks) = none_taken p chunks
 
-all_some : (L : ℕ) (k : LogicalType) (chunks : List Chunk) → list_all (is_formed L k) chunks ≡ true → AllByRecursion (λ chunk. 0 < length chunk) (map chunk_rows chunks)
+all_some : (L : Positions → ℕ) (k : LogicalType) (chunks : List Chunk) → list_all (is_formed L k) chunks ≡ true → AllByRecursion (λ chunk. 0 < length chunk) (map chunk_rows chunks)
 all_some L k [] h = tt
 all_some L k (c ∷ chunks) h = (
   (let some = some_rows L k c (true_left (is_formed L k c) (list_all (is_formed L k) chunks) h) in let same = length-map c.rows.items row_content in omega (arith, some, same)),
@@ -129,7 +129,7 @@ all_some L k (c ∷ chunks) h = (
 one_sum : (n : ℕ) → sum (n ∷ []) ≡ n
 one_sum n = let h : 0 + n ≡ n = omega arith in h
 
-module _ (plan : Scan) (is : IsPlan plan) (chunks : List Chunk) (formed : list_all (is_formed (table_in plan).default (table_in plan).kind) chunks ≡ true) where
+module _ (plan : Scan) (is : IsPlan plan) (chunks : List Chunk) (formed : list_all (is_formed (bound_length (table_in plan)) (table_in plan).kind) chunks ≡ true) where
   abbrev table : Table
   table = table_in plan
 
@@ -152,8 +152,8 @@ module _ (plan : Scan) (is : IsPlan plan) (chunks : List Chunk) (formed : list_a
   is_table : 0 < length rows → IsTable alone
   is_table some = record {
     holds = can_hold table.kind (none_so _ plan.table.now.kept);
-    rows = all_said table.default table.kind chunks formed;
-    not_empty = all_some table.default table.kind chunks formed;
+    rows = all_said (bound_length table) table.kind chunks formed;
+    not_empty = all_some (bound_length table) table.kind chunks formed;
     positive = (some, tt);
     grouped = one_sum (length rows);
   }
@@ -190,8 +190,8 @@ none_counted p none (chunk ∷ chunks) = count_first p skipped_in_group (map (λ
 stays : (n f s : ℕ) → n ≡ n + (f * 0 + s * 0)
 stays n f s = grind arith
 
-module _ (plan : Scan) (is : IsPlan plan) (g : Group) (chunks : List Chunk) (formed : list_all (is_formed (table_in plan).default (table_in plan).kind) chunks ≡ true)
-    (grouped : IsGroup (table_in plan).kind (table_in plan).default g chunks) (a b : ScanAnswer) where
+module _ (plan : Scan) (is : IsPlan plan) (g : Group) (chunks : List Chunk) (formed : list_all (is_formed (bound_length (table_in plan)) (table_in plan).kind) chunks ≡ true)
+    (grouped : IsGroup (table_in plan).kind (bound_length (table_in plan)) g chunks) (a b : ScanAnswer) where
   abbrev of_chunks : List (List Content)
   of_chunks = map chunk_rows chunks
 
@@ -239,7 +239,7 @@ module _ (plan : Scan) (is : IsPlan plan) (g : Group) (chunks : List Chunk) (for
 
 -- ---- groups one by one
 
-pub sizes_sum : (k : LogicalType) (L i : ℕ) (groups : List Group) (chunks : List Chunk) → AreGroups k L i groups chunks → sum (map (λ g. g.chunks) groups) ≡ length chunks
+pub sizes_sum : (k : LogicalType) (L : Positions → ℕ) (i : ℕ) (groups : List Group) (chunks : List Chunk) → AreGroups k L i groups chunks → sum (map (λ g. g.chunks) groups) ≡ length chunks
 sizes_sum k L i [] [] h = refl
 sizes_sum k L i [] (c ∷ chunks) h = absurd h
 sizes_sum k L i (g ∷ groups) chunks h =
@@ -254,7 +254,7 @@ pub record Reached (plan : Scan) (j : ℕ) (a : ScanAnswer) : Type 0 where
   pub left : with_groups (t plan) (paths plan) (e plan) start (grouped (map (λ g. g.chunks) (drop j plan.table.now.groups.items)) (map chunk_rows (drop start plan.table.now.chunks.items))) a
       ≡ scanned (t plan) (paths plan) (e plan)
   pub counted : saturated a.rows_tested ≡ a.rows_tested
-  pub groups : AreGroups (k plan) (t plan).default start (drop j plan.table.now.groups.items) (drop start plan.table.now.chunks.items)
+  pub groups : AreGroups (k plan) (bound_length (t plan)) start (drop j plan.table.now.groups.items) (drop start plan.table.now.chunks.items)
 
 module _ (plan : Scan) where
   abbrev groups : List Group
@@ -267,7 +267,7 @@ module _ (plan : Scan) where
   at_start a none = record {
     start = 0;
     left = ap (λ x. with_groups (t plan) (paths plan) (e plan) 0 (grouped (map (λ g. g.chunks) groups) (map chunk_rows chunks)) x) none
-        ∙ whole_answer (t plan) (paths plan) (e plan) (sizes_sum (k plan) (t plan).default 0 groups chunks plan.table.now.grouped ∙ sym (length-map chunks chunk_rows));
+        ∙ whole_answer (t plan) (paths plan) (e plan) (sizes_sum (k plan) (bound_length (t plan)) 0 groups chunks plan.table.now.grouped ∙ sym (length-map chunks chunk_rows));
     counted = ap (λ (x : ScanAnswer). saturated x.rows_tested) none ∙ sym (ap (λ (x : ScanAnswer). x.rows_tested) none);
     groups = plan.table.now.grouped;
   }
@@ -276,14 +276,14 @@ module _ (plan : Scan) where
     next : drop j groups ≡ g ∷ drop (suc j) groups
     next = drop-cons groups j g inside ∙ ap (λ x. x ∷ drop (suc j) groups) (sym is)
 
-    here : AreGroups (k plan) (t plan).default reached.start (g ∷ drop (suc j) groups) (drop reached.start chunks)
-    here = subst (λ gs. AreGroups (k plan) (t plan).default reached.start gs (drop reached.start chunks)) next reached.groups
+    here : AreGroups (k plan) (bound_length (t plan)) reached.start (g ∷ drop (suc j) groups) (drop reached.start chunks)
+    here = subst (λ gs. AreGroups (k plan) (bound_length (t plan)) reached.start gs (drop reached.start chunks)) next reached.groups
 
     same_chunks : take g.chunks (drop reached.start chunks) ≡ chunks_of chunks g
     same_chunks = ap (λ n. take g.chunks (drop n chunks)) (sym here.0)
 
-    pub group_here : IsGroup (k plan) (t plan).default g (chunks_of chunks g)
-    group_here = subst (λ cs. IsGroup (k plan) (t plan).default g cs) same_chunks here.1
+    pub group_here : IsGroup (k plan) (bound_length (t plan)) g (chunks_of chunks g)
+    group_here = subst (λ cs. IsGroup (k plan) (bound_length (t plan)) g cs) same_chunks here.1
 
     pub within : g.first + g.chunks ≤ length chunks
     within =
@@ -329,8 +329,8 @@ module _ (plan : Scan) where
           ap (λ x. with_groups (t plan) (paths plan) (e plan) behind (grouped (map (λ (x : Group). x.chunks) (drop (j + 1) groups)) (map chunk_rows (drop behind chunks))) x) made
           ∙ sym through ∙ reached.left;
       groups =
-          subst (λ m. AreGroups (k plan) (t plan).default behind (drop m groups) (drop behind chunks)) (sym (add-one j))
-          (subst (λ cs. AreGroups (k plan) (t plan).default behind (drop (suc j) groups) cs) (drop_on reached.start g.chunks chunks) here.2);
+          subst (λ m. AreGroups (k plan) (bound_length (t plan)) behind (drop m groups) (drop behind chunks)) (sym (add-one j))
+          (subst (λ cs. AreGroups (k plan) (bound_length (t plan)) behind (drop (suc j) groups) cs) (drop_on reached.start g.chunks chunks) here.2);
     }
 
   pub at_end : (j : ℕ) (a : ScanAnswer) → length groups ≤ j → Reached plan j a → a ≡ scanned (t plan) (paths plan) (e plan)

@@ -2,14 +2,12 @@
 use Rattle.std.proofs.Common.{◌≡◌, refl, sym, ◌∙◌, ap, subst, ℕ, zero, suc, ◌+◌, ◌<◌, ◌≤◌, List, [], ◌∷◌, ◌++◌, length, map, take, drop, get_or, true, ◌&&◌, Option, Some, None, option_map, arith}
 use Rattle.std.specs.Prelude.{slice_set}
 use Rattle.std.specs.List.{list_all}
-use Rattle.std.proofs.lemmas.List.{length-map, length-drop, length-take, length-append, map-append, take-append-drop}
-use Rattle.std.proofs.lemmas.List.Sums.{sum_by-append}
-use Rattle.vortex_model.proofs.Outcomes.{sum_first}
+use Rattle.std.proofs.lemmas.List.{length-drop, length-take, length-append, map-append, take-append-drop}
 use Rattle.std.proofs.Math.Seq.{drop-cons}
 use Rattle.vortex_model.specs.LogicalType.{LogicalType}
 use Rattle.vortex_model.specs.Command.{joined_at}
 use Rattle.vortex_table_chunk.specs.Bounds.{AreBoundsOf, are_sums_of}
-use Rattle.vortex_table_schema.specs.Rows.{row_content}
+use Rattle.vortex_model.specs.Path.{Positions}
 use Rattle.vortex_table_chunk.specs.Chunk.{chunk_rows, row_count}
 use Rattle.vortex_table_chunk.specs.Joined.{AreJoined, rows_in}
 use Rattle.vortex_table_chunk.specs.zones.Join.{AreJoinsOf}
@@ -18,11 +16,11 @@ use Rattle.vortex_table_chunk.specs.declared.zones.bounds.ColumnBounds.{ColumnBo
 use Rattle.vortex_table_chunk.proofs.JoinedLemmas.{rows_append, chunk_joined, groups_joined}
 use Rattle.vortex_table_schema.specs.Leaves.{leaf_positions}
 use Rattle.vortex_table_core.specs.Group.{HasStatistics, IsGroup, AreGroups, chunks_of}
-use Rattle.vortex_table_core.specs.Table.{is_formed}
+use Rattle.vortex_table_chunk.specs.Formed.{is_formed}
 use Rattle.vortex_table_core.specs.declared.group.Group.{Group}
-use Rattle.vortex_table_core.proofs.Formed.{led, as_long, summed}
-use Rattle.vortex_table_core.proofs.Proven.{all_said}
-use Rattle.vortex_table_core.proofs.Rows.{list_all_at}
+use Rattle.vortex_table_chunk.proofs.Formed.{led, as_long, summed}
+use Rattle.vortex_table_chunk.proofs.TypedRows.{all_said, all_counted}
+use Rattle.vortex_table_chunk.proofs.TypedRows.{list_all_at}
 use Rattle.vortex_table_core.proofs.Groups.{drop_on, formed_in}
 
 -- ---- lists
@@ -39,7 +37,7 @@ take_on (suc m) n (x ∷ xs) = ap (λ l. x ∷ l) (take_on m n xs) ∙ ap (λ k.
 one_left : (n : ℕ) (c : Chunk) (chunks : List Chunk) → n ≡ 1 → take n (c ∷ chunks) ≡ c ∷ []
 one_left n c chunks e = ap (λ k. take k (c ∷ chunks)) e
 
-pub group_within : (k : LogicalType) (L : ℕ) (g : Group) (chunks : List Chunk) → IsGroup k L g (chunks_of chunks g) → g.first + g.chunks ≤ length chunks
+pub group_within : (k : LogicalType) (L : Positions → ℕ) (g : Group) (chunks : List Chunk) → IsGroup k L g (chunks_of chunks g) → g.first + g.chunks ≤ length chunks
 group_within k L g chunks is =
     let some = is.some in let count = is.count in
     let left = length-drop g.first chunks in let front = length-take g.chunks (drop g.first chunks) in
@@ -47,7 +45,7 @@ group_within k L g chunks is =
 
 -- ---- the groups of a table
 
-module _ (k : LogicalType) (L : ℕ) (chunks : List Chunk) where
+module _ (k : LogicalType) (L : Positions → ℕ) (chunks : List Chunk) where
   moved : (i n : ℕ) (groups : List Group) → AreGroups k L (i + n) groups (drop n (drop i chunks)) → AreGroups k L (i + n) groups (drop (i + n) chunks)
   moved i n groups h = subst (λ cs. AreGroups k L (i + n) groups cs) (drop_on i n chunks) h
 
@@ -77,9 +75,9 @@ module _ (k : LogicalType) (L : ℕ) (chunks : List Chunk) where
       let here : is_formed L k c ≡ true = ap (is_formed L k) is ∙ list_all_at (is_formed L k) chunks g.first c formed inside in
       let alone : chunks_of chunks g ≡ c ∷ [] =
       ap (take g.chunks) (drop-cons chunks g.first c inside ∙ ap (λ x. x ∷ drop (suc g.first) chunks) (sym is)) ∙ one_left g.chunks c (drop (suc g.first) chunks) (count ∙ own) in
-      let honest : AreBoundsOf L (leaf_positions k) c.bounds.items c.rows.items =
-      subst (λ n. AreBoundsOf n (leaf_positions k) c.bounds.items c.rows.items) (as_long L k c here)
-      (subst (λ ls. AreBoundsOf c.bound_length ls c.bounds.items c.rows.items) (led L k c here) c.honest) in
+      let honest : AreBoundsOf (map L (leaf_positions k)) (leaf_positions k) c.bounds.items c.rows.items =
+      subst (λ ns. AreBoundsOf ns (leaf_positions k) c.bounds.items c.rows.items) (as_long L k c here)
+      (subst (λ ls. AreBoundsOf c.lengths.value.items ls c.bounds.items c.rows.items) (led L k c here) c.honest) in
       subst (λ cs. AreJoined k L (leaf_positions k) c.bounds.items (map chunk_rows cs)) (sym alone)
       (chunk_joined k L c.rows.items (all_said L k (c ∷ []) (λ i. here i && true)).0 (leaf_positions k) c.bounds.items honest
       (ap (λ ls. are_sums_of k ls c.bounds.items) (sym (led L k c here)) ∙ summed L k c here))
@@ -179,16 +177,7 @@ back_rows n chunks =
     rows_append (map chunk_rows (take n chunks)) (map chunk_rows (drop n chunks)) ∙ ap rows_in (sym (map-append chunk_rows (take n chunks) (drop n chunks))) ∙ ap (λ cs. rows_in (map chunk_rows cs)) (take-append-drop n chunks) in
     omega (arith, both)
 
-all_counted : (chunks : List Chunk) → rows_in (map chunk_rows chunks) ≡ row_count chunks
-all_counted [] = refl
-all_counted (c ∷ chunks) =
-    let n : ℕ = length c.rows.items in let m : ℕ = row_count chunks in
-    let one : row_count (c ∷ chunks) ≡ (0 + n) + m = sum_by-append (λ (x : Chunk). length x.rows.items) (c ∷ []) chunks in
-    let first = sum_first (length (chunk_rows c)) (map length (map chunk_rows chunks)) in
-    let same = length-map c.rows.items row_content in let rest = all_counted chunks in
-    omega (arith, one, first, same, rest)
-
-pub few_rows : (k : LogicalType) (L : ℕ) (chunks : List Chunk) (a b : Group) → IsGroup k L a (chunks_of chunks a) → IsGroup k L b (chunks_of chunks b) → b.first ≡ a.first + a.chunks → a.rows + b.rows ≤ row_count chunks
+pub few_rows : (k : LogicalType) (L : Positions → ℕ) (chunks : List Chunk) (a b : Group) → IsGroup k L a (chunks_of chunks a) → IsGroup k L b (chunks_of chunks b) → b.first ≡ a.first + a.chunks → a.rows + b.rows ≤ row_count chunks
 few_rows k L chunks a b p q next =
     let both = both_rows k L chunks a b p q next in
     let front = front_rows (a.chunks + b.chunks) (drop a.first chunks) in let back = back_rows a.first chunks in let all = all_counted chunks in

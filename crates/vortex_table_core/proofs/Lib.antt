@@ -1,7 +1,6 @@
 pub mod Added
 pub mod Counts
 pub mod DescribedBounds
-pub mod Formed
 pub mod Found
 pub mod JoinedGroups
 pub mod Progress
@@ -9,6 +8,7 @@ pub mod Proven
 pub mod PushedGroups
 pub mod Rows
 pub mod Groups
-pub mod EqualLeaves
+pub mod OwnType
+pub mod Regrouped
 pub mod Taken
 pub mod Described

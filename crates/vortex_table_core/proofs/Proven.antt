@@ -1,18 +1,16 @@
 -- What becomes of a chunk and of a group, by what their bounds prove.
-use Rattle.std.proofs.Common.{◌≡◌, refl, sym, ◌∙◌, ap, subst, ℕ, ◌<◌, nat_lt, List, [], ◌∷◌, length, map, Bool, true, false, ◌&&◌, Option, Some, None, IsTrue, if◌then◌else◌, arith}
+use Rattle.std.proofs.Common.{◌≡◌, refl, sym, ◌∙◌, ap, subst, ℕ, ◌<◌, nat_lt, List, length, map, Bool, true, false, ◌&&◌, Option, Some, None, IsTrue, if◌then◌else◌, arith}
 use Rattle.std.specs.Prelude.{is_some}
 use Rattle.std.specs.List.{AllByRecursion, list_all}
 use Rattle.std.proofs.lemmas.Bool.Decides.{nat_tests}
 use Rattle.std.proofs.lemmas.List.{length-map}
-use Rattle.vortex_model.specs.LogicalType.{LogicalType}
 use Rattle.vortex_model.specs.Content.{Content}
-use Rattle.vortex_model.proofs.ContentOrder.{true_left, true_right}
 use Rattle.vortex_model.specs.Valid.{IsContent}
 use Rattle.vortex_model.specs.Refusal.{Refusal, not_boolean, or_else}
 use Rattle.vortex_model.specs.Expression.{Expression}
 use Rattle.vortex_model.specs.Typing.{expression_type}
 use Rattle.vortex_model.specs.Rewrite.{falsifier, satisfier}
-use Rattle.vortex_model.specs.Table.{Table}
+use Rattle.vortex_model.specs.Table.{Table, bound_length}
 use Rattle.vortex_model.specs.Scan.{proves, is_many, chunk_zone, group_zone, chunk_outcome, skipped, whole, tested}
 use Rattle.vortex_model.specs.Command.{expression_fault, unless, is_boolean}
 use Rattle.vortex_table_schema.specs.Leaves.{leaf_positions}
@@ -27,28 +25,20 @@ use Rattle.vortex_table_chunk.proofs.ProvenAlike.{chunk_falsified, chunk_satisfi
 use Rattle.vortex_table_core.specs.Plan.{IsPlan, table_in, predicate_in}
 use Rattle.vortex_table_core.specs.Group.{IsGroup, HasStatistics}
 use Rattle.vortex_table_core.specs.Progress.{is_group_skipped}
-use Rattle.vortex_table_core.specs.Table.{is_formed}
+use Rattle.vortex_table_chunk.specs.Formed.{is_formed}
 use Rattle.vortex_table_core.specs.declared.group.Group.{Group}
 use Rattle.vortex_table_core.specs.declared.plan.Scan.{Scan}
-use Rattle.vortex_table_core.proofs.Formed.{valid_rows, led, as_long}
-use Rattle.vortex_table_core.proofs.Rows.{rows_said}
+use Rattle.vortex_table_chunk.proofs.Formed.{valid_rows, led, as_long}
+use Rattle.vortex_table_chunk.proofs.TypedRows.{rows_said, all_said}
 
 is_more : (n : ℕ) → 1 < n → nat_lt 1 n ≡ true
 is_more n h = grind (arith, nat_tests, h)
-
--- the rows of each chunk are of the type
-pub all_said : (L : ℕ) (k : LogicalType) (chunks : List Chunk) → list_all (is_formed L k) chunks ≡ true → AllByRecursion (λ chunk. AllByRecursion (IsContent k) chunk) (map chunk_rows chunks)
-all_said L k [] h = tt
-all_said L k (c ∷ chunks) h = (
-  rows_said k c.rows.items (valid_rows L k c (true_left (is_formed L k c) (list_all (is_formed L k) chunks) h)),
-  all_said L k chunks (true_right (is_formed L k c) (list_all (is_formed L k) chunks) h),
-)
 
 no_fault_first : (p q : Option Refusal) → or_else p q ≡ None → p ≡ None
 no_fault_first None q e = refl
 no_fault_first (Some r) q e = absurd (cc (e))
 
-module _ (plan : Scan) (is : IsPlan plan) (chunk : Chunk) (formed : IsTrue (is_formed (table_in plan).default (table_in plan).kind chunk)) where
+module _ (plan : Scan) (is : IsPlan plan) (chunk : Chunk) (formed : IsTrue (is_formed (bound_length (table_in plan)) (table_in plan).kind chunk)) where
   abbrev t : Table
   t = table_in plan
 
@@ -56,13 +46,13 @@ module _ (plan : Scan) (is : IsPlan plan) (chunk : Chunk) (formed : IsTrue (is_f
   e = predicate_in plan
 
   of_type : AllByRecursion (IsContent t.kind) (chunk_rows chunk)
-  of_type = rows_said t.kind chunk.rows.items (valid_rows t.default t.kind chunk formed)
+  of_type = rows_said t.kind chunk.rows.items (valid_rows (bound_length t) t.kind chunk formed)
 
   led_so : chunk.leaves.value.items ≡ leaf_positions t.kind
-  led_so = led t.default t.kind chunk formed
+  led_so = led (bound_length t) t.kind chunk formed
 
-  long_so : chunk.bound_length ≡ t.default
-  long_so = as_long t.default t.kind chunk formed
+  long_so : chunk.lengths.value.items ≡ map (bound_length t) chunk.leaves.value.items
+  long_so = as_long (bound_length t) t.kind chunk formed ∙ ap (map (bound_length t)) (sym led_so)
 
   no_fault : expression_fault t.kind e ≡ None
   no_fault = no_fault_first (expression_fault t.kind e) (unless (is_boolean (expression_type t.kind e)) not_boolean) is.faultless
@@ -77,12 +67,12 @@ module _ (plan : Scan) (is : IsPlan plan) (chunk : Chunk) (formed : IsTrue (is_f
   falsified_alike : proved plan.prepared.now.proofs.falsifier ≡ proves (chunk_zone t (chunk_rows chunk)) (length (chunk_rows chunk)) (falsifier t.kind e)
   falsified_alike =
       of_table plan.prepared.now.proofs.falsifier
-      ∙ chunk_falsified t chunk of_type led_so (λ place. long_so) e plan.prepared.now.proofs.falsifier is.falsifier is.no_like no_fault
+      ∙ chunk_falsified t chunk of_type led_so long_so e plan.prepared.now.proofs.falsifier is.falsifier no_fault
 
   satisfied_alike : proved plan.prepared.now.proofs.satisfier ≡ proves (chunk_zone t (chunk_rows chunk)) (length (chunk_rows chunk)) (satisfier t.kind e)
   satisfied_alike =
       of_table plan.prepared.now.proofs.satisfier
-      ∙ chunk_satisfied t chunk of_type led_so (λ place. long_so) e plan.prepared.now.proofs.satisfier is.satisfier no_fault
+      ∙ chunk_satisfied t chunk of_type led_so long_so e plan.prepared.now.proofs.satisfier is.satisfier no_fault
 
   pub outcome_by : (b c : Bool) → b ≡ proved plan.prepared.now.proofs.falsifier → c ≡ proved plan.prepared.now.proofs.satisfier →
       (if b then skipped else (if c then whole else tested)) ≡ chunk_outcome t e (chunk_rows chunk)
@@ -100,8 +90,8 @@ module _ (plan : Scan) (is : IsPlan plan) (chunk : Chunk) (formed : IsTrue (is_f
 
 -- ---- a group
 
-module _ (plan : Scan) (is : IsPlan plan) (group : Group) (chunks : List Chunk) (formed : list_all (is_formed (table_in plan).default (table_in plan).kind) chunks ≡ true)
-    (grouped : IsGroup (table_in plan).kind (table_in plan).default group chunks) where
+module _ (plan : Scan) (is : IsPlan plan) (group : Group) (chunks : List Chunk) (formed : list_all (is_formed (bound_length (table_in plan)) (table_in plan).kind) chunks ≡ true)
+    (grouped : IsGroup (table_in plan).kind (bound_length (table_in plan)) group chunks) where
   abbrev table : Table
   table = table_in plan
 
@@ -117,20 +107,20 @@ module _ (plan : Scan) (is : IsPlan plan) (group : Group) (chunks : List Chunk) 
   as_many : length rows ≡ length chunks
   as_many = length-map chunks chunk_rows
 
-  pub one_is_none : (o : Option (List ColumnBounds)) → o ≡ None → HasStatistics table.kind table.default o chunks → false ≡ is_group_skipped table asked rows
+  pub one_is_none : (o : Option (List ColumnBounds)) → o ≡ None → HasStatistics table.kind (bound_length table) o chunks → false ≡ is_group_skipped table asked rows
   one_is_none o e h =
-      let one : length rows ≡ 1 = as_many ∙ subst (λ p. HasStatistics table.kind table.default p chunks) e h in
+      let one : length rows ≡ 1 = as_many ∙ subst (λ p. HasStatistics table.kind (bound_length table) p chunks) e h in
       ap (λ n. nat_lt 1 n && proves (group_zone table rows) (rows_in rows) (falsifier table.kind asked)) (sym one)
 
-  pub many_proved : (o : Option (List ColumnBounds)) (bounds : List ColumnBounds) (found : Bool) → o ≡ Some bounds → HasStatistics table.kind table.default o chunks →
+  pub many_proved : (o : Option (List ColumnBounds)) (bounds : List ColumnBounds) (found : Bool) → o ≡ Some bounds → HasStatistics table.kind (bound_length table) o chunks →
       found ≡ proved_in (zone_provided (leaf_positions table.kind) bounds group.rows) plan.prepared.now.proofs.falsifier → found ≡ is_group_skipped table asked rows
   many_proved o bounds found e h p =
-      let own = subst (λ p. HasStatistics table.kind table.default p chunks) e h in
+      let own = subst (λ p. HasStatistics table.kind (bound_length table) p chunks) e h in
       let many : nat_lt 1 (length rows) ≡ true = is_more (length rows) (let here = own.0 in let same = as_many in omega (arith, here, same)) in
       p ∙ ap (λ n. proved_in (zone_provided (leaf_positions table.kind) bounds n) plan.prepared.now.proofs.falsifier) (sym grouped.rows)
-      ∙ group_falsified table bounds rows (all_said table.default table.kind chunks formed) (λ place. refl) own.1 asked plan.prepared.now.proofs.falsifier is.falsifier is.no_like faultless
+      ∙ group_falsified table bounds rows (all_said (bound_length table) table.kind chunks formed) own.1 asked plan.prepared.now.proofs.falsifier is.falsifier faultless
       ∙ ap (λ b. b && proves (group_zone table rows) (rows_in rows) (falsifier table.kind asked)) (sym many)
 
-  pub many_if : (o : Option (List ColumnBounds)) → HasStatistics table.kind table.default o chunks → is_some o ≡ is_many rows
+  pub many_if : (o : Option (List ColumnBounds)) → HasStatistics table.kind (bound_length table) o chunks → is_some o ≡ is_many rows
   many_if None h = let one : length rows ≡ 1 = as_many ∙ h in ap (nat_lt 1) (sym one)
   many_if (Some bounds) h = sym (is_more (length rows) (let here = h.0 in let same = as_many in omega (arith, here, same)))

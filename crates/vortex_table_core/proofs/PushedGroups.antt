@@ -2,6 +2,7 @@
 use Rattle.std.proofs.Common.{◌≡◌, refl, sym, ap, subst, ℕ, zero, suc, ◌+◌, ◌≤◌, List, [], ◌∷◌, ◌++◌, length, take, drop, None, option_map, arith}
 use Rattle.std.proofs.lemmas.List.{length-map, length-drop, length-take}
 use Rattle.vortex_model.specs.LogicalType.{LogicalType}
+use Rattle.vortex_model.specs.Path.{Positions}
 use Rattle.vortex_table_schema.specs.Rows.{row_content}
 use Rattle.vortex_table_chunk.specs.Chunk.{chunk_rows}
 use Rattle.vortex_table_chunk.specs.declared.chunk.Chunk.{Chunk}
@@ -18,7 +19,7 @@ drop_front zero xs ys h = refl
 drop_front (suc n) [] ys h = absurd (omega (arith, h))
 drop_front (suc n) (x ∷ xs) ys h = drop_front n xs ys (omega (arith, h))
 
-module _ (k : LogicalType) (L : ℕ) (g : Group) (c : Chunk) (one : g.chunks ≡ 1) (rows : g.rows ≡ length c.rows.items) (own : option_map (λ v. v.items) g.joined ≡ None) where
+module _ (k : LogicalType) (L : Positions → ℕ) (g : Group) (c : Chunk) (one : g.chunks ≡ 1) (rows : g.rows ≡ length c.rows.items) (own : option_map (λ v. v.items) g.joined ≡ None) where
   alone : IsGroup k L g (take g.chunks (c ∷ []))
   alone =
       let front : take g.chunks (c ∷ []) ≡ c ∷ [] = ap (λ n. take n (c ∷ [])) one in

@@ -3,6 +3,7 @@ use Rattle.std.specs.Prelude.{◌≡◌, ◌<◌, ◌+◌, ℕ, List, [], ◌∷
 use Rattle.std.specs.Coded.{Coded-set, coded_ℕ, ×_prop, Unit-prop, le_prop}
 use Rattle.std.proofs.Math.Logic.{∥∥₁_prop}
 use Rattle.vortex_model.specs.LogicalType.{LogicalType}
+use Rattle.vortex_model.specs.Path.{Positions}
 use Rattle.vortex_table_chunk.specs.Chunk.{chunk_rows}
 use Rattle.vortex_table_chunk.specs.Joined.{AreJoined, rows_in}
 use Rattle.vortex_table_chunk.specs.declared.chunk.Chunk.{Chunk}
@@ -11,20 +12,21 @@ use Rattle.vortex_table_schema.specs.Leaves.{leaf_positions}
 use Rattle.vortex_table_core.specs.declared.group.Group.{Group}
 
 -- Two or more chunks have the statistics that joins make of theirs. One chunk has its own.
-abbrev pub HasStatistics : LogicalType → ℕ → Option (List ColumnBounds) → List Chunk → Type 0
+abbrev pub HasStatistics : LogicalType → (Positions → ℕ) → Option (List ColumnBounds) →
+    List Chunk → Type 0
 HasStatistics k L None chunks = length chunks ≡ 1
 HasStatistics k L (Some bounds) chunks =
     (1 < length chunks) × ∥ AreJoined k L (leaf_positions k) bounds (map chunk_rows chunks) ∥₁
 
--- the group has these chunks of a type, at this bound length
-pub record IsGroup (k : LogicalType) (L : ℕ) (g : Group) (chunks : List Chunk) : Type 0 where
+-- the group has these chunks of a type, at these bound lengths
+pub record IsGroup (k : LogicalType) (L : Positions → ℕ) (g : Group) (chunks : List Chunk) : Type 0 where
   pub count : length chunks ≡ g.chunks
   pub some : 0 < g.chunks
   pub rows : rows_in (map chunk_rows chunks) ≡ g.rows
   pub statistics : HasStatistics k L (option_map (λ v. v.items) g.joined) chunks
 
 -- the groups have these chunks, one behind the other, of which the first has this index
-abbrev pub AreGroups : LogicalType → ℕ → ℕ → List Group → List Chunk → Type 0
+abbrev pub AreGroups : LogicalType → (Positions → ℕ) → ℕ → List Group → List Chunk → Type 0
 AreGroups k L i [] [] = Unit {0}
 AreGroups k L i [] (c ∷ chunks) = ⊥
 AreGroups k L i (g ∷ groups) chunks =
@@ -36,7 +38,7 @@ abbrev pub chunks_of : List Chunk → Group → List Chunk
 chunks_of chunks g = take g.chunks (drop g.first chunks)
 
 -- the group has the chunks of the one at the index and of the one behind it
-pub record IsOneGroup (k : LogicalType) (L : ℕ) (groups : List Group) (index : ℕ)
+pub record IsOneGroup (k : LogicalType) (L : Positions → ℕ) (groups : List Group) (index : ℕ)
     (chunks : List Chunk) (one : Group) : Type 0 where
   pub first : one.first ≡ (slice_index_or groups index one).first
   pub count : one.chunks ≡ (slice_index_or groups index one).chunks +
@@ -45,12 +47,12 @@ pub record IsOneGroup (k : LogicalType) (L : ℕ) (groups : List Group) (index :
 
 -- ---- at most one proof of each
 
-HasStatistics-prop : (k : LogicalType) (L : ℕ) (o : Option (List ColumnBounds))
+HasStatistics-prop : (k : LogicalType) (L : Positions → ℕ) (o : Option (List ColumnBounds))
     (chunks : List Chunk) → IsProp (HasStatistics k L o chunks)
 HasStatistics-prop k L None chunks = Coded-set coded_ℕ _ _
 HasStatistics-prop k L (Some bounds) chunks = ×_prop le_prop ∥∥₁_prop
 
-IsGroup-prop : (k : LogicalType) (L : ℕ) (g : Group) (chunks : List Chunk) →
+IsGroup-prop : (k : LogicalType) (L : Positions → ℕ) (g : Group) (chunks : List Chunk) →
     IsProp (IsGroup k L g chunks)
 IsGroup-prop k L g chunks = λ p q i. record {
   count = Coded-set coded_ℕ _ _ p.count q.count i;
@@ -60,7 +62,7 @@ IsGroup-prop k L g chunks = λ p q i. record {
       q.statistics i;
 }
 
-pub AreGroups-prop : (k : LogicalType) (L i : ℕ) (groups : List Group) (chunks : List Chunk) →
+pub AreGroups-prop : (k : LogicalType) (L : Positions → ℕ) (i : ℕ) (groups : List Group) (chunks : List Chunk) →
     IsProp (AreGroups k L i groups chunks)
 AreGroups-prop k L i [] [] = Unit-prop
 AreGroups-prop k L i [] (c ∷ chunks) = λ p q. absurd p

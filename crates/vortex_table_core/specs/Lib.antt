@@ -4,6 +4,6 @@ pub mod Group
 pub mod Outcome
 pub mod Plan
 pub mod Progress
+pub mod Retyped
 pub mod Selected
-pub mod Table
 pub mod TableView

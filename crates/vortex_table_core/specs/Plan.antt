@@ -1,14 +1,13 @@
 -- What is made of a scan once, before its chunks.
-use Rattle.std.specs.Prelude.{◌≡◌, List, None, true}
+use Rattle.std.specs.Prelude.{◌≡◌, List, None}
 use Rattle.vortex_model.specs.LogicalType.{LogicalType}
 use Rattle.vortex_model.specs.Content.{Content}
 use Rattle.vortex_model.specs.Path.{Names}
-use Rattle.vortex_model.specs.Expression.{Expression}
+use Rattle.vortex_model.specs.Expression.{Expression, HasFormedLiterals}
 use Rattle.vortex_model.specs.Truth.{value_at}
 use Rattle.vortex_model.specs.Cut.{cut_type}
 use Rattle.vortex_model.specs.Rewrite.{falsifier, satisfier}
 use Rattle.vortex_model.specs.Command.{predicate_fault}
-use Rattle.vortex_model.specs.Pruning.{has_no_like}
 use Rattle.vortex_model.specs.Table as model
 use Rattle.vortex_dtype_core.specs.View.{type_of}
 use Rattle.vortex_stats_bind.specs.Bound.{bound_value}
@@ -32,7 +31,7 @@ predicate_in plan = plan.predicate.now
 pub record IsPreparedFor (k : LogicalType) (paths : List Names) (e : Expression)
     (made : ScanPlan) : Type 0 where
   pub faultless : predicate_fault k e ≡ None
-  pub no_like : has_no_like e ≡ true
+  pub formed : HasFormedLiterals e
   pub bound : (row : Content) → bound_value made.bound row ≡ value_at k e row
   pub falsifier : IsBoundProof k (falsifier k e) made.proofs.falsifier
   pub satisfier : IsBoundProof k (satisfier k e) made.proofs.satisfier

@@ -1,5 +1,5 @@
 -- What tables and answers stand for.
-use Rattle.std.specs.Prelude.{[], map}
+use Rattle.std.specs.Prelude.{map}
 use Rattle.vortex_model.specs.Table as model
 use Rattle.vortex_dtype_core.specs.View.{type_of}
 use Rattle.vortex_table_chunk.specs.Chunk.{chunk_rows}
@@ -8,8 +8,8 @@ use Rattle.vortex_table_core.specs.declared.table.Table.{Table}
 abbrev pub table_of : Table → model.Table
 table_of t = record {
   kind = type_of t.dtype;
-  default = t.bound_length;
-  lengths = [];
+  default = t.bound_lengths.default;
+  lengths = t.bound_lengths.entries.items;
   chunks = map chunk_rows t.chunks.items;
   groups = map (λ g. g.chunks) t.groups.items;
 }

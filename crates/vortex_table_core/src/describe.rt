@@ -22,6 +22,7 @@ impl Table {
     ghost use Rattle.vortex_table_chunk.specs.Chunk.{chunk_rows};
     ghost use Rattle.vortex_table_chunk.specs.Joined.{IsJoined};
     ghost use Rattle.vortex_table_check.specs.Error.{Explains};
+    ghost use Rattle.vortex_table_check.specs.Lengths.{length_in};
     ghost use Rattle.vortex_table_core.specs.Group.{chunks_of};
     ghost use Rattle.vortex_table_core.specs.declared.group.Group.{Group};
     ghost use Rattle.vortex_table_core.specs.TableView.{table_of};
@@ -47,7 +48,7 @@ impl Table {
             (λ e. Explains ⊥
             (refusal (table_of self.now) (describe (steps_of path.now) group)) e) }
     {
-        let place = leaf_at(alloc, &self.dtype, path)?;
+        let place = leaf_at(alloc, 0, &self.dtype, path)?;
         if group >= self.groups.len() {
             return Err(TableError::NoSuchGroup);
         }
@@ -62,7 +63,7 @@ impl Table {
     fn leaf_statistics<'a>(&'a self, group: usize, place: &[usize]) -> &'a ColumnBounds
         requires group { group < length self.now.groups.items }
         requires leaf { is_leaf_at (type_of self.now.dtype) place.now ≡ true }
-        ensures { (g : Group) → ∥ IsJoined (type_of self.now.dtype) self.now.bound_length place.now
+        ensures { (g : Group) → ∥ IsJoined (type_of self.now.dtype) (length_in self.now.bound_lengths) place.now
             result.now (map chunk_rows (chunks_of self.now.chunks.items
             (slice_index_or self.now.groups.items group g))) ∥₁ }
     {

@@ -15,15 +15,16 @@ impl Table {
     ghost use Rattle.vortex_table_chunk.specs.Joined.{AreJoined};
     ghost use Rattle.vortex_table_schema.specs.Leaves.{leaf_positions};
     ghost use Rattle.vortex_table_check.specs.Error.{Explains};
+    ghost use Rattle.vortex_table_check.specs.Lengths.{length_in};
     ghost use Rattle.vortex_table_core.specs.Group.{IsGroup, IsOneGroup, chunks_of};
     ghost use Rattle.vortex_table_core.specs.TableView.{table_of};
 
     // The statistics of each leaf column in the rows of a group.
     pub(crate) fn statistics<'a>(&'a self, group: &'a Group) -> &'a [ColumnBounds]
         requires inside { group.now.first < length self.now.chunks.items }
-        requires group { IsGroup (type_of self.now.dtype) self.now.bound_length group.now
+        requires group { IsGroup (type_of self.now.dtype) (length_in self.now.bound_lengths) group.now
             (chunks_of self.now.chunks.items group.now) }
-        ensures { ∥ AreJoined (type_of self.now.dtype) self.now.bound_length
+        ensures { ∥ AreJoined (type_of self.now.dtype) (length_in self.now.bound_lengths)
             (leaf_positions (type_of self.now.dtype)) result.now
             (map chunk_rows (chunks_of self.now.chunks.items group.now)) ∥₁ }
     {
@@ -36,7 +37,7 @@ impl Table {
     // The group at the index and the one behind it, as one.
     fn joined_group(&self, alloc: Global, index: usize) -> Result<Group, AllocError>
         requires { index + 1 < length self.now.groups.items }
-        ensures { IfOk result (λ group. IsOneGroup (type_of self.now.dtype) self.now.bound_length
+        ensures { IfOk result (λ group. IsOneGroup (type_of self.now.dtype) (length_in self.now.bound_lengths)
             self.now.groups.items index self.now.chunks.items group) }
     {
         let left = &self.groups[index];

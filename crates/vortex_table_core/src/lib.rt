@@ -7,6 +7,7 @@ mod group;
 pub mod join;
 mod make;
 mod plan;
+pub mod retype;
 mod run;
 pub mod scan;
 mod select;

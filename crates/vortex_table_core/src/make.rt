@@ -1,8 +1,8 @@
 //! The preparation of a scan: its tests, the bound predicate, the two proofs and the cut.
-ghost use Rattle.std.specs.Prelude.{◌≡◌, None, OnOk, IfOk, IfErr, Option, map, true};
+ghost use Rattle.std.specs.Prelude.{◌≡◌, None, OnOk, IfOk, IfErr, Option, map};
 ghost use Rattle.vortex_model.specs.Content.{Content};
 ghost use Rattle.vortex_model.specs.Truth.{value_at};
-ghost use Rattle.vortex_model.specs.Pruning.{has_no_like};
+ghost use Rattle.vortex_model.specs.Expression.{HasFormedLiterals};
 ghost use Rattle.vortex_model.specs.Rewrite.{falsifier, satisfier};
 ghost use Rattle.vortex_stats_bind.specs.Bound.{bound_value};
 ghost use Rattle.vortex_model.specs.Refusal.{Refusal, or_else};
@@ -37,6 +37,7 @@ fn predicate_error(error: PredicateError) -> TableError
         PredicateError::NotALeaf => TableError::NotALeaf,
         PredicateError::UnequalTypes => TableError::UnequalTypes,
         PredicateError::NotBoolean => TableError::NotBoolean,
+        PredicateError::UnsupportedLike => TableError::UnsupportedLike,
         PredicateError::UnsupportedPredicate => TableError::UnsupportedPredicate,
     }
 }
@@ -50,7 +51,7 @@ fn bind_predicate(
     ensures faultless { OnOk result (predicate_fault (type_of dtype.now) predicate.now ≡ None) }
     ensures refused { IfErr result
         (λ e. Explains ⊥ (predicate_fault (type_of dtype.now) predicate.now) e) }
-    ensures no_like { OnOk result (has_no_like predicate.now ≡ true) }
+    ensures formed { OnOk result (HasFormedLiterals predicate.now) }
     ensures value { IfOk result (λ bound. (row : Content) → bound_value bound row
         ≡ value_at (type_of dtype.now) predicate.now row) }
 {

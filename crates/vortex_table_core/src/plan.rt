@@ -54,6 +54,7 @@ pub struct Scan<'a> {
 
 impl Scan<'_> {
     ghost use Rattle.std.specs.Prelude.{◌≡◌, ◌++◌, All, IfOk, OnOk, IsTrue, is_some, map};
+    ghost use Rattle.vortex_model.specs.Table.{bound_length};
     ghost use Rattle.vortex_model.specs.Scan.{chunk_outcome};
     ghost use Rattle.vortex_dtype_core.specs.View.{type_of};
     ghost use Rattle.vortex_scalar_core.specs.Scalar.{scalar_type, scalar_content};
@@ -65,7 +66,7 @@ impl Scan<'_> {
     ghost use Rattle.vortex_table_core.specs.Outcome.{outcome_of};
     ghost use Rattle.vortex_table_core.specs.Plan.{IsPlan, table_in, paths_in, predicate_in};
     ghost use Rattle.vortex_table_core.specs.Progress.{with_chunk, found_rows, proofs_at};
-    ghost use Rattle.vortex_table_core.specs.Table.{is_formed};
+    ghost use Rattle.vortex_table_chunk.specs.Formed.{is_formed};
 
     /// Whether the statistics of the table's leaf columns in so many rows make the proof true.
     pub fn proves(
@@ -89,7 +90,7 @@ impl Scan<'_> {
     fn outcome(&self, chunk: &Chunk) -> Pruning
         requires plan { IsPlan self.now }
         requires formed { IsTrue
-            (is_formed (table_in self.now).default (table_in self.now).kind chunk.now) }
+            (is_formed (bound_length (table_in self.now)) (table_in self.now).kind chunk.now) }
         ensures { outcome_of result ≡ chunk_outcome (table_in self.now)
             (predicate_in self.now) (chunk_rows chunk.now) }
     {
@@ -128,7 +129,7 @@ impl Scan<'_> {
     ) -> Result<(), AllocError>
         requires plan { IsPlan self.now }
         requires formed { IsTrue
-            (is_formed (table_in self.now).default (table_in self.now).kind chunk.now) }
+            (is_formed (bound_length (table_in self.now)) (table_in self.now).kind chunk.now) }
         requires outcome { outcome_of outcome ≡ chunk_outcome (table_in self.now)
             (predicate_in self.now) (chunk_rows chunk.now) }
         requires typed { All (λ row. scalar_type row ≡ type_of self.now.prepared.now.cut.dtype)
@@ -170,7 +171,7 @@ impl Scan<'_> {
     ) -> Result<(), AllocError>
         requires plan { IsPlan self.now }
         requires formed { IsTrue
-            (is_formed (table_in self.now).default (table_in self.now).kind chunk.now) }
+            (is_formed (bound_length (table_in self.now)) (table_in self.now).kind chunk.now) }
         requires typed { All (λ row. scalar_type row ≡ type_of self.now.prepared.now.cut.dtype)
             answer.old.rows.items }
         ensures found { OnOk result (answer_of answer.new ≡ with_chunk (table_in self.now).kind

@@ -24,6 +24,7 @@ fn push_numbers(first: usize, count: usize, numbers: &mut Vec<usize>) -> Result<
 impl Scan<'_> {
     ghost use Rattle.std.specs.Prelude.{◌≡◌, ◌≤◌, ◌<◌, ◌+◌, ◌*◌, ◌^◌, All, List, IfOk, OnOk, IsTrue, is_some, length, map};
     ghost use Rattle.std.specs.List.{list_all};
+    ghost use Rattle.vortex_model.specs.Table.{bound_length};
     ghost use Rattle.vortex_model.specs.Scan.{chunk_outcome, one_if, saturated, scanned};
     ghost use Rattle.vortex_dtype_core.specs.View.{type_of};
     ghost use Rattle.vortex_scalar_core.specs.Scalar.{scalar_type};
@@ -33,15 +34,15 @@ impl Scan<'_> {
     ghost use Rattle.vortex_table_core.specs.Group.{IsGroup, chunks_of};
     ghost use Rattle.vortex_table_core.specs.Plan.{IsPlan, table_in, paths_in, predicate_in};
     ghost use Rattle.vortex_table_core.specs.Progress.{with_chunks, with_group, is_group_skipped};
-    ghost use Rattle.vortex_table_core.specs.Table.{is_formed};
+    ghost use Rattle.vortex_table_chunk.specs.Formed.{is_formed};
 
     // A group of one chunk isn't looked at, since its chunk is.
     fn is_skipped(&self, group: &Group) -> bool
         requires { IsPlan self.now }
         ensures { (chunks : List Chunk)
-            → IsTrue (list_all (is_formed (table_in self.now).default (table_in self.now).kind)
+            → IsTrue (list_all (is_formed (bound_length (table_in self.now)) (table_in self.now).kind)
             chunks)
-            → IsGroup (table_in self.now).kind (table_in self.now).default group.now chunks
+            → IsGroup (table_in self.now).kind (bound_length (table_in self.now)) group.now chunks
             → result ≡ is_group_skipped (table_in self.now) (predicate_in self.now)
             (map chunk_rows chunks) }
     {
@@ -82,7 +83,7 @@ impl Scan<'_> {
     ) -> Result<(), AllocError>
         requires plan { IsPlan self.now }
         requires formed { IsTrue (list_all
-            (is_formed (table_in self.now).default (table_in self.now).kind) chunks.now) }
+            (is_formed (bound_length (table_in self.now)) (table_in self.now).kind) chunks.now) }
         requires fits { first + length chunks.now < 2 ^ 64 }
         requires typed { All (λ row. scalar_type row ≡ type_of self.now.prepared.now.cut.dtype)
             answer.old.rows.items }
@@ -110,7 +111,7 @@ impl Scan<'_> {
         requires plan { IsPlan self.now }
         requires inside { group.now.first + group.now.chunks
             ≤ length self.now.table.now.chunks.items }
-        requires group { IsGroup (table_in self.now).kind (table_in self.now).default group.now
+        requires group { IsGroup (table_in self.now).kind (bound_length (table_in self.now)) group.now
             (chunks_of self.now.table.now.chunks.items group.now) }
         requires counted { saturated answer.old.rows_tested ≡ answer.old.rows_tested }
         requires typed { All (λ row. scalar_type row ≡ type_of self.now.prepared.now.cut.dtype)

@@ -27,7 +27,7 @@ impl Table {
     /// Refused, in this order: `UnknownPath` or `ElementStep` with the first path at fault; the
     /// first fault of the predicate, children before their parent and left before right:
     /// `Placeholder`, `UnknownColumn`, `NotALeaf`, `UnsupportedPredicate`, `UnequalTypes`,
-    /// `NotBoolean`.
+    /// `NotBoolean`, `UnsupportedLike`.
     pub fn scan(
         &self,
         alloc: Global,

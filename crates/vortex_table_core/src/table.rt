@@ -6,17 +6,20 @@ ghost use Rattle.vortex_dtype_core.specs.View.{type_of};
 ghost use Rattle.vortex_table_chunk.specs.Chunk.{row_count};
 ghost use Rattle.vortex_table_schema.specs.Leaves.{leaf_positions};
 ghost use Rattle.vortex_table_core.specs.Group.{AreGroups, AreGroups-prop};
-ghost use Rattle.vortex_table_core.specs.Table.{is_formed, eq_leaves};
+ghost use Rattle.vortex_table_chunk.specs.Formed.{is_formed, eq_leaves, are_lengths_of};
+ghost use Rattle.vortex_table_check.specs.Lengths.{length_in};
 
 use crate::group::Group;
 use std::alloc::Global;
 use std::borrow::CowSlice;
 use std::rc::Rc;
 use vortex_dtype_core::dtype::DType;
+use vortex_dtype_path::path::FieldPath;
 use vortex_scalar_value::scalar_value::ScalarValue;
 use vortex_table_check::append::{check_batch, convert_rows};
 use vortex_table_check::check::check_type;
 use vortex_table_check::error::TableError;
+use vortex_table_check::lengths::{BoundLengths, check_lengths};
 use vortex_table_chunk::chunk::{Chunk, new_chunk};
 use vortex_table_schema::layout::Layout;
 use vortex_table_schema::leaves::{LeafPath, leaf_positions};
@@ -26,17 +29,22 @@ use vortex_table_schema::leaves::{LeafPath, leaf_positions};
 #[derive(Drop)]
 pub struct Table {
     pub(crate) dtype: DType,
-    pub(crate) bound_length: usize,
+    pub(crate) bound_lengths: BoundLengths,
     pub(crate) leaves: Rc<Vec<LeafPath>>,
+    // The bound length of each of the leaves.
+    pub(crate) lengths: Rc<Vec<usize>>,
     pub(crate) len: usize,
     pub(crate) chunks: Vec<Chunk>,
     pub(crate) groups: Vec<Group>,
     pub ghost kept: { IsTrue (is_none (type_fault_so_far (type_of dtype))) },
     pub ghost led: { IsTrue (eq_leaves leaves.value.items (leaf_positions (type_of dtype))) },
-    pub ghost formed: { IsTrue (list_all (is_formed bound_length (type_of dtype)) chunks.items) },
+    pub ghost measured: { IsTrue (are_lengths_of (length_in bound_lengths) (type_of dtype)
+        lengths.value.items) },
+    pub ghost formed: { IsTrue (list_all (is_formed (length_in bound_lengths) (type_of dtype))
+        chunks.items) },
     pub ghost counted: { row_count chunks.items ≡ len },
-    pub ghost grouped: { AreGroups (type_of dtype) bound_length 0 groups.items
-        chunks.items } by { AreGroups-prop (type_of dtype) bound_length 0 groups.items
+    pub ghost grouped: { AreGroups (type_of dtype) (length_in bound_lengths) 0 groups.items
+        chunks.items } by { AreGroups-prop (type_of dtype) (length_in bound_lengths) 0 groups.items
             chunks.items },
 }
 
@@ -51,23 +59,38 @@ impl Table {
     ghost use Rattle.vortex_table_schema.specs.Rows.{row_content};
     ghost use Rattle.vortex_table_core.specs.Append.{Appends};
     ghost use Rattle.vortex_table_check.specs.Error.{Explains};
+    ghost use Rattle.vortex_table_check.specs.Lengths.{entries_in};
     ghost use Rattle.vortex_table_core.specs.TableView.{table_of};
 
-    /// A table without rows. Texts and bytes of more than `bound_length` bytes will have shortened
-    /// bounds.
+    /// A table without rows. A bound of a leaf column that is a text or bytes of more bytes than the
+    /// column's bound length is shortened: that of its path in `lengths`, and else `default`. A path
+    /// stands for the positions of its names in the type.
     ///
-    /// It is refused where a table can't hold the type: `NotARecord`, `RepeatedName`, `UnkeptType`.
-    pub fn create(alloc: Global, dtype: DType, bound_length: usize) -> Result<Table, TableError>
-        ensures made { IfOk result (λ t. table_of t ≡ created (type_of dtype) bound_length []) }
-        ensures accepted { OnOk result (create_fault (type_of dtype) [] ≡ None) }
-        ensures refused { IfErr result (λ e. Explains ⊥ (create_fault (type_of dtype) []) e) }
+    /// Refused, in this order: where a table can't hold the type, `NotARecord`, `RepeatedName`,
+    /// `UnkeptType`; the first of `lengths` at fault, by its index, `UnknownPath`, `ElementStep`,
+    /// `NotALeaf`, `RepeatedPath` where its path stands before it.
+    pub fn create(
+        alloc: Global,
+        dtype: DType,
+        default: usize,
+        lengths: &[(FieldPath, usize)],
+    ) -> Result<Table, TableError>
+        ensures made { IfOk result
+            (λ t. table_of t ≡ created (type_of dtype) default (entries_in lengths.now)) }
+        ensures accepted { OnOk result
+            (create_fault (type_of dtype) (entries_in lengths.now) ≡ None) }
+        ensures refused { IfErr result
+            (λ e. Explains ⊥ (create_fault (type_of dtype) (entries_in lengths.now)) e) }
     {
         check_type(alloc, &dtype)?;
+        let bound_lengths = check_lengths(alloc, &dtype, default, lengths)?;
         let leaves = leaf_positions(alloc, &dtype)?;
+        let lengths = bound_lengths.of_leaves(alloc, &leaves)?;
         Ok(Table {
             dtype,
-            bound_length,
+            bound_lengths,
             leaves,
+            lengths,
             len: 0,
             chunks: Vec::new(alloc),
             groups: Vec::new(alloc),
@@ -146,7 +169,7 @@ impl Table {
             rows: rows.len(),
             joined: None,
         };
-        let chunk = new_chunk(alloc, &self.dtype, &self.leaves, self.bound_length, rows)?;
+        let chunk = new_chunk(alloc, &self.dtype, &self.leaves, &self.lengths, rows)?;
         // Once there is room for its group, the chunk is the last that memory can be short of.
         self.groups.reserve(1)?;
         self.chunks.push(chunk)?;

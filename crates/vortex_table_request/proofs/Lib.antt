@@ -1,5 +1,6 @@
 pub mod AtKinds
 pub mod Meanings
+pub mod Operands
 pub mod Readings
 pub mod RowLemmas
 pub mod Trees

@@ -1,3 +1,4 @@
+pub mod FormNames
 pub mod Kinds
 pub mod Line
 pub mod Parsed

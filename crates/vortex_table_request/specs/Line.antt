@@ -2,11 +2,12 @@
 use Rattle.std.specs.Prelude.{ℕ, ◌+◌, List, [], ◌∷◌, ◌==◌, is_some, Option, Some, None, if◌then◌else◌, option_map, option_and_then, codes}
 use Rattle.std.specs.Str.{bytes_eq}
 use Rattle.serde_json.specs.Data.{Data, Items, no_items, item}
-use Rattle.serde_json.specs.Find.{get, as_array, as_str}
+use Rattle.serde_json.specs.Find.{get, at, as_array, as_str}
 use Rattle.vortex_model.specs.LogicalType.{LogicalType}
 use Rattle.vortex_model.specs.Content.{Raw}
-use Rattle.vortex_model.specs.Command.{Command, create, append, scan, join, describe}
-use Rattle.vortex_table_request.specs.Parsed.{data_of, size_of, natural_of, keeps_whole}
+use Rattle.vortex_model.specs.Path.{Step}
+use Rattle.vortex_model.specs.Command.{Command, create, append, join, retype, scan, describe}
+use Rattle.vortex_table_request.specs.Parsed.{data_of, size_of, items_size, natural_of, keeps_whole}
 use Rattle.vortex_table_request.specs.Kinds.{type_in, one_if}
 use Rattle.vortex_table_request.specs.Rows.{rows_at}
 use Rattle.vortex_table_request.specs.Where.{path_in, paths_in, predicate_in}
@@ -32,11 +33,29 @@ abbrev pub layouts_in : Option Data → Option (List LayoutName)
 layouts_in None = Some []
 layouts_in (Some d) = option_and_then layouts_of (as_array d)
 
+-- the bound length of a leaf: `[path,length]`, whose length fits a `usize`
+abbrev pub entry_in : Data → Option (List Step × ℕ)
+entry_in d = option_and_then (λ size. if size == 2
+    then option_and_then (λ path. option_map (λ n. (path, n)) (option_and_then natural_of (at 1 d)))
+    (option_and_then path_in (at 0 d))
+    else None) (items_size d)
+
+abbrev pub entries_of : Items → Option (List (List Step × ℕ))
+entries_of no_items = Some []
+entries_of (item d ds) =
+    option_and_then (λ e. option_map (λ es. e ∷ es) (entries_of ds)) (entry_in d)
+
+-- missing bound lengths of leaves are none
+abbrev pub lengths_in : Option Data → Option (List (List Step × ℕ))
+lengths_in None = Some []
+lengths_in (Some d) = option_and_then entries_of (as_array d)
+
 -- `length` fits a `usize`
 abbrev pub create_in : ℕ → Data → Option Command
 create_in size d =
-    if size == 3
-    then option_and_then (λ k. option_map (λ n. create k n [])
+    if size == 3 + one_if (is_some (get (codes "lengths") d))
+    then option_and_then (λ k. option_and_then (λ n. option_map (create k n)
+    (lengths_in (get (codes "lengths") d)))
     (option_and_then natural_of (get (codes "length") d)))
     (option_and_then type_in (get (codes "dtype") d))
     else None
@@ -51,6 +70,12 @@ append_in size d =
     then option_and_then (λ layouts. option_and_then (λ k. option_map (append k) (rows_in k d))
     (option_and_then type_in (get (codes "dtype") d)))
     (layouts_in (get (codes "layouts") d))
+    else None
+
+abbrev pub retype_in : ℕ → Data → Option Command
+retype_in size d =
+    if size == 2
+    then option_map retype (option_and_then type_in (get (codes "dtype") d))
     else None
 
 abbrev pub scan_in : ℕ → Data → Option Command
@@ -79,7 +104,7 @@ describe_in size d =
 
 -- which command a line asks for
 pub data VerbName : Type 0 where
-  creates appends scans joins describes : VerbName
+  creates appends joins retypes scans describes : VerbName
 
 abbrev pub verb_named : List ℕ → Option VerbName
 verb_named name =
@@ -87,7 +112,8 @@ verb_named name =
     else (if bytes_eq name (codes "append") then Some appends
     else (if bytes_eq name (codes "scan") then Some scans
     else (if bytes_eq name (codes "join") then Some joins
-    else (if bytes_eq name (codes "describe") then Some describes else None))))
+    else (if bytes_eq name (codes "retype") then Some retypes
+    else (if bytes_eq name (codes "describe") then Some describes else None)))))
 
 -- that command, in an object of this many members
 abbrev pub command_with : VerbName → ℕ → Data → Option Command
@@ -95,6 +121,7 @@ command_with creates size d = create_in size d
 command_with appends size d = append_in size d
 command_with scans size d = scan_in size d
 command_with joins size d = join_in size d
+command_with retypes size d = retype_in size d
 command_with describes size d = describe_in size d
 
 -- an object with `cmd` and exactly the keys of that command

@@ -1,18 +1,24 @@
 -- Paths, and the predicate of a scan.
-use Rattle.std.specs.Prelude.{ℕ, List, [], ◌∷◌, ◌==◌, is_some, Option, Some, None, if◌then◌else◌, option_map, option_and_then, codes}
-use Rattle.std.specs.Str.{bytes_eq}
-use Rattle.serde_json.specs.Data.{Data, Items, no_items, item}
-use Rattle.serde_json.specs.Find.{at, as_array, as_null, as_str}
+use Rattle.std.specs.Prelude.{ℕ, zero, suc, List, [], ◌∷◌, Bool, is_some, Option, Some, None, if◌then◌else◌, option_map, option_and_then}
+use Rattle.serde_json.specs.Data.{Data, null, boolean as truth, number, string, array, object, Items, no_items, item}
+use Rattle.serde_json.specs.Find.{at, as_array, as_bool, as_null, as_str}
 use Rattle.vortex_model.specs.LogicalType.{LogicalType}
-use Rattle.vortex_dtype_core.specs.Parts.{is_boolean_type}
-use Rattle.vortex_model.specs.Kept.{is_leaf}
 use Rattle.vortex_model.specs.Content.{content_of}
 use Rattle.vortex_model.specs.Valid.{valid}
 use Rattle.vortex_model.specs.Path.{Step, name, element}
-use Rattle.vortex_model.specs.Expression.{Comparison, equal, not_equal, greater, at_least, less, at_most, Expression, literal, column, compare}
-use Rattle.vortex_table_request.specs.Parsed.{items_size}
+use Rattle.vortex_model.specs.Expression.{Expression, literal, column, negation, is_null, is_not_null, is_nan, between, like, row_count, statistic}
+use Rattle.vortex_stats_expr.specs.Tree.{combined}
 use Rattle.vortex_table_request.specs.Kinds.{type_in, strings_of}
 use Rattle.vortex_table_request.specs.Rows.{reading}
+use Rattle.vortex_table_request.specs.FormNames.{aggregate_named, form_in}
+use Rattle.vortex_table_request.specs.declared.forms.Form.{Form}
+use Rattle.vortex_table_request.specs.declared.forms.Form.TheVariants as form
+use Rattle.vortex_table_request.specs.declared.forms.Leaf.{Leaf}
+use Rattle.vortex_table_request.specs.declared.forms.Leaf.TheVariants as leaf
+use Rattle.vortex_table_request.specs.declared.forms.Unary.{Unary}
+use Rattle.vortex_table_request.specs.declared.forms.Unary.TheVariants as unary
+use Rattle.vortex_table_request.specs.declared.forms.Binary.{Binary}
+use Rattle.vortex_table_request.specs.declared.forms.Binary.TheVariants as binary
 
 -- ---- paths
 
@@ -33,74 +39,84 @@ paths_in (item d ds) = option_and_then (λ p. option_map (λ ps. p ∷ ps) (path
 
 -- ---- predicates
 
--- a literal at a leaf, where its reading is valid
+-- a literal of a type, where the reading is valid
 abbrev pub literal_at : LogicalType → Data → Option Expression
-literal_at k d = option_and_then (λ r. if is_leaf k
-    then (if valid k r then Some (literal k (content_of r)) else None) else None) (reading k d)
+literal_at k d =
+    option_and_then (λ r. if valid k r then Some (literal k (content_of r)) else None) (reading k d)
+
+-- `["lit",type,content]`
+abbrev pub literal_in : Data → Option Expression
+literal_in d = option_and_then (λ k. option_and_then (literal_at k) (at 2 d))
+    (option_and_then type_in (at 1 d))
 
 abbrev pub behind_first : Items → Items
 behind_first no_items = no_items
 behind_first (item d ds) = ds
 
--- the type of `["lit",type,content]`
-abbrev pub literal_kind_in : ℕ → Data → Option LogicalType
-literal_kind_in n d = if n == 3 then option_and_then type_in (at 1 d) else None
-
--- `["lit",type,content]`
-abbrev pub literal_in : ℕ → Data → Option Expression
-literal_in n d =
-    option_and_then (λ k. option_and_then (literal_at k) (at 2 d)) (literal_kind_in n d)
-
--- the same as a predicate, which no literal truth value is so far
-abbrev pub root_literal_in : ℕ → Data → Option Expression
-root_literal_in n d = option_and_then (λ k. if is_boolean_type k then None
-    else option_and_then (literal_at k) (at 2 d)) (literal_kind_in n d)
-
 -- `["col",name,..]`
 abbrev pub column_in : Data → Option Expression
 column_in d = option_map column (option_and_then (λ ds. strings_of (behind_first ds)) (as_array d))
 
-abbrev pub operand_named : List ℕ → ℕ → Data → Option Expression
-operand_named op n d =
-    if bytes_eq op (codes "lit") then literal_in n d
-    else (if bytes_eq op (codes "col") then column_in d else None)
+-- a predicate over no other
+abbrev pub leaf_in : Leaf → Data → Option Expression
+leaf_in leaf.Literal d = literal_in d
+leaf_in leaf.Column d = column_in d
+leaf_in leaf.RowCount d = Some row_count
 
-abbrev pub operand_in : Data → Option Expression
-operand_in d =
-    option_and_then (λ n. option_and_then (λ op. operand_named op n d)
-    (option_and_then as_str (at 0 d))) (items_size d)
+-- a predicate over one other: `[test,x]` and `["stat",x,name]`
+abbrev pub unary_in : Unary → Expression → Data → Option Expression
+unary_in unary.Not x d = Some (negation x)
+unary_in unary.IsNull x d = Some (is_null x)
+unary_in unary.IsNotNull x d = Some (is_not_null x)
+unary_in unary.IsNan x d = Some (is_nan x)
+unary_in unary.Stat x d =
+    option_map (statistic x) (option_and_then aggregate_named (option_and_then as_str (at 2 d)))
 
-abbrev pub comparison_named : List ℕ → Option Comparison
-comparison_named op =
-    if bytes_eq op (codes "=") then Some equal
-    else (if bytes_eq op (codes "!=") then Some not_equal
-    else (if bytes_eq op (codes ">") then Some greater
-    else (if bytes_eq op (codes ">=") then Some at_least
-    else (if bytes_eq op (codes "<") then Some less
-    else (if bytes_eq op (codes "<=") then Some at_most else None)))))
+-- the flag at this place
+abbrev pub flag_at : ℕ → Data → Option Bool
+flag_at i d = option_and_then as_bool (at i d)
 
--- `[op,x,y]`
-abbrev pub comparison_in : Comparison → ℕ → Data → Option Expression
-comparison_in c n d =
-    if n == 3
-    then option_and_then (λ x. option_map (λ y. compare c x y)
-    (option_and_then operand_in (at 2 d))) (option_and_then operand_in (at 1 d))
-    else None
+-- a predicate over two others: `[op,x,y]` and `["like",x,pattern,negated,ignore_case]`
+abbrev pub binary_in : Binary → Expression → Expression → Data → Option Expression
+binary_in (binary.Operator o) x y d = Some (combined o x y)
+binary_in binary.Like x y d =
+    option_and_then (λ negated. option_map (λ ignores_case. like x y negated ignores_case)
+    (flag_at 4 d)) (flag_at 3 d)
 
--- a literal or a column as a predicate
-abbrev pub root_named : List ℕ → ℕ → Data → Option Expression
-root_named op n d =
-    if bytes_eq op (codes "lit") then root_literal_in n d
-    else (if bytes_eq op (codes "col") then column_in d else None)
+-- `["between",x,lo,hi,lower_strict,upper_strict]`
+abbrev pub between_in : Expression → Expression → Expression → Data → Option Expression
+between_in x lo hi d =
+    option_and_then (λ lower. option_map (λ upper. between x lo hi lower upper) (flag_at 5 d))
+    (flag_at 4 d)
 
--- the comparison of a name, and else a literal or a column
-abbrev pub predicate_by : Option Comparison → List ℕ → ℕ → Data → Option Expression
-predicate_by None op n d = root_named op n d
-predicate_by (Some c) op n d = comparison_in c n d
+-- the predicate at this place, of what each item is as a predicate
+abbrev pub operand : ℕ → List (Option Expression) → Option Expression
+operand i [] = None
+operand zero (x ∷ xs) = x
+operand (suc i) (x ∷ xs) = operand i xs
 
--- the predicate that a value is: a comparison of literals and columns, or one of these, but no
--- literal truth value
-abbrev pub predicate_in : Data → Option Expression
-predicate_in d =
-    option_and_then (λ n. option_and_then (λ op. predicate_by (comparison_named op) op n d)
-    (option_and_then as_str (at 0 d))) (items_size d)
+-- an array of this form, of what each item is as a predicate
+abbrev pub predicate_of : Form → Data → List (Option Expression) → Option Expression
+predicate_of (form.Leaf l) d xs = leaf_in l d
+predicate_of (form.Unary u) d xs = option_and_then (λ x. unary_in u x d) (operand 1 xs)
+predicate_of (form.Binary b) d xs =
+    option_and_then (λ x. option_and_then (λ y. binary_in b x y d) (operand 2 xs)) (operand 1 xs)
+predicate_of form.Between d xs =
+    option_and_then (λ x. option_and_then (λ lo. option_and_then (λ hi. between_in x lo hi d)
+    (operand 3 xs)) (operand 2 xs)) (operand 1 xs)
+
+-- the predicate that a value is, to any depth
+abbrev mutual
+  pub predicate_in : Data → Option Expression
+  predicate_in null = None
+  predicate_in (truth b) = None
+  predicate_in (number n) = None
+  predicate_in (string s) = None
+  predicate_in (array ds) =
+      option_and_then (λ f. predicate_of f (array ds) (predicates_in ds)) (form_in (array ds))
+  predicate_in (object ms) = None
+
+  -- what each item is as a predicate
+  pub predicates_in : Items → List (Option Expression)
+  predicates_in no_items = []
+  predicates_in (item d ds) = predicate_in d ∷ predicates_in ds

@@ -2,14 +2,14 @@
 ghost use Rattle.std.specs.Prelude.{◌≡◌, map, option_map, Some, None, if◌then◌else◌};
 ghost use Rattle.serde_json.specs.View.{view, items_view};
 ghost use Rattle.vortex_table_request.specs.Parsed.{Gives};
-ghost use Rattle.vortex_table_request.specs.Line.{layout_named, layouts_of, layouts_in, rows_in, create_in, append_in, scan_in, join_in, describe_in, verb_named, command_in, command_of};
-ghost use Rattle.vortex_table_request.specs.View.{layout_of, verb_of, shown};
+ghost use Rattle.vortex_table_request.specs.Line.{layout_named, layouts_of, layouts_in, entry_in, entries_of, lengths_in, create_in, rows_in, append_in, retype_in, scan_in, join_in, describe_in, verb_named, command_in, command_of};
+ghost use Rattle.vortex_table_request.specs.View.{layout_of, verb_of, entry_of, shown};
 ghost use Rattle.vortex_dtype_core.specs.View.{type_of};
 ghost use Rattle.vortex_scalar_value.specs.View.{raw_in};
 
 use crate::paths::{read_path, read_paths};
 use crate::predicates::read_predicate;
-use crate::{ParseError, is_whole, parse, present_members, read_dtype, read_rows, size};
+use crate::{ParseError, is_whole, length, parse, present_members, read_dtype, read_rows, size};
 use serde_json::Value;
 use std::alloc::Global;
 use vortex_dtype_core::dtype::DType;
@@ -21,12 +21,14 @@ use vortex_table_schema::layout::Layout;
 /// A command of a line.
 #[derive(Drop)]
 pub enum Command {
-    /// A new table of a type, whose bounds of texts and bytes have at most `length` bytes.
+    /// A new table of a type, whose bounds of texts and bytes are shortened.
     Create {
         /// The type of the rows.
         dtype: DType,
-        /// In bytes.
+        /// The most bytes of a bound at a leaf that `lengths` doesn't name.
         length: usize,
+        /// Paths of leaves, each with the most bytes of a bound there.
+        lengths: Vec<(FieldPath, usize)>,
     },
     /// Rows for the table.
     Append {
@@ -48,6 +50,11 @@ pub enum Command {
     Join {
         /// The index of the first.
         group: usize,
+    },
+    /// Another type for the table's rows.
+    Retype {
+        /// The new type.
+        dtype: DType,
     },
     /// What is known of a leaf column in a group of chunks.
     Describe {
@@ -93,10 +100,49 @@ fn read_layouts(alloc: Global, list: Option<&Value>) -> Result<Vec<Layout>, Pars
     }
 }
 
+/// A leaf's path and its bound length: `[path,length]`.
+fn read_entry(alloc: Global, value: &Value) -> Result<(FieldPath, usize), ParseError>
+    ensures { Gives entry_of result (entry_in (view value.now)) }
+{
+    let size = length(value).ok_or(ParseError::Malformed)?;
+    if size != 2 {
+        return Err(ParseError::Malformed);
+    }
+    let path = read_path(alloc, value.get(0).ok_or(ParseError::Malformed)?)?;
+    let bound_length = value
+        .get(1)
+        .and_then(Value::as_u64)
+        .ok_or(ParseError::Malformed)?;
+    Ok((path, bound_length as usize))
+}
+
+fn read_entries(alloc: Global, items: &[Value]) -> Result<Vec<(FieldPath, usize)>, ParseError>
+    ensures { Gives (λ v. map entry_of v.items) result (entries_of (items_view items.now)) }
+{
+    let mut entries = Vec::new(alloc);
+    for item in items {
+        entries.push(read_entry(alloc, item)?)?;
+    }
+    Ok(entries)
+}
+
+fn read_lengths(alloc: Global, list: Option<&Value>) -> Result<Vec<(FieldPath, usize)>, ParseError>
+    ensures { Gives (λ v. map entry_of v.items) result
+        (lengths_in (option_map (λ v. view v.now) list.entry)) }
+{
+    match list {
+        None => Ok(Vec::new(alloc)),
+        Some(list) => {
+            let items = list.as_array().ok_or(ParseError::Malformed)?;
+            read_entries(alloc, items)
+        }
+    }
+}
+
 fn read_create(alloc: Global, size: usize, value: &Value) -> Result<Command, ParseError>
     ensures { Gives shown result (create_in size (view value.now)) }
 {
-    if size != 3 {
+    if size != 3 + present_members(value.get("lengths")) {
         return Err(ParseError::Malformed);
     }
     let dtype = read_dtype(alloc, value.get("dtype").ok_or(ParseError::Malformed)?)?;
@@ -104,9 +150,11 @@ fn read_create(alloc: Global, size: usize, value: &Value) -> Result<Command, Par
         .get("length")
         .and_then(Value::as_u64)
         .ok_or(ParseError::Malformed)?;
+    let lengths = read_lengths(alloc, value.get("lengths"))?;
     Ok(Command::Create {
         dtype,
         length: length as usize,
+        lengths,
     })
 }
 
@@ -175,6 +223,16 @@ fn read_join(size: usize, value: &Value) -> Result<Command, ParseError>
     })
 }
 
+fn read_retype(alloc: Global, size: usize, value: &Value) -> Result<Command, ParseError>
+    ensures { Gives shown result (retype_in size (view value.now)) }
+{
+    if size != 2 {
+        return Err(ParseError::Malformed);
+    }
+    let dtype = read_dtype(alloc, value.get("dtype").ok_or(ParseError::Malformed)?)?;
+    Ok(Command::Retype { dtype })
+}
+
 fn read_describe(alloc: Global, size: usize, value: &Value) -> Result<Command, ParseError>
     ensures { Gives shown result (describe_in size (view value.now)) }
 {
@@ -197,8 +255,9 @@ fn read_describe(alloc: Global, size: usize, value: &Value) -> Result<Command, P
 enum Verb {
     Create,
     Append,
-    Scan,
     Join,
+    Retype,
+    Scan,
     Describe,
 }
 
@@ -210,6 +269,7 @@ fn read_verb(name: &str) -> Result<Verb, ParseError>
         "append" => Ok(Verb::Append),
         "scan" => Ok(Verb::Scan),
         "join" => Ok(Verb::Join),
+        "retype" => Ok(Verb::Retype),
         "describe" => Ok(Verb::Describe),
         _ => Err(ParseError::Malformed),
     }
@@ -231,6 +291,7 @@ fn read_value_command(alloc: Global, value: &mut Value) -> Result<Command, Parse
         Verb::Append => read_append(alloc, size, value),
         Verb::Scan => read_scan(alloc, size, value),
         Verb::Join => read_join(size, value),
+        Verb::Retype => read_retype(alloc, size, value),
         Verb::Describe => read_describe(alloc, size, value),
     }
 }

@@ -2,6 +2,7 @@
 #![tactic(auto)]
 
 mod command;
+mod forms;
 mod kinds;
 mod leaves;
 mod messages;

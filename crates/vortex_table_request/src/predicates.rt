@@ -1,61 +1,44 @@
 //! Predicates of a scan from JSON.
-ghost use Rattle.std.specs.Prelude.{◌≡◌, option_map, option_and_then};
+//!
+//! The line is bad where an array is no form of `forms`, or an operand is no predicate. What a
+//! predicate means for a table isn't asked here: `check` of the table refuses operands of the wrong
+//! type, columns that aren't there, and forms that no scan takes.
+ghost use Rattle.std.specs.Prelude.{◌≡◌, option_and_then};
 ghost use Rattle.serde_json.specs.Find.{at};
 ghost use Rattle.serde_json.specs.View.{view, items_view};
 ghost use Rattle.vortex_dtype_core.specs.View.{type_of};
-ghost use Rattle.vortex_stats_expr.specs.Tree.{comparison_of};
+ghost use Rattle.vortex_stats_expr.specs.Tree.{is_strict};
 ghost use Rattle.vortex_table_request.specs.Parsed.{Gives};
-ghost use Rattle.vortex_table_request.specs.Where.{literal_at, literal_kind_in, literal_in, root_literal_in, column_in, operand_named, operand_in, comparison_named, comparison_in, root_named, predicate_in};
+ghost use Rattle.vortex_table_request.specs.Where.{literal_at, literal_in, column_in, leaf_in, unary_in, flag_at, binary_in, between_in, predicate_in};
 
-use crate::{ParseError, length, read_dtype, read_names, read_value};
+use crate::forms::{Binary, Form, Leaf, Unary, aggregate_named, read_form};
+use crate::{ParseError, read_dtype, read_names, read_value};
 use serde_json::Value;
 use std::alloc::Global;
 use vortex_dtype_core::dtype::DType;
 use vortex_dtype_ptype::field_names::FieldNames;
 use vortex_scalar_core::scalar::Scalar;
-use vortex_stats_expr::expression::{Expression, col, compare, lit};
-use vortex_stats_expr::operator::Comparison;
+use vortex_stats_expr::expression::{
+    Expression, between, binary, col, is_nan, is_not_null, is_null, like, lit, not, row_count, stat,
+};
+use vortex_stats_expr::options::{BetweenOptions, LikeOptions, StrictComparison};
 
-/// A literal of a leaf type, whose reading is valid.
+/// A literal whose reading is valid for its type.
 fn read_literal_at(alloc: Global, dtype: DType, value: &Value) -> Result<Expression, ParseError>
     ensures { Gives (λ e. e) result (literal_at (type_of dtype) (view value.now)) }
 {
     let content = read_value(value, alloc, &dtype)?;
-    if !dtype.is_leaf() {
-        return Err(ParseError::Malformed);
-    }
     match Scalar::try_new(dtype, content) {
         Ok(scalar) => Ok(lit(scalar)),
         Err(_) => Err(ParseError::Malformed),
     }
 }
 
-/// The type of `["lit",type,content]`.
-fn read_literal_type(alloc: Global, count: usize, value: &Value) -> Result<DType, ParseError>
-    ensures { Gives type_of result (literal_kind_in count (view value.now)) }
-{
-    if count != 3 {
-        return Err(ParseError::Malformed);
-    }
-    read_dtype(alloc, value.get(1).ok_or(ParseError::Malformed)?)
-}
-
 /// `["lit",type,content]`.
-fn read_literal(alloc: Global, count: usize, value: &Value) -> Result<Expression, ParseError>
-    ensures { Gives (λ e. e) result (literal_in count (view value.now)) }
+fn read_literal(alloc: Global, value: &Value) -> Result<Expression, ParseError>
+    ensures { Gives (λ e. e) result (literal_in (view value.now)) }
 {
-    let dtype = read_literal_type(alloc, count, value)?;
-    read_literal_at(alloc, dtype, value.get(2).ok_or(ParseError::Malformed)?)
-}
-
-/// An operand as a predicate: comparisons and trees of them. A boolean literal is none so far.
-fn read_root_literal(alloc: Global, count: usize, value: &Value) -> Result<Expression, ParseError>
-    ensures { Gives (λ e. e) result (root_literal_in count (view value.now)) }
-{
-    let dtype = read_literal_type(alloc, count, value)?;
-    if dtype.is_boolean() {
-        return Err(ParseError::Malformed);
-    }
+    let dtype = read_dtype(alloc, value.get(1).ok_or(ParseError::Malformed)?)?;
     read_literal_at(alloc, dtype, value.get(2).ok_or(ParseError::Malformed)?)
 }
 
@@ -71,105 +54,156 @@ fn read_column(alloc: Global, value: &Value) -> Result<Expression, ParseError>
     Ok(col(FieldNames::new(names)))
 }
 
-fn read_operand_named(
-    alloc: Global,
-    name: &str,
-    count: usize,
-    value: &Value,
-) -> Result<Expression, ParseError>
-    ensures { Gives (λ e. e) result (operand_named name.now count (view value.now)) }
+fn read_leaf(alloc: Global, leaf: Leaf, value: &Value) -> Result<Expression, ParseError>
+    ensures { Gives (λ e. e) result (leaf_in leaf (view value.now)) }
 {
-    match name {
-        "lit" => read_literal(alloc, count, value),
-        "col" => read_column(alloc, value),
-        _ => Err(ParseError::Malformed),
+    match leaf {
+        Leaf::Literal => read_literal(alloc, value),
+        Leaf::Column => read_column(alloc, value),
+        Leaf::RowCount => Ok(row_count()),
     }
 }
 
-/// A literal or a column.
-fn read_operand(alloc: Global, value: &Value) -> Result<Expression, ParseError>
-    ensures { Gives (λ e. e) result (operand_in (view value.now)) }
+/// `["stat",x,name]`.
+fn read_stat(alloc: Global, x: Expression, value: &Value) -> Result<Expression, ParseError>
+    ensures { Gives (λ e. e) result (unary_in Unary.Stat x (view value.now)) }
 {
-    let count = length(value).ok_or(ParseError::Malformed)?;
-    let name = value
-        .get(0)
+    let aggregate = value
+        .get(2)
         .and_then(Value::as_str)
+        .and_then(aggregate_named)
         .ok_or(ParseError::Malformed)?;
-    read_operand_named(alloc, name, count, value)
+    let placeholder = stat(alloc, aggregate, x)?;
+    Ok(placeholder)
 }
 
-/// The operand at a place of an array.
-fn read_operand_at(alloc: Global, value: &Value, place: usize) -> Result<Expression, ParseError>
-    ensures { Gives (λ e. e) result (option_and_then operand_in (at place (view value.now))) }
+/// A form over one predicate, which was read.
+fn read_unary(
+    alloc: Global,
+    unary: Unary,
+    x: Expression,
+    value: &Value,
+) -> Result<Expression, ParseError>
+    ensures { Gives (λ e. e) result (unary_in unary x (view value.now)) }
+{
+    let predicate = match unary {
+        Unary::Not => not(alloc, x)?,
+        Unary::IsNull => is_null(alloc, x)?,
+        Unary::IsNotNull => is_not_null(alloc, x)?,
+        Unary::IsNan => is_nan(alloc, x)?,
+        Unary::Stat => read_stat(alloc, x, value)?,
+    };
+    Ok(predicate)
+}
+
+/// The truth value at a place of an array.
+fn read_flag_at(value: &Value, place: usize) -> Result<bool, ParseError>
+    ensures { Gives (λ flag. flag) result (flag_at place (view value.now)) }
+{
+    let flag = value
+        .get(place)
+        .and_then(Value::as_bool)
+        .ok_or(ParseError::Malformed)?;
+    Ok(flag)
+}
+
+/// `["like",x,pattern,negated,ignore_case]`.
+fn read_like(
+    alloc: Global,
+    x: Expression,
+    pattern: Expression,
+    value: &Value,
+) -> Result<Expression, ParseError>
+    ensures { Gives (λ e. e) result (binary_in Binary.Like x pattern (view value.now)) }
+{
+    let options = LikeOptions {
+        negated: read_flag_at(value, 3)?,
+        case_insensitive: read_flag_at(value, 4)?,
+    };
+    let predicate = like(alloc, x, pattern, options)?;
+    Ok(predicate)
+}
+
+/// A form over two predicates, which were read.
+fn read_binary(
+    alloc: Global,
+    form: Binary,
+    x: Expression,
+    y: Expression,
+    value: &Value,
+) -> Result<Expression, ParseError>
+    ensures { Gives (λ e. e) result (binary_in form x y (view value.now)) }
+{
+    match form {
+        Binary::Operator(operator) => {
+            let predicate = binary(alloc, operator, x, y)?;
+            Ok(predicate)
+        }
+        Binary::Like => read_like(alloc, x, y, value),
+    }
+}
+
+fn strictness(strict: bool) -> StrictComparison
+    ensures { is_strict result ≡ strict }
+{
+    if strict {
+        StrictComparison::Strict
+    } else {
+        StrictComparison::NonStrict
+    }
+}
+
+/// `["between",x,lo,hi,lower_strict,upper_strict]`, whose predicates were read.
+fn read_between(
+    alloc: Global,
+    x: Expression,
+    lower: Expression,
+    upper: Expression,
+    value: &Value,
+) -> Result<Expression, ParseError>
+    ensures { Gives (λ e. e) result (between_in x lower upper (view value.now)) }
+{
+    let options = BetweenOptions {
+        lower_strict: strictness(read_flag_at(value, 4)?),
+        upper_strict: strictness(read_flag_at(value, 5)?),
+    };
+    let predicate = between(alloc, x, lower, upper, options)?;
+    Ok(predicate)
+}
+
+/// The predicate at a place of an array.
+#[cycle(predicate)]
+fn read_operand(alloc: Global, value: &Value, place: usize) -> Result<Expression, ParseError>
+    ensures { Gives (λ e. e) result (option_and_then predicate_in (at place (view value.now))) }
 {
     match value.get(place) {
-        Some(operand) => read_operand(alloc, operand),
+        Some(operand) => read_predicate(alloc, operand),
         None => Err(ParseError::Malformed),
     }
 }
 
-/// The comparison of this name, if it is one of the six.
-fn comparison_named(name: &str) -> Option<Comparison>
-    ensures { option_map comparison_of result ≡ comparison_named name.now }
-{
-    match name {
-        "=" => Some(Comparison::Eq),
-        "!=" => Some(Comparison::NotEq),
-        ">" => Some(Comparison::Gt),
-        ">=" => Some(Comparison::Gte),
-        "<" => Some(Comparison::Lt),
-        "<=" => Some(Comparison::Lte),
-        _ => None,
-    }
-}
-
-/// `[op,x,y]`.
-fn read_comparison(
-    alloc: Global,
-    comparison: Comparison,
-    count: usize,
-    value: &Value,
-) -> Result<Expression, ParseError>
-    ensures { Gives (λ e. e) result
-        (comparison_in (comparison_of comparison) count (view value.now)) }
-{
-    if count != 3 {
-        return Err(ParseError::Malformed);
-    }
-    let left = read_operand_at(alloc, value, 1)?;
-    let right = read_operand_at(alloc, value, 2)?;
-    let compared = compare(alloc, comparison, left, right)?;
-    Ok(compared)
-}
-
-/// A literal or a column as a predicate.
-fn read_root(
-    alloc: Global,
-    name: &str,
-    count: usize,
-    value: &Value,
-) -> Result<Expression, ParseError>
-    ensures { Gives (λ e. e) result (root_named name.now count (view value.now)) }
-{
-    match name {
-        "lit" => read_root_literal(alloc, count, value),
-        "col" => read_column(alloc, value),
-        _ => Err(ParseError::Malformed),
-    }
-}
-
-/// The predicate that a value is: a comparison of literals and columns, or one of these, but no
-/// literal truth value.
+/// The predicate that a value is, to any depth that a line may have.
+#[tactic(auto, using(crate::proofs::Operands::predicate_parts))]
+#[cycle(predicate)]
 pub(crate) fn read_predicate(alloc: Global, value: &Value) -> Result<Expression, ParseError>
     ensures { Gives (λ e. e) result (predicate_in (view value.now)) }
 {
-    let count = length(value).ok_or(ParseError::Malformed)?;
-    let name = value
-        .get(0)
-        .and_then(Value::as_str)
-        .ok_or(ParseError::Malformed)?;
-    match comparison_named(name) {
-        Some(comparison) => read_comparison(alloc, comparison, count, value),
-        None => read_root(alloc, name, count, value),
+    match read_form(value)? {
+        Form::Leaf(leaf) => read_leaf(alloc, leaf, value),
+        Form::Unary(unary) => {
+            let x = read_operand(alloc, value, 1)?;
+            read_unary(alloc, unary, x, value)
+        }
+        Form::Binary(binary) => {
+            let x = read_operand(alloc, value, 1)?;
+            let y = read_operand(alloc, value, 2)?;
+            read_binary(alloc, binary, x, y, value)
+        }
+        Form::Between => {
+            let x = read_operand(alloc, value, 1)?;
+            let lower = read_operand(alloc, value, 2)?;
+            let upper = read_operand(alloc, value, 3)?;
+            read_between(alloc, x, lower, upper, value)
+        }
     }
 }

@@ -34,7 +34,9 @@ error_text error.UnknownColumn n x memory f e total = same None n 12 x _ e f
 error_text error.NotALeaf n x memory f e total = same None n 13 x _ e f
 error_text error.UnequalTypes n x memory f e total = same None n 14 x _ e f
 error_text error.NotBoolean n x memory f e total = same None n 15 x _ e f
+error_text error.UnsupportedLike n x memory f e total = same None n 16 x _ e f
 error_text error.UnsupportedPredicate n x memory f e total = same None n 20 x _ e f
+error_text (error.RepeatedPath i) n x memory f e total = same (Some i) n 21 x _ e f
 
 -- an error is an answer that changes nothing
 pub explained : (P : Type 0) (old new : Option Table) (c : Command) (fault : Option Refusal) (e : TableError) → new ≡ old
@@ -55,4 +57,6 @@ explained P old new c fault error.UnknownColumn eq_table r passes behind x = (r 
 explained P old new c fault error.NotALeaf eq_table r passes behind x = (r ∙ x, eq_table)
 explained P old new c fault error.UnequalTypes eq_table r passes behind x = (r ∙ x, eq_table)
 explained P old new c fault error.NotBoolean eq_table r passes behind x = (r ∙ x, eq_table)
+explained P old new c fault error.UnsupportedLike eq_table r passes behind x = (r ∙ x, eq_table)
 explained P old new c fault error.UnsupportedPredicate eq_table r passes behind x = (r ∙ x, eq_table)
+explained P old new c fault (error.RepeatedPath i) eq_table r passes behind x = (r ∙ x, eq_table)

@@ -1,5 +1,5 @@
 -- Answers to the commands that sessions take.
-use Rattle.std.proofs.Common.{◌≡◌, ℕ, ◌+◌, ◌≤◌, ◌^◌, List, [], map, length, Option, Some, None, refl, ap, sym, subst, ◌∙◌}
+use Rattle.std.proofs.Common.{◌≡◌, ℕ, ◌+◌, ◌≤◌, ◌^◌, List, map, length, Option, Some, None, refl, ap, sym, subst, ◌∙◌}
 use Rattle.std.proofs.Math.ListN.{length-map}
 use Rattle.vortex_model.specs.LogicalType.{LogicalType}
 use Rattle.vortex_model.specs.Content.{Raw}
@@ -17,18 +17,18 @@ use Rattle.vortex_table_check.specs.declared.error.TableError.TheVariants as err
 use Rattle.vortex_table_run.specs.CommandAnswers.{error_answer}
 use Rattle.vortex_table_run.proofs.Errors.{explained}
 
-create_refusal : (old : Option Table) (k : LogicalType) (n : ℕ) → refusal_in old (create k n []) ≡ create_fault k []
-create_refusal None k n = refl
-create_refusal (Some t) k n = refl
+create_refusal : (old : Option Table) (k : LogicalType) (n : ℕ) (lengths : List (List Step × ℕ)) → refusal_in old (create k n lengths) ≡ create_fault k lengths
+create_refusal None k n lengths = refl
+create_refusal (Some t) k n lengths = refl
 
 -- no total is at fault
 never : (fault : Option Refusal) (e : TableError) → Explains ⊥ fault e → e ≡ error.Total → fault ≡ None
 never fault e x is = absurd (subst (λ (d : TableError). Explains ⊥ fault d) is x)
 
-pub create_refused : (old : Option Table) (k : LogicalType) (n : ℕ) (e : TableError) → Explains ⊥ (create_fault k []) e
-    → RespondsTo old (create k n []) (error_answer e) old
-create_refused old k n e x =
-    explained ⊥ old old (create k n []) (create_fault k []) e refl (create_refusal old k n) (λ h. absurd h) (never (create_fault k []) e x) x
+pub create_refused : (old : Option Table) (k : LogicalType) (n : ℕ) (lengths : List (List Step × ℕ)) (e : TableError) → Explains ⊥ (create_fault k lengths) e
+    → RespondsTo old (create k n lengths) (error_answer e) old
+create_refused old k n lengths e x =
+    explained ⊥ old old (create k n lengths) (create_fault k lengths) e refl (create_refusal old k n lengths) (λ h. absurd h) (never (create_fault k lengths) e x) x
 
 pub without_table : (old : Option Table) (c : Command) → old ≡ None → refusal_in None c ≡ Some no_table
     → RespondsTo old c (refused no_table) old

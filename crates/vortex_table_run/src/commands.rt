@@ -12,8 +12,8 @@ use vortex_table_io::{RunError, Sink, Source, run_lines};
 /// LF. There is no table at first.
 ///
 /// An LF ends a line, and the last line may lack it. A line is a command as a JSON object:
-/// `create`, `append`, `scan`, `join` or `describe`. It is answered as soon as it was read, and the
-/// sink is flushed once, after the last answer.
+/// `create`, `append`, `join`, `retype`, `scan` or `describe`. It is answered as soon as it was
+/// read, and the sink is flushed once, after the last answer.
 ///
 /// A line that is no command is answered by error 18, `BadLine`, and a command that is refused by
 /// its error. Neither changes the table, and the next line is served. Want of memory is error 1,

@@ -27,7 +27,9 @@ fn name(error: TableError) -> &'static str
         TableError::NotALeaf => "NotALeaf",
         TableError::UnequalTypes => "UnequalTypes",
         TableError::NotBoolean => "NotBoolean",
+        TableError::UnsupportedLike => "UnsupportedLike",
         TableError::UnsupportedPredicate => "UnsupportedPredicate",
+        TableError::RepeatedPath(_) => "RepeatedPath",
     }
 }
 

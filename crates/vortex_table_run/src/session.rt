@@ -1,14 +1,14 @@
 //! A table, or none yet, and what is said to commands.
-ghost use Rattle.std.specs.Prelude.{◌≡◌, ℕ, List, [], map, None, OnOk, refl};
+ghost use Rattle.std.specs.Prelude.{◌≡◌, ℕ, List, map, None, OnOk, refl};
 ghost use Rattle.std.proofs.Common.{inl};
-ghost use Rattle.vortex_model.specs.Command.{create, append, scan};
+ghost use Rattle.vortex_model.specs.Command.{create, append, retype, scan};
 ghost use Rattle.vortex_dtype_core.specs.View.{type_of};
 ghost use Rattle.vortex_dtype_path.specs.View.{steps_of};
 ghost use Rattle.vortex_scalar_value.specs.View.{raw_in};
 ghost use Rattle.vortex_table_schema.specs.Answer.{answer_of};
 ghost use Rattle.vortex_table_response.specs.Text.{scan_text};
 ghost use Rattle.vortex_table_io.specs.Lines.{with_lf};
-ghost use Rattle.vortex_table_request.specs.View.{shown};
+ghost use Rattle.vortex_table_request.specs.View.{entry_of, shown};
 ghost use Rattle.vortex_table_run.specs.CommandAnswers.{Responds};
 
 use crate::refused::fault;
@@ -51,12 +51,19 @@ impl Session {
     }
 
     /// Puts a new table in the place of the one that is there. Where it is refused, that one stays.
-    fn answer_create(&mut self, alloc: Global, dtype: DType, bound_length: usize) -> Response
+    fn answer_create(
+        &mut self,
+        alloc: Global,
+        dtype: DType,
+        bound_length: usize,
+        lengths: &[(FieldPath, usize)],
+    ) -> Response
         ensures { (out : List ℕ)
-            → Responds (table_in self.old) (create (type_of dtype) bound_length [])
+            → Responds (table_in self.old)
+            (create (type_of dtype) bound_length (map entry_of lengths.now))
             result out (table_in self.new) }
     {
-        match Table::create(alloc, dtype, bound_length) {
+        match Table::create(alloc, dtype, bound_length, lengths) {
             Ok(table) => {
                 self.table = Some(table);
                 Response::Done
@@ -80,6 +87,21 @@ impl Session {
             return Response::Short(without_table());
         };
         match table.append_owned(dtype, values, layouts) {
+            Ok(()) => Response::Done,
+            Err(error) => fault(error),
+        }
+    }
+
+    /// Gives the rows of the table another type. Once it has changed, the answer takes no memory.
+    fn answer_retype(&mut self, dtype: DType) -> Response
+        ensures { (out : List ℕ)
+            → Responds (table_in self.old) (retype (type_of dtype)) result out
+            (table_in self.new) }
+    {
+        let Some(table) = &mut self.table else {
+            return Response::Short(without_table());
+        };
+        match table.retype(dtype) {
             Ok(()) => Response::Done,
             Err(error) => fault(error),
         }
@@ -117,7 +139,11 @@ impl Session {
             (table_in self.new) }
     {
         match command {
-            Command::Create { dtype, length } => self.answer_create(alloc, dtype, length),
+            Command::Create {
+                dtype,
+                length,
+                lengths,
+            } => self.answer_create(alloc, dtype, length, &lengths),
             Command::Append {
                 dtype,
                 values,
@@ -125,6 +151,7 @@ impl Session {
             } => self.answer_append(&dtype, values, &layouts),
             Command::Scan { paths, predicate } => self.answer_scan(alloc, &paths, &predicate, out),
             Command::Join { group } => self.answer_join(group),
+            Command::Retype { dtype } => self.answer_retype(dtype),
             Command::Describe { path, group } => self.answer_describe(alloc, &path, group, out),
         }
     }

@@ -3,7 +3,7 @@
 use crate::checks::Checks;
 use vortex_stats::IntersectionResult::{Empty, Value};
 use vortex_stats::Precision::{Absent, Exact, Inexact};
-use vortex_stats::{BoundOf, IntersectionResult, LowerBound, Precision, StatBound};
+use vortex_stats::{IntersectionResult, Min, Precision, StatBound};
 
 pub fn run(checks: &mut Checks<'_>) {
     read(checks);
@@ -70,15 +70,8 @@ fn handed_on(checks: &mut Checks<'_>) {
     checks.holds("ok_or_else of none", empty.ok_or_else(|| 3u8) == Err(3));
 }
 
-/// A statistic that is a bound from below.
-struct Least;
-
-impl BoundOf<i32> for Least {
-    type Bound = LowerBound<i32>;
-}
-
 fn bounded(checks: &mut Checks<'_>) {
-    let bound = |known: Precision<i32>| known.bound::<Least>().map(|low| low.into_value());
+    let bound = |known: Precision<i32>| known.bound::<Min>().map(|low| low.into_value());
     checks.holds("bound of exact", bound(Exact(7)) == Some(Exact(7)));
     checks.holds("bound of inexact", bound(Inexact(7)) == Some(Inexact(7)));
     checks.holds("bound of absent", bound(Absent) == None);

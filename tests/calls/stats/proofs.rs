@@ -3,15 +3,17 @@
 use crate::checks::Checks;
 use crate::values::{Done, WITHOUT, number, numbers};
 use std::alloc::{AllocError, Global};
-use vortex_dtype::{DType, FieldName, FieldNames, StructField, StructFields};
+use vortex_dtype::{BufferString, DType, FieldName, FieldNames, StructField, StructFields};
 use vortex_scalar::{Scalar, ScalarError, ScalarValue};
 use vortex_stats::Value as Operand;
 use vortex_stats::{
-    AggregateFn, BoundExpression, Expression, Operands, StatBinder, bind_proof, bind_stats,
-    bound_literal, col, falsify, gt, lit, lt, prove, satisfy, stat,
+    AggregateFn, BetweenOptions, BoundExpression, Expression, LikeOptions, Operands,
+    PredicateError, StatBinder, StrictComparison, between, bind, bind_proof, bind_stats,
+    bound_literal, col, eq, falsify, gt, is_nan, is_not_null, is_null, like, lit, lt, not, prove,
+    row_count, satisfy, stat,
 };
 
-/// What is known of some rows of one column, the first.
+/// What is known of four rows of one column, the first.
 #[derive(Drop)]
 struct Known {
     greatest: Option<ScalarValue>,
@@ -20,9 +22,9 @@ struct Known {
 
 // Nothing here is proved, so the ghost members say nothing.
 impl Operands for Known {
-    ghost use Rattle.vortex_stats_expr.specs.Stats.{of_nothing};
+    ghost use Rattle.vortex_stats_bind.specs.Stats.{of_rows_alone};
 
-    ghost provided = { λ _. of_nothing };
+    ghost provided = { λ _. of_rows_alone 4 };
 
     fn column<'a>(&'a self, _path: &[usize]) -> Operand<'a> {
         Operand::Null
@@ -37,6 +39,10 @@ impl Operands for Known {
             (AggregateFn::NullCount, _) => Operand::Count(self.null_count),
             _ => Operand::Null,
         }
+    }
+
+    fn rows(&self) -> u64 {
+        4
     }
 }
 
@@ -106,6 +112,8 @@ pub fn run(alloc: Global, checks: &mut Checks<'_>) -> Done {
     let unknown = none_above(alloc, &dtype, "b")?;
     checks.holds("no such column", !unknown.holds(&known(Some(5), 0)));
     let row = two_steps(alloc, checks, &dtype, &proof)?;
+    only_nulls(alloc, checks, &dtype)?;
+    each_form(alloc, checks, &dtype, &row)?;
     checks.holds("statistics at a row", !proof.holds(&row) && !proof.selects(&row));
     Ok(())
 }
@@ -125,14 +133,14 @@ fn two_steps(
     proof: &BoundExpression,
 ) -> Result<ScalarValue, ScalarError> {
     let bound = bind_stats(alloc, proof, &known(Some(5), 0))?;
-    checks.holds("bound and proved", prove(&bound) == Some(true));
+    checks.holds("bound and proved", prove(&bound, 4) == Some(true));
     let bound = bind_stats(alloc, proof, &known(Some(6), 0))?;
-    checks.holds("bound and false", prove(&bound) == Some(false));
+    checks.holds("bound and false", prove(&bound, 4) == Some(false));
     let bound = bind_stats(alloc, proof, &known(None, 0))?;
-    checks.holds("bound to null", prove(&bound) == None);
+    checks.holds("bound to null", prove(&bound, 4) == None);
     let read = gt(alloc, column(alloc, "a")?, constant(5)?)?;
     let read = bind_proof(alloc, &read, dtype)?;
-    checks.holds("a column has no value", prove(&read) == None);
+    checks.holds("a column has no value", prove(&read, 4) == None);
     let none = satisfy(alloc, dtype, &constant(5)?)?;
     checks.holds("a number is no truth", none.is_none());
     let mut cells = Vec::new(alloc);
@@ -140,4 +148,92 @@ fn two_steps(
     let row = ScalarValue::Tuple(cells);
     checks.holds("a column at a row", read.selects(&row) && read.holds(&row));
     Ok(row)
+}
+
+/// The count of nulls against the number of rows, which is four.
+fn only_nulls(alloc: Global, checks: &mut Checks<'_>, dtype: &DType) -> Done {
+    let count = stat(alloc, AggregateFn::NullCount, column(alloc, "a")?)?;
+    let proof = bind_proof(alloc, &eq(alloc, count, row_count())?, dtype)?;
+    checks.holds("as many nulls as rows", proof.holds(&known(None, 4)));
+    checks.holds("fewer nulls than rows", !proof.holds(&known(None, 3)));
+    let rows = bind_proof(alloc, &eq(alloc, row_count(), row_count())?, dtype)?;
+    checks.holds("a number of rows", prove(&rows, 7) == Some(true));
+    Ok(())
+}
+
+/// Predicates of each form at the row {a=9}.
+fn each_form(
+    alloc: Global,
+    checks: &mut Checks<'_>,
+    dtype: &DType,
+    row: &ScalarValue,
+) -> Done {
+    let above = gt(alloc, column(alloc, "a")?, constant(5)?)?;
+    checks.holds("not", !is_true(alloc, dtype, row, not(alloc, above)?)?);
+    let missing = is_null(alloc, column(alloc, "a")?)?;
+    checks.holds("no null", !is_true(alloc, dtype, row, missing)?);
+    let there = is_not_null(alloc, column(alloc, "a")?)?;
+    checks.holds("a value", is_true(alloc, dtype, row, there)?);
+    let open = range(alloc, StrictComparison::Strict)?;
+    checks.holds("an end outside", !is_true(alloc, dtype, row, open)?);
+    let closed = range(alloc, StrictComparison::NonStrict)?;
+    checks.holds("an end inside", is_true(alloc, dtype, row, closed)?);
+    let plain = begins(alloc, "ab%", false)?;
+    checks.holds("a match", is_true(alloc, dtype, row, plain)?);
+    let negated = begins(alloc, "ab%", true)?;
+    checks.holds("a match negated", !is_true(alloc, dtype, row, negated)?);
+    let escaped = begins(alloc, "a\\%", false)?;
+    let answer = bind(alloc, &escaped, dtype);
+    checks.holds("a backslash", fault(answer) == Some(PredicateError::UnsupportedLike));
+    let answer = bind(alloc, &is_nan(alloc, column(alloc, "a")?)?, dtype);
+    checks.holds("NaN", fault(answer) == Some(PredicateError::UnsupportedPredicate));
+    Ok(())
+}
+
+fn is_true(
+    alloc: Global,
+    dtype: &DType,
+    row: &ScalarValue,
+    predicate: Expression,
+) -> Result<bool, ScalarError> {
+    match bind(alloc, &predicate, dtype) {
+        Ok(bound) => Ok(bound.selects(row)),
+        Err(PredicateError::Memory) => Err(ScalarError::Memory),
+        Err(_) => Err(ScalarError::Invalid),
+    }
+}
+
+fn fault(answer: Result<BoundExpression, PredicateError>) -> Option<PredicateError> {
+    match answer {
+        Ok(_) => None,
+        Err(error) => Some(error),
+    }
+}
+
+/// Whether the column lies between 9 and 12.
+fn range(alloc: Global, lower_strict: StrictComparison) -> Result<Expression, ScalarError> {
+    let options = BetweenOptions {
+        lower_strict,
+        upper_strict: StrictComparison::NonStrict,
+    };
+    let value = column(alloc, "a")?;
+    Ok(between(alloc, value, constant(9)?, constant(12)?, options)?)
+}
+
+/// Whether "abc" matches the pattern.
+fn begins(
+    alloc: Global,
+    pattern: &'static str,
+    negated: bool,
+) -> Result<Expression, ScalarError> {
+    let options = LikeOptions {
+        negated,
+        case_insensitive: false,
+    };
+    Ok(like(alloc, text("abc")?, text(pattern)?, options)?)
+}
+
+fn text(value: &'static str) -> Result<Expression, ScalarError> {
+    let value = ScalarValue::from(BufferString::from(value));
+    Ok(lit(Scalar::try_new(DType::Utf8(WITHOUT), Some(value))?))
 }

@@ -41,7 +41,7 @@ fn nested_type(alloc: Global, depth: usize) -> Result<DType, AllocError> {
 /// Three rows under a hundred records, scanned by the number inside.
 pub fn records_may_nest_deep(alloc: Global, checks: &mut Checks<'_>) -> Result<(), TableError> {
     let dtype = nested_type(alloc, DEPTH)?;
-    let mut table = Table::create(alloc, dtype.clone()?, 16)?;
+    let mut table = Table::create(alloc, dtype.clone()?, 16, &[])?;
     let mut values = Vec::new(alloc);
     for number in 0..3 {
         values.push(nested_row(alloc, DEPTH, number)?)?;

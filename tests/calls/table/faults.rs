@@ -32,11 +32,11 @@ pub fn the_first_fault_of_a_type_is_told(
     let twice = record(alloc, ["q", "q"], numbers.clone()?, numbers.clone()?)?;
 
     let nested = record(alloc, ["a", "p"], numbers.clone()?, two_columns(alloc)?)?;
-    let made = Table::create(alloc, nested, 16)?;
+    let made = Table::create(alloc, nested, 16, &[])?;
     checks.holds("a record in a record", made.is_empty());
 
     let behind = record(alloc, ["a", "p"], floats.clone()?, twice.clone()?)?;
-    let answer = Table::create(alloc, behind, 16);
+    let answer = Table::create(alloc, behind, 16, &[]);
     refused(
         checks,
         "an unkept type, then repeated names",
@@ -45,7 +45,7 @@ pub fn the_first_fault_of_a_type_is_told(
     )?;
 
     let before = record(alloc, ["p", "a"], twice, floats.clone()?)?;
-    let answer = Table::create(alloc, before, 16);
+    let answer = Table::create(alloc, before, 16, &[]);
     refused(
         checks,
         "repeated names, then an unkept type",
@@ -54,7 +54,7 @@ pub fn the_first_fault_of_a_type_is_told(
     )?;
 
     let names = record(alloc, ["a", "a"], floats, numbers)?;
-    let answer = Table::create(alloc, names, 16);
+    let answer = Table::create(alloc, names, 16, &[]);
     refused(
         checks,
         "repeated names around an unkept type",

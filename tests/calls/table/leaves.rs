@@ -42,7 +42,7 @@ fn row(
 // Texts and truth values, in two chunks: (apple, false), (apricot, false); and (melon, true).
 fn fruits(alloc: Global, bound_length: usize) -> Result<Table, TableError> {
     let dtype = record(alloc, ["name", "round"], texts(), truths())?;
-    let mut table = Table::create(alloc, dtype.clone()?, bound_length)?;
+    let mut table = Table::create(alloc, dtype.clone()?, bound_length, &[])?;
     let mut values = Vec::new(alloc);
     values.push(row(alloc, text(alloc, "apple")?, Some(ScalarValue::Bool(false)))?)?;
     values.push(row(
@@ -60,7 +60,7 @@ fn fruits(alloc: Global, bound_length: usize) -> Result<Table, TableError> {
 // Bytes, in two chunks: 1 255, null; and 3.
 fn byte_strings(alloc: Global, bound_length: usize) -> Result<Table, TableError> {
     let dtype = record(alloc, ["blob", "n"], all_bytes(), integers())?;
-    let mut table = Table::create(alloc, dtype.clone()?, bound_length)?;
+    let mut table = Table::create(alloc, dtype.clone()?, bound_length, &[])?;
     let mut values = Vec::new(alloc);
     values.push(row(alloc, bytes(alloc, &[1, 255])?, cell(0))?)?;
     values.push(row(alloc, None, cell(0))?)?;
@@ -161,7 +161,7 @@ fn joined(
     second: &[u8],
 ) -> Result<Table, TableError> {
     let dtype = record(alloc, ["blob", "n"], all_bytes(), integers())?;
-    let mut table = Table::create(alloc, dtype.clone()?, bound_length)?;
+    let mut table = Table::create(alloc, dtype.clone()?, bound_length, &[])?;
     let mut values = Vec::new(alloc);
     values.push(row(alloc, bytes(alloc, first)?, cell(0))?)?;
     table.append(&dtype, &values, &[])?;

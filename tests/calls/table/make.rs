@@ -86,7 +86,7 @@ pub fn truth(b: bool) -> Result<Expression, TableError> {
 /// Two chunks: (1, null), (2, 3); and (10, 1).
 pub fn filled(alloc: Global) -> Result<Table, TableError> {
     let dtype = two_columns(alloc)?;
-    let mut table = Table::create(alloc, dtype.clone()?, 16)?;
+    let mut table = Table::create(alloc, dtype.clone()?, 16, &[])?;
     let mut values = Vec::new(alloc);
     values.push(row(alloc, 1, None)?)?;
     values.push(row(alloc, 2, Some(3))?)?;

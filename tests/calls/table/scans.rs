@@ -64,7 +64,7 @@ fn with_inner_record(alloc: Global) -> Result<Table, TableError> {
     cells.push(cell(3))?;
     let mut rows = Vec::new(alloc);
     rows.push(Some(ScalarValue::Tuple(cells)))?;
-    let mut table = Table::create(alloc, dtype.clone()?, 16)?;
+    let mut table = Table::create(alloc, dtype.clone()?, 16, &[])?;
     table.append_owned(&dtype, rows, &[])?;
     Ok(table)
 }

@@ -75,8 +75,8 @@ fn upper_bound(
 }
 
 impl MinMax<'_> {
-    // Whether all values are one, null too. The least and the greatest are then the same.
-    fn is_constant(&self) -> bool
+    /// Whether all values are one, null too. The least and the greatest are then the same.
+    pub fn is_constant(&self) -> bool
         ensures { result ≡ constant_by (option_map borrowed_content self.now.least)
             (option_map borrowed_content self.now.greatest) self.now.null_count }
     {

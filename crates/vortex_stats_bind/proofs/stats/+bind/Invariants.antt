@@ -4,7 +4,10 @@ use Rattle.vortex_stats_bind.specs.Bound.{bound_size}
 use Rattle.vortex_stats_bind.proofs.stats.+bind.Given as goal
 
 abbrev pub decreases-bind_stats : goal.decreases-bind_stats
-decreases-bind_stats g l = 2 * bound_size l.proof.now
+decreases-bind_stats g l = 3 * bound_size l.proof.now
 
 abbrev pub decreases-bind_both : goal.decreases-bind_both
-decreases-bind_both g l = 2 * (bound_size l.x.now + bound_size l.y.now) + 1
+decreases-bind_both g l = 3 * (bound_size l.x.now + bound_size l.y.now) + 1
+
+abbrev pub decreases-bind_range : goal.decreases-bind_range
+decreases-bind_range g l = 3 * (bound_size l.x.now + bound_size l.lower.now + bound_size l.upper.now) + 2

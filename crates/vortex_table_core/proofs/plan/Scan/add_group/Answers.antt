@@ -1,6 +1,7 @@
 use Rattle.std.proofs.Common.{◌≡◌, refl, sym, ap, subst, ◌∙◌, ◌+◌, ◌*◌, map, true, Option, Some, None}
 use Rattle.std.specs.Prelude.{is_some, option_map}
 use Rattle.std.specs.List.{list_all}
+use Rattle.vortex_model.specs.Table.{bound_length}
 use Rattle.vortex_model.specs.Scan.{saturated, one_if, is_many, chunk_outcome}
 use Rattle.vortex_table_schema.specs.Answer.{answer_of}
 use Rattle.vortex_table_chunk.specs.Chunk.{chunk_rows}
@@ -8,7 +9,7 @@ use Rattle.vortex_table_chunk.proofs.ProvenAlike.{is_there}
 use Rattle.vortex_table_core.specs.Group.{chunks_of}
 use Rattle.vortex_table_core.specs.Plan.{table_in, paths_in, predicate_in}
 use Rattle.vortex_table_core.specs.Progress.{with_chunks, group_proofs}
-use Rattle.vortex_table_core.specs.Table.{is_formed}
+use Rattle.vortex_table_chunk.specs.Formed.{is_formed}
 use Rattle.vortex_table_core.proofs.Added.{stopped}
 use Rattle.vortex_table_core.proofs.Groups.{formed_in, group_skipped, group_entered}
 use Rattle.vortex_table_core.proofs.Proven.{many_if}
@@ -22,7 +23,7 @@ pub returns-then-skipped-clause-found : goal.returns-then-skipped-clause-found
 returns-then-skipped-clause-found c =
     let plan = c.args.self.now in let g = c.args.group.now in let all = plan.table.now.chunks.items in
     let t = table_in plan in let own = chunks_of all g in let old = c.args.answer.now in
-    let formed = formed_in (is_formed t.default t.kind) g all plan.table.now.formed in
+    let formed = formed_in (is_formed (bound_length t) t.kind) g all plan.table.now.formed in
     let tried : one_if (is_some plan.prepared.now.proofs.falsifier) * one_if (is_some g.joined) ≡ group_proofs t (predicate_in plan) (is_many (map chunk_rows own)) =
     (λ i. one_if (is_there _ _ _ c.requires.plan.falsifier i) * one_if ((as_there (λ v. v.items) g.joined ∙ many_if plan c.requires.plan g own formed c.requires.group _ c.requires.group.statistics) i)) in
     group_skipped plan c.requires.plan g own formed c.requires.group (answer_of old) _ (sym (c.is_skipped-skipped.ensures own formed c.requires.group) ∙ c.if-skipped.true)
@@ -32,14 +33,14 @@ returns-then-skipped-clause-found c =
 pub add_chunks-requires-clause-formed : goal.add_chunks-requires-clause-formed
 add_chunks-requires-clause-formed c =
     let plan = c.args.self.now in let t = table_in plan in
-    subst (λ cs. list_all (is_formed t.default t.kind) cs ≡ true) (sym c.chunks_of-chunks.ensures)
-    (formed_in (is_formed t.default t.kind) c.args.group.now plan.table.now.chunks.items plan.table.now.formed)
+    subst (λ cs. list_all (is_formed (bound_length t) t.kind) cs ≡ true) (sym c.chunks_of-chunks.ensures)
+    (formed_in (is_formed (bound_length t) t.kind) c.args.group.now plan.table.now.chunks.items plan.table.now.formed)
 
 pub returns-clause-found : goal.returns-clause-found
 returns-clause-found c =
     let plan = c.args.self.now in let g = c.args.group.now in let all = plan.table.now.chunks.items in
     let t = table_in plan in let own = chunks_of all g in let old = c.args.answer.now in
-    let formed = formed_in (is_formed t.default t.kind) g all plan.table.now.formed in
+    let formed = formed_in (is_formed (bound_length t) t.kind) g all plan.table.now.formed in
     let tried : one_if (is_some plan.prepared.now.proofs.falsifier) * one_if (is_some g.joined) ≡ group_proofs t (predicate_in plan) (is_many (map chunk_rows own)) =
     (λ i. one_if (is_there _ _ _ c.requires.plan.falsifier i) * one_if ((as_there (λ v. v.items) g.joined ∙ many_if plan c.requires.plan g own formed c.requires.group _ c.requires.group.statistics) i)) in
     let a = answer_of old in

@@ -3,7 +3,7 @@ use Rattle.vortex_dtype_core.specs.View.{type_of}
 use Rattle.vortex_table_chunk.specs.BoundStat.{zone_provided}
 use Rattle.vortex_table_chunk.specs.Proved.{proved_in}
 use Rattle.vortex_table_schema.specs.Leaves.{leaf_positions}
-use Rattle.vortex_table_core.proofs.EqualLeaves.{leaves_so}
+use Rattle.vortex_table_chunk.proofs.EqualLeaves.{leaves_so}
 use Rattle.vortex_table_core.proofs.plan.Scan.proves.Goals as goal
 
 pub returns : goal.returns

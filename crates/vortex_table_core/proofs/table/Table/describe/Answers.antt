@@ -11,6 +11,7 @@ use Rattle.vortex_table_core.proofs.Described.{chunks_typed, column_described}
 use Rattle.vortex_table_core.proofs.DescribedBounds.{leaf_bounds}
 use Rattle.vortex_table_core.proofs.JoinedGroups.{same_at}
 use Rattle.vortex_table_check.proofs.LeafPlaces.{leaf_part, one_of}
+use Rattle.vortex_table_check.specs.Lengths.{length_in}
 use Rattle.vortex_table_core.proofs.table.Table.describe.Goals as goal
 
 pub returns-clause-described : goal.returns-clause-described
@@ -24,11 +25,11 @@ returns-clause-described c =
     let b = c.leaf_statistics.result.now in
     let rows = map chunk_rows (chunks_of t.chunks.items g) in
     let z = zone_in b (rows_in rows) in
-    let joined : ∥ IsJoined k t.bound_length place b rows ∥₁ =
-    subst (λ is. ∥ IsJoined k t.bound_length is b rows ∥₁) c.deref.ensures.value (c.leaf_statistics.ensures d) in (
+    let joined : ∥ IsJoined k (length_in t.bound_lengths) place b rows ∥₁ =
+    subst (λ is. ∥ IsJoined k (length_in t.bound_lengths) is b rows ∥₁) c.deref.ensures.value (c.leaf_statistics.ensures d) in (
       z,
       subst (λ is. Describes (table_of t) is i z) (sym c.in_ok-place.ensures.place)
           (column_described t i g inside at_i place leaf.part b leaf.there leaf.leaf joined),
       c.in_ok-description.ensures.described (rows_in rows)
-          (leaf_bounds k t.bound_length place leaf.part b rows leaf.there leaf.leaf (chunks_typed t i g inside at_i) joined),
+          (leaf_bounds k (length_in t.bound_lengths) place leaf.part b rows leaf.there leaf.leaf (chunks_typed t i g inside at_i) joined),
     )

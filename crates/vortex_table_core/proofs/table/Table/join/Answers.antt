@@ -7,26 +7,27 @@ use Rattle.vortex_table_core.specs.TableView.{table_of}
 use Rattle.vortex_table_core.specs.declared.group.Group.{Group}
 use Rattle.vortex_table_core.specs.declared.table.Table.{Table}
 use Rattle.vortex_table_core.proofs.JoinedGroups.{with_one, edited, sizes_joined, groups_replaced}
+use Rattle.vortex_table_check.specs.Lengths.{length_in}
 use Rattle.vortex_table_core.proofs.table.Table.join.Goals as goal
 
 -- the groups with one in place of two
 module _ (t : Table) (i : ℕ) (g : Group) (mid new : List Group) (inside : suc i < length t.groups.items) (set : mid ≡ slice_set t.groups.items i g) (removed : new ≡ take (i + 1) mid ++ drop (i + 1 + 1) mid)
-    (one : IsOneGroup (type_of t.dtype) t.bound_length t.groups.items i t.chunks.items g) where
-  is_with_one : new ≡ with_one (type_of t.dtype) t.bound_length t.chunks.items i g t.groups.items
+    (one : IsOneGroup (type_of t.dtype) (length_in t.bound_lengths) t.groups.items i t.chunks.items g) where
+  is_with_one : new ≡ with_one (type_of t.dtype) (length_in t.bound_lengths) t.chunks.items i g t.groups.items
   is_with_one =
       removed ∙ (λ j. take (add-one i j) (set j) ++ drop ((add-one (i + 1) ∙ ap suc (add-one i)) j) (set j))
-      ∙ edited (type_of t.dtype) t.bound_length t.chunks.items i g t.groups.items inside
+      ∙ edited (type_of t.dtype) (length_in t.bound_lengths) t.chunks.items i g t.groups.items inside
 
   counted : g.chunks ≡ (get_or t.groups.items i g).chunks + (get_or t.groups.items (suc i) g).chunks
   counted = one.count ∙ ap (λ n. (get_or t.groups.items i g).chunks + (get_or t.groups.items n g).chunks) (add-one i)
 
-  new_groups : AreGroups (type_of t.dtype) t.bound_length 0 new t.chunks.items
+  new_groups : AreGroups (type_of t.dtype) (length_in t.bound_lengths) 0 new t.chunks.items
   new_groups =
-      subst (λ gs. AreGroups (type_of t.dtype) t.bound_length 0 gs t.chunks.items) (sym is_with_one)
-      (groups_replaced (type_of t.dtype) t.bound_length t.chunks.items 0 i g t.groups.items inside t.grouped one.first counted one.group)
+      subst (λ gs. AreGroups (type_of t.dtype) (length_in t.bound_lengths) 0 gs t.chunks.items) (sym is_with_one)
+      (groups_replaced (type_of t.dtype) (length_in t.bound_lengths) t.chunks.items 0 i g t.groups.items inside t.grouped one.first counted one.group)
 
   new_sizes : map (λ (x : Group). x.chunks) new ≡ joined_at i (map (λ (x : Group). x.chunks) t.groups.items)
-  new_sizes = ap (map (λ (x : Group). x.chunks)) is_with_one ∙ sizes_joined (type_of t.dtype) t.bound_length t.chunks.items i g t.groups.items inside counted
+  new_sizes = ap (map (λ (x : Group). x.chunks)) is_with_one ∙ sizes_joined (type_of t.dtype) (length_in t.bound_lengths) t.chunks.items i g t.groups.items inside counted
 
 pub invariant_of-self-clause-grouped : goal.invariant_of-self-clause-grouped
 invariant_of-self-clause-grouped c =

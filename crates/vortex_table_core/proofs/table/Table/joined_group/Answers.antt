@@ -7,32 +7,33 @@ use Rattle.vortex_table_core.specs.Group.{IsGroup, chunks_of}
 use Rattle.vortex_table_core.specs.declared.group.Group.{Group}
 use Rattle.vortex_table_core.specs.declared.table.Table.{Table}
 use Rattle.vortex_table_core.proofs.JoinedGroups.{group_at, group_within, next_first, few_rows, one_group, same_at}
+use Rattle.vortex_table_check.specs.Lengths.{length_in}
 use Rattle.vortex_table_core.proofs.table.Table.joined_group.Goals as goal
 
 -- two neighbouring groups of a table
 module _ (t : Table) (i : ℕ) (a b : Group) (inside : i + 1 < length t.groups.items) (at_a : a ≡ get_or t.groups.items i a) (at_b : b ≡ get_or t.groups.items (i + 1) b) where
-  left_is : IsGroup (type_of t.dtype) t.bound_length a (chunks_of t.chunks.items a)
-  left_is = group_at (type_of t.dtype) t.bound_length t.chunks.items 0 t.groups.items t.grouped i a (omega (arith, inside)) at_a
+  left_is : IsGroup (type_of t.dtype) (length_in t.bound_lengths) a (chunks_of t.chunks.items a)
+  left_is = group_at (type_of t.dtype) (length_in t.bound_lengths) t.chunks.items 0 t.groups.items t.grouped i a (omega (arith, inside)) at_a
 
-  right_is : IsGroup (type_of t.dtype) t.bound_length b (chunks_of t.chunks.items b)
-  right_is = group_at (type_of t.dtype) t.bound_length t.chunks.items 0 t.groups.items t.grouped (i + 1) b inside at_b
+  right_is : IsGroup (type_of t.dtype) (length_in t.bound_lengths) b (chunks_of t.chunks.items b)
+  right_is = group_at (type_of t.dtype) (length_in t.bound_lengths) t.chunks.items 0 t.groups.items t.grouped (i + 1) b inside at_b
 
   next_is : b.first ≡ a.first + a.chunks
   next_is =
-      next_first (type_of t.dtype) t.bound_length t.chunks.items 0 t.groups.items t.grouped i a b (let h = add-one i in omega (arith, inside, h)) at_a
+      next_first (type_of t.dtype) (length_in t.bound_lengths) t.chunks.items 0 t.groups.items t.grouped i a b (let h = add-one i in omega (arith, inside, h)) at_a
       (subst (λ n. b ≡ get_or t.groups.items n b) (add-one i) at_b)
 
   left_inside : a.first < length t.chunks.items
-  left_inside = let w = group_within (type_of t.dtype) t.bound_length a t.chunks.items left_is in let s = left_is.some in omega (arith, w, s)
+  left_inside = let w = group_within (type_of t.dtype) (length_in t.bound_lengths) a t.chunks.items left_is in let s = left_is.some in omega (arith, w, s)
 
   right_inside : b.first < length t.chunks.items
-  right_inside = let w = group_within (type_of t.dtype) t.bound_length b t.chunks.items right_is in let s = right_is.some in omega (arith, w, s)
+  right_inside = let w = group_within (type_of t.dtype) (length_in t.bound_lengths) b t.chunks.items right_is in let s = right_is.some in omega (arith, w, s)
 
   few_chunks : a.chunks + b.chunks ≤ length t.chunks.items
-  few_chunks = let w = group_within (type_of t.dtype) t.bound_length b t.chunks.items right_is in let n = next_is in omega (arith, w, n)
+  few_chunks = let w = group_within (type_of t.dtype) (length_in t.bound_lengths) b t.chunks.items right_is in let n = next_is in omega (arith, w, n)
 
   few : a.rows + b.rows ≤ t.len
-  few = let r = few_rows (type_of t.dtype) t.bound_length t.chunks.items a b left_is right_is next_is in let n = t.counted in omega (arith, r, n)
+  few = let r = few_rows (type_of t.dtype) (length_in t.bound_lengths) t.chunks.items a b left_is right_is next_is in let n = t.counted in omega (arith, r, n)
 
 pub statistics-requires-clause-inside : goal.statistics-requires-clause-inside
 statistics-requires-clause-inside c = left_inside c.args.self.now c.args.index c.index-left.result.now c.index-right.result.now c.requires c.index-left.ensures c.index-right.ensures
@@ -53,7 +54,7 @@ join_bounds-requires c =
     let q = right_is t c.args.index a b c.requires c.index-left.ensures c.index-right.ensures in
     let rows = few t c.args.index a b c.requires c.index-left.ensures c.index-right.ensures in
     let first = p.rows in let second = q.rows in
-    groups_can_join (type_of t.dtype) t.bound_length (map chunk_rows (chunks_of t.chunks.items a)) (map chunk_rows (chunks_of t.chunks.items b)) (leaf_positions (type_of t.dtype))
+    groups_can_join (type_of t.dtype) (length_in t.bound_lengths) (map chunk_rows (chunks_of t.chunks.items a)) (map chunk_rows (chunks_of t.chunks.items b)) (leaf_positions (type_of t.dtype))
     c.statistics.result.now c.statistics-2.result.now (omega (arith, rows, first, second)) c.statistics.ensures c.statistics-2.ensures
 
 pub overflow_add-result : goal.overflow_add-result
@@ -80,6 +81,6 @@ returns c =
     } in record {
       first = ap (λ (g : Group). g.first) (same_at t.groups.items c.args.index a a one inside c.index-left.ensures);
       count = (λ i. (same_at t.groups.items c.args.index a a one inside c.index-left.ensures i).chunks + (same_at t.groups.items (c.args.index + 1) b b one c.requires c.index-right.ensures i).chunks);
-      group = one_group k t.bound_length t.chunks.items a b one c.statistics.result.now c.statistics-2.result.now c.in_ok-joined.joined.items t.formed p q next
+      group = one_group k (length_in t.bound_lengths) t.chunks.items a b one c.statistics.result.now c.statistics-2.result.now c.in_ok-joined.joined.items t.formed p q next
           c.statistics.ensures c.statistics-2.ensures c.in_ok-joined.ensures refl refl refl refl;
     }

@@ -1,15 +1,25 @@
 use Rattle.std.proofs.Common.{◌≡◌, refl, sym, ap, subst, ◌∙◌, ◌+◌, ◌++◌, ◌∷◌, [], arith, length, ℕ, None}
+use Rattle.std.proofs.lemmas.List.{length-map}
 use Rattle.std.proofs.lemmas.List.Sums.{sum_by-append}
 use Rattle.vortex_table_chunk.specs.Chunk.{row_count}
 use Rattle.vortex_table_chunk.specs.declared.chunk.Chunk.{Chunk}
 use Rattle.vortex_dtype_core.specs.View.{type_of}
 use Rattle.vortex_table_core.specs.Group.{AreGroups}
 use Rattle.vortex_table_core.specs.declared.group.Group.{Group}
+use Rattle.vortex_table_schema.specs.Leaves.{leaf_positions}
+use Rattle.vortex_table_chunk.proofs.EqualLeaves.{leaves_so}
+use Rattle.vortex_table_chunk.proofs.Formed.{lengths_so}
 use Rattle.vortex_table_core.proofs.PushedGroups.{group_pushed}
 use Rattle.vortex_model.specs.Table.{rows_of}
 use Rattle.vortex_table_core.specs.TableView.{table_of}
 use Rattle.vortex_table_core.proofs.Counts.{all_rows}
+use Rattle.vortex_table_check.specs.Lengths.{length_in}
 use Rattle.vortex_table_core.proofs.table.Table.push_rows.Goals as goal
+
+pub new_chunk-requires : goal.new_chunk-requires
+new_chunk-requires c =
+    let t = c.args.self.now in let k = type_of t.dtype in let L = length_in t.bound_lengths in
+    ap length (lengths_so L k t.lengths.value.items t.measured) ∙ length-map (leaf_positions k) L ∙ ap length (sym (leaves_so t.leaves.value.items (leaf_positions k) t.led))
 
 pub returns-in_default-clause-refused : goal.returns-in_default-clause-refused
 returns-in_default-clause-refused c =
@@ -19,7 +29,7 @@ returns-in_default-clause-refused c =
 
 pub invariant_of-self-2-clause-grouped : goal.invariant_of-self-2-clause-grouped
 invariant_of-self-2-clause-grouped c =
-    let table = c.args.self.now in let k = type_of table.dtype in let L = table.bound_length in
+    let table = c.args.self.now in let k = type_of table.dtype in let L = (length_in table.bound_lengths) in
     let chunk = c.in_ok-chunk.chunk in
     let g : Group = record { first = c.len-2.result; chunks = 1; rows = c.len-3.result; joined = None } in
     let count : g.rows ≡ length chunk.rows.items = c.len-3.ensures ∙ c.args.rows.ok.0 ∙ sym (ap length c.in_ok-chunk.ensures.rows) in

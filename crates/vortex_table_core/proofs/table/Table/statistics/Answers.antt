@@ -6,10 +6,11 @@ use Rattle.vortex_table_chunk.specs.Joined.{AreJoined}
 use Rattle.vortex_table_schema.specs.Leaves.{leaf_positions}
 use Rattle.vortex_table_core.specs.Group.{chunks_of}
 use Rattle.vortex_table_core.proofs.JoinedGroups.{one_has}
+use Rattle.vortex_table_check.specs.Lengths.{length_in}
 use Rattle.vortex_table_core.proofs.table.Table.statistics.Goals as goal
 
 pub returns-in-None : goal.returns-in-None
 returns-in-None c =
     let table = c.args.self.now in let g = c.args.group.now in let k = type_of table.dtype in let all = table.chunks.items in
-    subst (λ bounds. ∥ AreJoined k table.bound_length (leaf_positions k) bounds (map chunk_rows (chunks_of all g)) ∥₁) (sym c.as_slice-in-None.ensures.value)
-    ∣ one_has k table.bound_length all g _ c.index.result.now table.formed (ap (option_map (λ v. v.items)) c.in-None.is) c.requires.group.statistics (sym c.requires.group.count) c.requires.inside c.index.ensures ∣₁
+    subst (λ bounds. ∥ AreJoined k (length_in table.bound_lengths) (leaf_positions k) bounds (map chunk_rows (chunks_of all g)) ∥₁) (sym c.as_slice-in-None.ensures.value)
+    ∣ one_has k (length_in table.bound_lengths) all g _ c.index.result.now table.formed (ap (option_map (λ v. v.items)) c.in-None.is) c.requires.group.statistics (sym c.requires.group.count) c.requires.inside c.index.ensures ∣₁

@@ -1,0 +1,10 @@
+pub mod Backwards
+pub mod Compared
+pub mod Constancy
+pub mod InFront
+pub mod Repeated
+pub mod RowLemmas
+pub mod SumKinds
+pub mod SumLemmas
+pub mod Utf8
+pub mod ValueBounds

@@ -1,0 +1,12 @@
+use Rattle.std.proofs.Common.{◌∙◌}
+use Rattle.vortex_stats_array.proofs.ValueBounds.{text_above_is, no_text_above}
+use Rattle.vortex_stats_array.proofs.shortened.text_above.Goals as goal
+
+pub returns-in-Some : goal.returns-in-Some
+returns-in-Some c =
+    c.bound.ensures
+    ∙ text_above_is c.args.value.now c.in_ok-copy.copy c.args.max_length c.in_ok-high.field-0 c.in-Some.high c.in-Some.shortened c.requires c.in_ok-copy.ensures c.in-Some.is c.in_ok-high.ensures.bound c.in_ok-high.ensures.longer
+
+pub returns-in-None : goal.returns-in-None
+returns-in-None c =
+    no_text_above c.args.value.now c.in_ok-copy.copy c.args.max_length c.in_ok-high.field-0 c.requires c.in_ok-copy.ensures c.in-None.is c.in_ok-high.ensures.bound

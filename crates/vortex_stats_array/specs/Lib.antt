@@ -1,0 +1,4 @@
+pub mod Arrays
+pub mod Running
+pub mod Sums
+pub mod Zones

@@ -1,0 +1,34 @@
+-- Sums of the values of a leaf column.
+use Rattle.std.specs.Prelude.{◌≤◌, ◌*◌, ◌^◌, ℕ, zero, suc, ℤ, pos, ◌+ℤ◌, ◌-ℤ◌, Option, Some, None}
+use Rattle.vortex_model.specs.LogicalType.{IntKind}
+use Rattle.vortex_model.specs.Statistics.{Precision, exact, absent}
+use Rattle.vortex_dtype_ptype.specs.Numbers.{int_kind_in}
+use Rattle.vortex_dtype_ptype.specs.View.{number_kind_of}
+use Rattle.vortex_dtype_ptype.specs.declared.ptype.PType.{PType}
+use Rattle.vortex_scalar_value.specs.Numbers.{integer_of}
+use Rattle.vortex_scalar_value.specs.declared.pvalue.PValue.{PValue}
+use Rattle.vortex_stats_array.specs.declared.running_sum.RunningSum.{RunningSum}
+
+-- the sum of those above zero and of those below
+abbrev pub sum_in_parts : RunningSum → ℤ
+sum_in_parts s = pos s.above -ℤ pos s.below
+
+-- a number so many times
+abbrev pub repeated_sum : ℕ → ℤ → ℤ
+repeated_sum zero z = pos 0
+repeated_sum (suc n) z = z +ℤ repeated_sum n z
+
+-- neither part is more than n numbers of at most 2^64 can make
+pub record FitsSum (s : RunningSum) (n : ℕ) : Type 0 where
+  pub above : s.above ≤ n * 2 ^ 64
+  pub below : s.below ≤ n * 2 ^ 64
+
+-- the kind of a sum of this type, if it is one of integers
+abbrev pub int_kind_of : Option PType → Option IntKind
+int_kind_of None = None
+int_kind_of (Some p) = int_kind_in (number_kind_of p)
+
+-- what is known of a sum
+abbrev pub known_sum : Option PValue → Precision ℤ
+known_sum None = absent
+known_sum (Some v) = exact (integer_of v)

@@ -1,0 +1,40 @@
+-- Statistics of an array as the zone map of its rows.
+use Rattle.std.specs.Prelude.{ℕ, Option, Some, None}
+use Rattle.vortex_model.specs.Content.{Content}
+use Rattle.vortex_model.specs.Bounds.{low, high, is_longer}
+use Rattle.vortex_model.specs.Statistics.{Precision, exact, absent}
+use Rattle.vortex_model.specs.ZoneMap.{ZoneMap, bound_of}
+use Rattle.vortex_scalar_value.specs.declared.scalar_value.ScalarValue.{ScalarValue}
+use Rattle.vortex_stats_bound.specs.Precision.{precision_of, precision_map}
+use Rattle.vortex_stats_bound.specs.ValueOrder.{said_by}
+use Rattle.vortex_stats_bound.specs.declared.precision.Precision as known
+use Rattle.vortex_stats_array.specs.Sums.{known_sum}
+use Rattle.vortex_stats_array.specs.declared.array_stats.ArrayStats.{ArrayStats}
+
+-- what a bound says, as precise
+abbrev pub bound_said : known.Precision ScalarValue → Precision Content
+bound_said p = precision_map said_by (precision_of p)
+
+-- the zone map that the statistics are
+abbrev pub zone_in : ArrayStats → ZoneMap
+zone_in s = record {
+  low = bound_said s.min;
+  high = bound_said s.max;
+  nulls = s.null_count;
+  rows = s.row_count;
+  total = known_sum s.sum;
+  constant = exact s.is_constant;
+}
+
+-- the bounds of a least and of a greatest value
+abbrev pub low_at : ℕ → Option Content → Precision Content
+low_at L None = absent
+low_at L (Some v) = bound_of (is_longer L v) (low L v)
+
+abbrev pub high_by : ℕ → Content → Option Content → Precision Content
+high_by L v None = absent
+high_by L v (Some h) = bound_of (is_longer L v) h
+
+abbrev pub high_at : ℕ → Option Content → Precision Content
+high_at L None = absent
+high_at L (Some v) = high_by L v (high L v)

@@ -1,0 +1,188 @@
+//! Values of leaf columns, as they lie in arrays.
+ghost use Rattle.std.specs.Prelude.{◌≡◌, ◌^◌, false, pos, neg_ℤ, ◌≤ℤ◌, refl, IfOk, IsTrue, IsUtf8};
+ghost use Rattle.std.specs.Str.{is_utf8};
+ghost use Rattle.vortex_model.specs.Bounds.{low, high, is_longer};
+ghost use Rattle.vortex_model.specs.Content.{Content, boolean, integer, text, byte_string, is_null};
+ghost use Rattle.vortex_model.specs.Statistics.{is_at_most, number_in};
+ghost use Rattle.vortex_model.specs.ZoneMap.{bound_of};
+ghost use Rattle.vortex_stats_bound.specs.ValueOrder.{said_by};
+ghost use Rattle.vortex_stats_array.specs.Zones.{bound_said, high_by};
+
+use crate::shortened::{bytes_above, bytes_below, text_above, text_below};
+use std::alloc::{AllocError, Global};
+use std::cmp::Ordering;
+use vortex_dtype_native::native::NativePType;
+use vortex_scalar_value::pvalue::PValue;
+use vortex_scalar_value::scalar_value::ScalarValue;
+use vortex_stats_bound::precision::Precision;
+
+/// A value of a leaf column, never null.
+pub(crate) trait LeafValue: Copy + Drop {
+    ghost said: { Self → Content };
+
+    ghost never_null: { (v : Self) → is_null (said v) ≡ false };
+
+    // Whether it is not above the other one.
+    fn is_at_most(self, other: Self) -> bool
+        ensures { result ≡ is_at_most (said self) (said other) };
+
+    // What it adds to a sum: a truth value counts 1 where it is true, texts and bytes nothing.
+    fn number(self) -> i128
+        ensures number { result ≡ number_in (said self) }
+        ensures least { neg_ℤ (pos (2 ^ 64)) ≤ℤ result }
+        ensures greatest { result ≤ℤ pos (2 ^ 64) };
+
+    // A copy that is not above it. A text and bytes have at most `max_length` bytes.
+    fn below(self, alloc: Global, max_length: usize) -> Result<Precision<ScalarValue>, AllocError>
+        ensures { IfOk result (λ below. bound_said below
+            ≡ bound_of (is_longer max_length (said self)) (low max_length (said self))) };
+
+    // A copy that is not below it, where such a text or such bytes have at most `max_length` bytes.
+    fn above(self, alloc: Global, max_length: usize) -> Result<Precision<ScalarValue>, AllocError>
+        ensures { IfOk result (λ above. bound_said above
+            ≡ high_by max_length (said self) (high max_length (said self))) };
+}
+
+impl LeafValue for bool {
+    ghost said = { boolean };
+
+    ghost never_null = { λ v. refl };
+
+    fn is_at_most(self, other: bool) -> bool {
+        self <= other
+    }
+
+    fn number(self) -> i128 {
+        if self { 1 } else { 0 }
+    }
+
+    #[tactic(auto, using(vortex_scalar_value::proofs::Views::one_level))]
+    fn below(
+        self,
+        _alloc: Global,
+        _max_length: usize,
+    ) -> Result<Precision<ScalarValue>, AllocError> {
+        Ok(Precision::Exact(ScalarValue::Bool(self)))
+    }
+
+    #[tactic(auto, using(vortex_scalar_value::proofs::Views::one_level))]
+    fn above(
+        self,
+        _alloc: Global,
+        _max_length: usize,
+    ) -> Result<Precision<ScalarValue>, AllocError> {
+        Ok(Precision::Exact(ScalarValue::Bool(self)))
+    }
+}
+
+/// An integer of a kind.
+#[derive(Clone, Copy)]
+pub(crate) struct Number<T>(pub(crate) T);
+
+impl<T: NativePType> LeafValue for Number<T> {
+    ghost said = { λ v. integer (T.integer v.0) };
+
+    ghost never_null = { λ v. refl };
+
+    fn is_at_most(self, other: Number<T>) -> bool {
+        self.0.get() <= other.0.get()
+    }
+
+    #[tactic(auto, using(crate::proofs::SumLemmas::numbers))]
+    fn number(self) -> i128 {
+        self.0.get()
+    }
+
+    fn below(
+        self,
+        _alloc: Global,
+        _max_length: usize,
+    ) -> Result<Precision<ScalarValue>, AllocError> {
+        Ok(Precision::Exact(number_value(self.0)))
+    }
+
+    fn above(
+        self,
+        _alloc: Global,
+        _max_length: usize,
+    ) -> Result<Precision<ScalarValue>, AllocError> {
+        Ok(Precision::Exact(number_value(self.0)))
+    }
+}
+
+#[tactic(auto, using(vortex_scalar_value::proofs::Views::one_level))]
+fn number_value<T: NativePType>(number: T) -> ScalarValue
+    ensures { said_by result ≡ integer (T.integer number) }
+{
+    match PValue::of(T::ptype(), number.get()) {
+        Some(value) => ScalarValue::Primitive(value),
+        None => unreachable!(),
+    }
+}
+
+/// A text, by its bytes.
+#[derive(Clone, Copy)]
+pub(crate) struct Text<'a> {
+    bytes: &'a [u8],
+    ghost is_utf8: { IsTrue (is_utf8 bytes.now) },
+}
+
+impl<'a> Text<'a> {
+    #[tactic(auto, using(crate::proofs::Utf8::tested))]
+    pub(crate) fn new(bytes: &'a [u8]) -> Text<'a>
+        requires { IsUtf8 bytes.now }
+        ensures { result.bytes.now ≡ bytes.now }
+    {
+        Text { bytes }
+    }
+}
+
+impl LeafValue for Text<'_> {
+    ghost said = { λ v. text v.bytes.now };
+
+    ghost never_null = { λ v. refl };
+
+    fn is_at_most(self, other: Text) -> bool {
+        self.bytes.cmp(other.bytes) != Ordering::Greater
+    }
+
+    fn number(self) -> i128 {
+        0
+    }
+
+    #[tactic(auto, using(crate::proofs::Utf8::tested))]
+    fn below(self, alloc: Global, max_length: usize) -> Result<Precision<ScalarValue>, AllocError> {
+        text_below(alloc, self.bytes, max_length)
+    }
+
+    #[tactic(auto, using(crate::proofs::Utf8::tested))]
+    fn above(self, alloc: Global, max_length: usize) -> Result<Precision<ScalarValue>, AllocError> {
+        text_above(alloc, self.bytes, max_length)
+    }
+}
+
+/// Bytes.
+#[derive(Clone, Copy)]
+pub(crate) struct ByteString<'a>(pub(crate) &'a [u8]);
+
+impl LeafValue for ByteString<'_> {
+    ghost said = { λ v. byte_string v.0.now };
+
+    ghost never_null = { λ v. refl };
+
+    fn is_at_most(self, other: ByteString) -> bool {
+        self.0.cmp(other.0) != Ordering::Greater
+    }
+
+    fn number(self) -> i128 {
+        0
+    }
+
+    fn below(self, alloc: Global, max_length: usize) -> Result<Precision<ScalarValue>, AllocError> {
+        bytes_below(alloc, self.0, max_length)
+    }
+
+    fn above(self, alloc: Global, max_length: usize) -> Result<Precision<ScalarValue>, AllocError> {
+        bytes_above(alloc, self.0, max_length)
+    }
+}

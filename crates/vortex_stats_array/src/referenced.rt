@@ -1,0 +1,139 @@
+//! Rows of arrays of any layout, each read once: those of dictionaries and of constants.
+ghost use Rattle.std.specs.Prelude.{◌≡◌, ◌<◌};
+ghost use Rattle.vortex_model.specs.Content.{boolean, integer, text, byte_string};
+ghost use Rattle.vortex_arrays_model.specs.Layout.{len_of, array_type_of, content_at, rows_of};
+ghost use Rattle.vortex_scalar_core.specs.Scalar.{scalar_type, scalar_content};
+ghost use Rattle.vortex_stats_array.specs.Arrays.{IsBooleanType, IsIntegerOf, IsTextType, IsBinaryType, IsStringType, string_or_null};
+ghost use Rattle.vortex_stats_array.specs.Running.{said_or_null, IsSeen};
+
+use crate::leaf_value::{ByteString, Number, Text};
+use crate::running::{Running, seen_rows};
+use vortex_arrays_core::array::{ArrayLayout, ArrayRef};
+use vortex_dtype_native::native::NativePType;
+use vortex_scalar_core::scalar::Scalar;
+use vortex_scalar_value::scalar_value::ScalarValue;
+
+// The integer at a row, which the kind of the array's type holds.
+#[tactic(auto, using(crate::proofs::RowLemmas::numbers))]
+fn number_at<T: NativePType>(array: &ArrayRef, i: usize) -> Option<Number<T>>
+    requires within { i < len_of array.now }
+    requires kind { IsIntegerOf T.kind (array_type_of array.now) }
+    ensures { said_or_null (λ v. integer (T.integer v.0)) result ≡ content_at array.now i }
+{
+    let _rows = array.len();
+    match T::of(array.integer(i)?) {
+        Some(number) => Some(Number(number)),
+        None => unreachable!(),
+    }
+}
+
+/// Integers of one kind.
+pub(crate) fn referenced_numbers<T: NativePType>(array: &ArrayRef) -> Running<Number<T>>
+    requires { IsIntegerOf T.kind (array_type_of array.now) }
+    ensures { IsSeen (λ v. integer (T.integer v.0)) result (rows_of array.now) }
+{
+    seen_rows(array, |i| number_at(array, i))
+}
+
+// The truth value at a row.
+#[tactic(auto, using(crate::proofs::RowLemmas::truths))]
+fn bool_at(array: &ArrayRef, i: usize) -> Option<bool>
+    requires within { i < len_of array.now }
+    requires kind { IsBooleanType (array_type_of array.now) }
+    ensures { said_or_null boolean result ≡ content_at array.now i }
+{
+    let _rows = array.len();
+    if array.is_valid(i) {
+        Some(array.truth(i))
+    } else {
+        None
+    }
+}
+
+/// Truth values.
+pub(crate) fn referenced_bools(array: &ArrayRef) -> Running<bool>
+    requires { IsBooleanType (array_type_of array.now) }
+    ensures { IsSeen boolean result (rows_of array.now) }
+{
+    seen_rows(array, |i| bool_at(array, i))
+}
+
+// The bytes of the text or the bytes at a row, where they lie.
+#[tactic(auto, using(crate::proofs::RowLemmas::strings))]
+fn bytes_at<'a>(array: &'a ArrayRef, i: usize) -> Option<&'a [u8]>
+    requires within { i < len_of array.now }
+    requires kind { IsStringType (array_type_of array.now) }
+    ensures { string_or_null (array_type_of array.now) result ≡ content_at array.now i }
+{
+    match array.layout() {
+        ArrayLayout::VarBinView(_, views, buffers, validity) => {
+            let views = views.as_slice();
+            if validity.is_valid(i, views.len()) {
+                Some(views[i].bytes(buffers.as_slice()))
+            } else {
+                None
+            }
+        }
+        ArrayLayout::Constant(scalar, _) => bytes_in(scalar),
+        ArrayLayout::Dict(codes, values, _) => {
+            let _count = values.len();
+            match codes.integer(i) {
+                Some(code) => bytes_at(values, code as usize),
+                None => None,
+            }
+        }
+        ArrayLayout::Bool(_, _) => unreachable!(),
+        ArrayLayout::Primitive(_, _) => unreachable!(),
+        ArrayLayout::FixedSizeList(_, _, _, _) => unreachable!(),
+        ArrayLayout::ListView(_, _, _, _, _) => unreachable!(),
+        ArrayLayout::Struct(_, _, _, _) => unreachable!(),
+    }
+}
+
+// The bytes of a text or of bytes.
+#[tactic(auto, using(crate::proofs::RowLemmas::strings))]
+fn bytes_in(scalar: &Scalar) -> Option<&[u8]>
+    requires { IsStringType (scalar_type scalar.now) }
+    ensures { string_or_null (scalar_type scalar.now) result ≡ scalar_content scalar.now }
+{
+    match scalar.value()? {
+        ScalarValue::Utf8(text) => Some(text.as_str().as_bytes()),
+        ScalarValue::Binary(bytes) => Some(bytes.as_slice()),
+        ScalarValue::Bool(_) | ScalarValue::Primitive(_) => unreachable!(),
+        ScalarValue::Tuple(_) | ScalarValue::Union(_) => unreachable!(),
+        ScalarValue::Variant(_) => unreachable!(),
+    }
+}
+
+fn text_at<'a>(array: &'a ArrayRef, i: usize) -> Option<Text<'a>>
+    requires within { i < len_of array.now }
+    requires kind { IsTextType (array_type_of array.now) }
+    ensures { said_or_null (λ v. text v.bytes.now) result ≡ content_at array.now i }
+{
+    let _rows = array.len();
+    Some(Text::new(bytes_at(array, i)?))
+}
+
+/// Texts, compared where they lie.
+pub(crate) fn referenced_texts(array: &ArrayRef) -> Running<Text>
+    requires { IsTextType (array_type_of array.now) }
+    ensures { IsSeen (λ v. text v.bytes.now) result (rows_of array.now) }
+{
+    seen_rows(array, |i| text_at(array, i))
+}
+
+fn byte_string_at<'a>(array: &'a ArrayRef, i: usize) -> Option<ByteString<'a>>
+    requires within { i < len_of array.now }
+    requires kind { IsBinaryType (array_type_of array.now) }
+    ensures { said_or_null (λ v. byte_string v.0.now) result ≡ content_at array.now i }
+{
+    Some(ByteString(bytes_at(array, i)?))
+}
+
+/// Bytes, compared where they lie.
+pub(crate) fn referenced_byte_strings(array: &ArrayRef) -> Running<ByteString>
+    requires { IsBinaryType (array_type_of array.now) }
+    ensures { IsSeen (λ v. byte_string v.0.now) result (rows_of array.now) }
+{
+    seen_rows(array, |i| byte_string_at(array, i))
+}

@@ -1,0 +1,111 @@
+//! The sum of the values of a leaf column, one by one.
+ghost use Rattle.std.specs.Prelude.{◌≡◌, ◌<◌, ◌≤◌, ◌+◌, ◌-◌, ◌^◌, false, pos, neg_ℤ, ◌+ℤ◌, ◌≤ℤ◌, IfSome, IfNone};
+ghost use Rattle.vortex_model.specs.LogicalType.{IntKind};
+ghost use Rattle.vortex_model.specs.Valid.{in_range};
+ghost use Rattle.vortex_model.specs.ZoneMap.{sum_in};
+ghost use Rattle.vortex_dtype_ptype.specs.Numbers.{int_kind_in};
+ghost use Rattle.vortex_dtype_ptype.specs.View.{number_kind_of};
+ghost use Rattle.vortex_stats_array.specs.Sums.{sum_in_parts, repeated_sum, FitsSum, int_kind_of, known_sum};
+
+use vortex_dtype_ptype::ptype::PType;
+use vortex_scalar_value::pvalue::PValue;
+
+/// A sum of integers, each of less than 65 bits, in two parts that can't pass a `u128` while there
+/// are fewer than 2^64 of them.
+#[derive(Clone, Copy, Drop)]
+pub(crate) struct RunningSum {
+    // The sum of those above zero.
+    above: u128,
+    // The sum of the absolute values of those below zero.
+    below: u128,
+}
+
+impl RunningSum {
+    pub(crate) fn none() -> RunningSum
+        ensures sum { sum_in_parts result ≡ pos 0 }
+        ensures fits { FitsSum result 0 }
+    {
+        RunningSum { above: 0, below: 0 }
+    }
+
+    /// One more number.
+    pub(crate) fn plus(self, number: i128) -> RunningSum
+        requires least { neg_ℤ (pos (2 ^ 64)) ≤ℤ number }
+        requires greatest { number ≤ℤ pos (2 ^ 64) }
+        requires above { self.above ≤ 2 ^ 128 - 1 - 2 ^ 64 }
+        requires below { self.below ≤ 2 ^ 128 - 1 - 2 ^ 64 }
+        ensures sum { sum_in_parts result ≡ number +ℤ sum_in_parts self }
+        ensures above { result.above ≤ self.above + 2 ^ 64 }
+        ensures below { result.below ≤ self.below + 2 ^ 64 }
+    {
+        if number >= 0 {
+            RunningSum {
+                above: self.above + number.unsigned_abs(),
+                below: self.below,
+            }
+        } else {
+            RunningSum {
+                above: self.above,
+                below: self.below + number.unsigned_abs(),
+            }
+        }
+    }
+
+    /// One number, so many times.
+    #[tactic(auto, using(crate::proofs::Repeated::times))]
+    pub(crate) fn times(number: i128, n: usize) -> RunningSum
+        requires least { neg_ℤ (pos (2 ^ 64)) ≤ℤ number }
+        requires greatest { number ≤ℤ pos (2 ^ 64) }
+        ensures { sum_in_parts result ≡ repeated_sum n number }
+    {
+        let total = n as u128 * number.unsigned_abs();
+        if number >= 0 {
+            RunningSum {
+                above: total,
+                below: 0,
+            }
+        } else {
+            RunningSum {
+                above: 0,
+                below: total,
+            }
+        }
+    }
+
+    /// The sum as an integer of this type. `None` where that can't hold it, and without a type.
+    pub(crate) fn of_type(self, sum_type: Option<PType>) -> Option<PValue>
+        ensures { known_sum result ≡ sum_in (int_kind_of sum_type) (sum_in_parts self) }
+    {
+        let ptype = sum_type?;
+        match self.value() {
+            Some(sum) => number_of(ptype, sum),
+            None => None,
+        }
+    }
+
+    // The sum, where an integer of 64 bits can hold it.
+    fn value(self) -> Option<i128>
+        ensures some { IfSome result (λ sum. sum ≡ sum_in_parts self) }
+        ensures none { IfNone result
+            ((kind : IntKind) → in_range kind (sum_in_parts self) ≡ false) }
+    {
+        if self.above >= self.below {
+            match u64::try_from(self.above - self.below) {
+                Ok(sum) => Some(i128::from(sum)),
+                Err(_) => None,
+            }
+        } else {
+            match u64::try_from(self.below - self.above) {
+                Ok(sum) => Some(-i128::from(sum)),
+                Err(_) => None,
+            }
+        }
+    }
+}
+
+// The number as one of a kind of integers that holds it.
+fn number_of(ptype: PType, number: i128) -> Option<PValue>
+    ensures { known_sum result ≡ sum_in (int_kind_in (number_kind_of ptype)) number }
+{
+    PValue::of(ptype, number)
+}

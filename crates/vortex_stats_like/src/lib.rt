@@ -1,0 +1,4 @@
+//! Which texts a LIKE pattern matches.
+#![tactic(auto)]
+
+pub mod matching;

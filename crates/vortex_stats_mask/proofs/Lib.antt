@@ -1,0 +1,7 @@
+pub mod Comparing
+pub mod Joined
+pub mod Literals
+pub mod SideBySide
+pub mod Shown
+pub mod Through
+pub mod Truths

@@ -1,0 +1,23 @@
+use Rattle.std.proofs.Common.{◌≡◌, sym, ap, ◌∙◌, map, replicate, false, length, min}
+use Rattle.std.specs.List.{zip}
+use Rattle.std.proofs.lemmas.Result.{IfOk-weaker}
+use Rattle.vortex_model.specs.Content.{boolean}
+use Rattle.vortex_model.specs.Truth.{compared, is_true}
+use Rattle.vortex_arrays_buffer.specs.PrimitiveBuffers.{integers_of}
+use Rattle.vortex_stats_expr.specs.Tree.{comparison_of}
+use Rattle.vortex_stats_mask.specs.Columns.{values_of, contents_of}
+use Rattle.vortex_stats_mask.proofs.SideBySide.{bools_paired, bools_with_others}
+use Rattle.vortex_stats_mask.proofs.Through.{values_counted}
+use Rattle.vortex_stats_mask.proofs.pairs.bools_with.Goals as goal
+
+pub returns-in-Some : goal.returns-in-Some
+returns-in-Some c =
+    let op = comparison_of c.args.comparison in
+    IfOk-weaker c.pair_bools.result _ _ (λ mask is. is ∙ sym (bools_paired op c.args.xs.now c.in-Some.others.now)
+    ∙ ap (λ ds. map (λ p. is_true (compared op p.0 p.1)) (zip (map boolean c.args.xs.now) ds)) (sym c.in-Some.ensures)) c.pair_bools.ensures
+
+pub returns-in-None : goal.returns-in-None
+returns-in-None c =
+    let op = comparison_of c.args.comparison in
+    IfOk-weaker c.no_rows.result _ _ (λ mask is. is ∙ ap (λ n. replicate n false) (c.min.ensures ∙ ap (min (length c.args.xs.now)) c.len.ensures)
+    ∙ sym (bools_with_others op c.args.xs.now c.args.right.now c.in-None.ensures)) c.no_rows.ensures

@@ -1,0 +1,10 @@
+//! Predicates over columns: which rows they select.
+#![tactic(auto)]
+
+pub mod column;
+pub mod compare;
+mod literal;
+pub mod masks;
+pub mod numbers;
+pub mod pairs;
+pub mod strings;

@@ -1,0 +1,109 @@
+//! Comparisons of numbers of one kind.
+ghost use Rattle.std.specs.Prelude.{◌≡◌, map, IfOk};
+ghost use Rattle.std.specs.Ordering.{int_cmp};
+ghost use Rattle.std.specs.List.{zip};
+ghost use Rattle.vortex_model.specs.Truth.{test_of};
+ghost use Rattle.vortex_arrays_buffer.specs.PrimitiveBuffers.{integers_of};
+ghost use Rattle.vortex_scalar_value.specs.Numbers.{integer_of};
+ghost use Rattle.vortex_stats_expr.specs.Tree.{comparison_of};
+
+use std::alloc::{AllocError, Global};
+use vortex_arrays_buffer::primitive_buffer::PrimitiveBuffer;
+use vortex_dtype_native::native::NativePType;
+use vortex_scalar_value::pvalue::PValue;
+use vortex_stats_expr::operator::Comparison;
+
+/// Which numbers stand so to a number of their kind. The comparison is matched once.
+pub fn compare_to<T: NativePType>(
+    alloc: Global,
+    comparison: Comparison,
+    xs: &[T],
+    k: T,
+) -> Result<Vec<bool>, AllocError>
+    ensures { IfOk result (λ mask. mask.items
+        ≡ map (λ x. test_of (comparison_of comparison) (int_cmp (T.integer x) (T.integer k)))
+        xs.now) }
+{
+    match comparison {
+        Comparison::Eq => xs.iter().map(|x| x.total_compare(k).is_eq()).collect(alloc),
+        Comparison::NotEq => xs.iter().map(|x| x.total_compare(k).is_ne()).collect(alloc),
+        Comparison::Gt => xs.iter().map(|x| x.total_compare(k).is_gt()).collect(alloc),
+        Comparison::Gte => xs.iter().map(|x| x.total_compare(k).is_ge()).collect(alloc),
+        Comparison::Lt => xs.iter().map(|x| x.total_compare(k).is_lt()).collect(alloc),
+        Comparison::Lte => xs.iter().map(|x| x.total_compare(k).is_le()).collect(alloc),
+    }
+}
+
+/// Which numbers stand so to the number beside them.
+pub fn compare_each<T: NativePType>(
+    alloc: Global,
+    comparison: Comparison,
+    xs: &[T],
+    ys: &[T],
+) -> Result<Vec<bool>, AllocError>
+    ensures { IfOk result (λ mask. mask.items
+        ≡ map (λ p. test_of (comparison_of comparison) (int_cmp (T.integer p.0) (T.integer p.1)))
+        (zip xs.now ys.now)) }
+{
+    xs.iter()
+        .zip(ys.iter())
+        .map(|(x, y)| comparison.holds(x.total_compare(*y)))
+        .collect(alloc)
+}
+
+// Of a number that is of another kind, also one that no number of the kind is.
+fn compare_wide<T: NativePType>(
+    alloc: Global,
+    comparison: Comparison,
+    xs: &[T],
+    number: PValue,
+) -> Result<Vec<bool>, AllocError>
+    ensures { IfOk result (λ mask. mask.items
+        ≡ map (λ x. test_of (comparison_of comparison) (int_cmp (T.integer x) (integer_of number)))
+        xs.now) }
+{
+    let number = number.get();
+    xs.iter()
+        .map(|x| comparison.holds(x.get().cmp(&number)))
+        .collect(alloc)
+}
+
+fn compare_any<T: NativePType>(
+    alloc: Global,
+    comparison: Comparison,
+    xs: &[T],
+    number: PValue,
+) -> Result<Vec<bool>, AllocError>
+    ensures { IfOk result (λ mask. mask.items
+        ≡ map (λ x. test_of (comparison_of comparison) (int_cmp (T.integer x) (integer_of number)))
+        xs.now) }
+{
+    match T::of(number.get()) {
+        Some(k) => compare_to(alloc, comparison, xs, k),
+        None => compare_wide(alloc, comparison, xs, number),
+    }
+}
+
+/// Which of the numbers stand so to a number. The kind is matched once.
+#[tactic(auto, using(crate::proofs::Through::numbers))]
+pub fn compare_numbers(
+    alloc: Global,
+    comparison: Comparison,
+    numbers: &PrimitiveBuffer,
+    number: PValue,
+) -> Result<Vec<bool>, AllocError>
+    ensures { IfOk result (λ mask. mask.items
+        ≡ map (λ z. test_of (comparison_of comparison) (int_cmp z (integer_of number)))
+        (integers_of numbers.now)) }
+{
+    match numbers {
+        PrimitiveBuffer::U8(xs) => compare_any(alloc, comparison, xs.as_slice(), number),
+        PrimitiveBuffer::U16(xs) => compare_any(alloc, comparison, xs.as_slice(), number),
+        PrimitiveBuffer::U32(xs) => compare_any(alloc, comparison, xs.as_slice(), number),
+        PrimitiveBuffer::U64(xs) => compare_any(alloc, comparison, xs.as_slice(), number),
+        PrimitiveBuffer::I8(xs) => compare_any(alloc, comparison, xs.as_slice(), number),
+        PrimitiveBuffer::I16(xs) => compare_any(alloc, comparison, xs.as_slice(), number),
+        PrimitiveBuffer::I32(xs) => compare_any(alloc, comparison, xs.as_slice(), number),
+        PrimitiveBuffer::I64(xs) => compare_any(alloc, comparison, xs.as_slice(), number),
+    }
+}

@@ -1,0 +1,255 @@
+//! Comparisons of the values of two columns, row by row.
+ghost use Rattle.std.specs.Prelude.{◌≡◌, map, IfOk};
+ghost use Rattle.std.specs.List.{zip};
+ghost use Rattle.std.specs.Ordering.{int_cmp, bool_cmp};
+ghost use Rattle.vortex_model.specs.Content.{boolean, integer, text, byte_string};
+ghost use Rattle.vortex_model.specs.Order.{bytes_cmp};
+ghost use Rattle.vortex_model.specs.Truth.{compared, is_true, test_of};
+ghost use Rattle.vortex_arrays_buffer.specs.PrimitiveBuffers.{integers_of};
+ghost use Rattle.vortex_arrays_view.specs.Views.{value_of};
+ghost use Rattle.vortex_stats_expr.specs.Tree.{comparison_of};
+ghost use Rattle.vortex_stats_mask.specs.Columns.{values_of, contents_of, column_of};
+
+use crate::column::{Column, Items, Strings};
+use crate::masks::{keep_valid, no_rows};
+use crate::numbers::compare_each;
+use crate::strings::value_in;
+use bytes::Bytes;
+use std::alloc::{AllocError, Global};
+use vortex_arrays_buffer::element::Element;
+use vortex_arrays_buffer::primitive_buffer::PrimitiveBuffer;
+use vortex_arrays_view::view::BinaryView;
+use vortex_dtype_native::native::NativePType;
+use vortex_stats_expr::operator::Comparison;
+
+fn pair_bools(
+    alloc: Global,
+    comparison: Comparison,
+    xs: &[bool],
+    ys: &[bool],
+) -> Result<Vec<bool>, AllocError>
+    ensures { IfOk result (λ mask. mask.items
+        ≡ map (λ p. test_of (comparison_of comparison) (bool_cmp p.0 p.1)) (zip xs.now ys.now)) }
+{
+    xs.iter()
+        .zip(ys.iter())
+        .map(|(x, y)| comparison.holds(x.cmp(y)))
+        .collect(alloc)
+}
+
+fn widened<T: NativePType>(alloc: Global, xs: &[T]) -> Result<Vec<i128>, AllocError>
+    ensures { IfOk result (λ all. all.items ≡ map T.integer xs.now) }
+{
+    xs.iter().map(|x| x.get()).collect(alloc)
+}
+
+fn wide(alloc: Global, numbers: &PrimitiveBuffer) -> Result<Vec<i128>, AllocError>
+    ensures { IfOk result (λ all. all.items ≡ integers_of numbers.now) }
+{
+    match numbers {
+        PrimitiveBuffer::U8(xs) => widened(alloc, xs.as_slice()),
+        PrimitiveBuffer::U16(xs) => widened(alloc, xs.as_slice()),
+        PrimitiveBuffer::U32(xs) => widened(alloc, xs.as_slice()),
+        PrimitiveBuffer::U64(xs) => widened(alloc, xs.as_slice()),
+        PrimitiveBuffer::I8(xs) => widened(alloc, xs.as_slice()),
+        PrimitiveBuffer::I16(xs) => widened(alloc, xs.as_slice()),
+        PrimitiveBuffer::I32(xs) => widened(alloc, xs.as_slice()),
+        PrimitiveBuffer::I64(xs) => widened(alloc, xs.as_slice()),
+    }
+}
+
+// Of numbers of two kinds, which no predicate that is bound to a type compares.
+fn pair_wide<T: NativePType>(
+    alloc: Global,
+    comparison: Comparison,
+    xs: &[T],
+    ys: &[i128],
+) -> Result<Vec<bool>, AllocError>
+    ensures { IfOk result (λ mask. mask.items
+        ≡ map (λ p. test_of (comparison_of comparison) (int_cmp (T.integer p.0) p.1))
+        (zip xs.now ys.now)) }
+{
+    xs.iter()
+        .zip(ys.iter())
+        .map(|(x, y)| comparison.holds(x.get().cmp(y)))
+        .collect(alloc)
+}
+
+fn pair_with<T: Element>(
+    alloc: Global,
+    comparison: Comparison,
+    xs: &[T],
+    numbers: &PrimitiveBuffer,
+) -> Result<Vec<bool>, AllocError>
+    ensures { IfOk result (λ mask. mask.items
+        ≡ map (λ p. test_of (comparison_of comparison) (int_cmp (T.integer p.0) p.1))
+        (zip xs.now (integers_of numbers.now))) }
+{
+    match numbers.as_slice::<T>() {
+        Some(ys) => compare_each(alloc, comparison, xs, ys),
+        None => {
+            let ys = wide(alloc, numbers)?;
+            pair_wide(alloc, comparison, xs, &ys)
+        }
+    }
+}
+
+fn pair_numbers(
+    alloc: Global,
+    comparison: Comparison,
+    left: &PrimitiveBuffer,
+    right: &PrimitiveBuffer,
+) -> Result<Vec<bool>, AllocError>
+    ensures { IfOk result (λ mask. mask.items
+        ≡ map (λ p. test_of (comparison_of comparison) (int_cmp p.0 p.1))
+        (zip (integers_of left.now) (integers_of right.now))) }
+{
+    match left {
+        PrimitiveBuffer::U8(xs) => pair_with(alloc, comparison, xs.as_slice(), right),
+        PrimitiveBuffer::U16(xs) => pair_with(alloc, comparison, xs.as_slice(), right),
+        PrimitiveBuffer::U32(xs) => pair_with(alloc, comparison, xs.as_slice(), right),
+        PrimitiveBuffer::U64(xs) => pair_with(alloc, comparison, xs.as_slice(), right),
+        PrimitiveBuffer::I8(xs) => pair_with(alloc, comparison, xs.as_slice(), right),
+        PrimitiveBuffer::I16(xs) => pair_with(alloc, comparison, xs.as_slice(), right),
+        PrimitiveBuffer::I32(xs) => pair_with(alloc, comparison, xs.as_slice(), right),
+        PrimitiveBuffer::I64(xs) => pair_with(alloc, comparison, xs.as_slice(), right),
+    }
+}
+
+fn pair_views(
+    alloc: Global,
+    comparison: Comparison,
+    xs: &[BinaryView],
+    x_buffers: &[Bytes],
+    ys: &[BinaryView],
+    y_buffers: &[Bytes],
+) -> Result<Vec<bool>, AllocError>
+    ensures { IfOk result (λ mask. mask.items
+        ≡ map (λ p. test_of (comparison_of comparison)
+        (bytes_cmp (value_of p.0 x_buffers.now) (value_of p.1 y_buffers.now)))
+        (zip xs.now ys.now)) }
+{
+    xs.iter()
+        .zip(ys.iter())
+        .map(|(x, y)| comparison.holds(value_in(x, x_buffers).cmp(value_in(y, y_buffers))))
+        .collect(alloc)
+}
+
+fn pair_strings(
+    alloc: Global,
+    comparison: Comparison,
+    left: &Strings<'_>,
+    right: &Strings<'_>,
+) -> Result<Vec<bool>, AllocError>
+    ensures { IfOk result (λ mask. mask.items
+        ≡ map (λ p. test_of (comparison_of comparison) (bytes_cmp p.0 p.1))
+        (zip (values_of left.now) (values_of right.now))) }
+{
+    pair_views(
+        alloc,
+        comparison,
+        left.views,
+        left.buffers,
+        right.views,
+        right.buffers,
+    )
+}
+
+fn bools_with(
+    alloc: Global,
+    comparison: Comparison,
+    xs: &[bool],
+    right: &Items<'_>,
+) -> Result<Vec<bool>, AllocError>
+    ensures { IfOk result (λ mask. mask.items
+        ≡ map (λ p. is_true (compared (comparison_of comparison) p.0 p.1))
+        (zip (map boolean xs.now) (contents_of right.now))) }
+{
+    match right.as_bools() {
+        Some(others) => pair_bools(alloc, comparison, xs, others),
+        None => no_rows(alloc, xs.len().min(right.len())),
+    }
+}
+
+fn numbers_with(
+    alloc: Global,
+    comparison: Comparison,
+    xs: &PrimitiveBuffer,
+    right: &Items<'_>,
+) -> Result<Vec<bool>, AllocError>
+    ensures { IfOk result (λ mask. mask.items
+        ≡ map (λ p. is_true (compared (comparison_of comparison) p.0 p.1))
+        (zip (map integer (integers_of xs.now)) (contents_of right.now))) }
+{
+    match right.as_numbers() {
+        Some(others) => pair_numbers(alloc, comparison, xs, others),
+        None => no_rows(alloc, xs.len().min(right.len())),
+    }
+}
+
+fn texts_with(
+    alloc: Global,
+    comparison: Comparison,
+    xs: &Strings<'_>,
+    right: &Items<'_>,
+) -> Result<Vec<bool>, AllocError>
+    ensures { IfOk result (λ mask. mask.items
+        ≡ map (λ p. is_true (compared (comparison_of comparison) p.0 p.1))
+        (zip (map text (values_of xs.now)) (contents_of right.now))) }
+{
+    match right.as_texts() {
+        Some(others) => pair_strings(alloc, comparison, xs, &others),
+        None => no_rows(alloc, xs.views.len().min(right.len())),
+    }
+}
+
+fn binaries_with(
+    alloc: Global,
+    comparison: Comparison,
+    xs: &Strings<'_>,
+    right: &Items<'_>,
+) -> Result<Vec<bool>, AllocError>
+    ensures { IfOk result (λ mask. mask.items
+        ≡ map (λ p. is_true (compared (comparison_of comparison) p.0 p.1))
+        (zip (map byte_string (values_of xs.now)) (contents_of right.now))) }
+{
+    match right.as_binaries() {
+        Some(others) => pair_strings(alloc, comparison, xs, &others),
+        None => no_rows(alloc, xs.views.len().min(right.len())),
+    }
+}
+
+// The items are taken as valid. Those of two forms don't compare.
+fn pair_items(
+    alloc: Global,
+    comparison: Comparison,
+    left: &Items<'_>,
+    right: &Items<'_>,
+) -> Result<Vec<bool>, AllocError>
+    ensures { IfOk result (λ mask. mask.items
+        ≡ map (λ p. is_true (compared (comparison_of comparison) p.0 p.1))
+        (zip (contents_of left.now) (contents_of right.now))) }
+{
+    match left {
+        Items::Bools(xs) => bools_with(alloc, comparison, xs, right),
+        Items::Numbers(xs) => numbers_with(alloc, comparison, xs, right),
+        Items::Texts(xs) => texts_with(alloc, comparison, xs, right),
+        Items::Binaries(xs) => binaries_with(alloc, comparison, xs, right),
+    }
+}
+
+/// Which rows of a column stand so to those of another: none where a side is null.
+pub fn compare_columns(
+    alloc: Global,
+    comparison: Comparison,
+    left: &Column<'_>,
+    right: &Column<'_>,
+) -> Result<Vec<bool>, AllocError>
+    ensures { IfOk result (λ mask. mask.items
+        ≡ map (λ p. is_true (compared (comparison_of comparison) p.0 p.1))
+        (zip (column_of left.now) (column_of right.now))) }
+{
+    let mask = pair_items(alloc, comparison, &left.items, &right.items)?;
+    let mask = keep_valid(alloc, mask, left.validity)?;
+    keep_valid(alloc, mask, right.validity)
+}

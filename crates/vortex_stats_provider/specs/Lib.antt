@@ -1,0 +1,2 @@
+pub mod Placeholders
+pub mod Reading

@@ -1,0 +1,23 @@
+-- Proofs that no value is a text, or begins so.
+use Rattle.std.proofs.Common.{◌≡◌, ℕ, List, Option, Some, None, option_map, sym, ap, ◌∙◌, chars, IsUtf8}
+use Rattle.std.proofs.lemmas.Str.{encodes-chars}
+use Rattle.vortex_model.specs.Bounds.{IsRaise, raise}
+use Rattle.vortex_model.specs.Expression.{Expression, greater, at_least}
+use Rattle.vortex_model.specs.Rewrite.{exact_text, beginning, shape_falsifier, outside}
+use Rattle.vortex_model.proofs.BoundFunctions.{raise_by_function}
+use Rattle.vortex_scalar_truncation.proofs.Raised.{raise_same}
+
+pub outside_text : (x : Expression) (t : List ℕ) → IsUtf8 t → Some (outside x t t greater) ≡ shape_falsifier x (exact_text (chars t))
+outside_text x t u = ap (λ v. Some (outside x v v greater)) (sym (encodes-chars t u))
+
+outside_raised : (x : Expression) (t : List ℕ) (raised : Option (List ℕ)) → IsUtf8 t → IsRaise t raised →
+    option_map (λ above. outside x t above at_least) raised ≡ shape_falsifier x (beginning (chars t))
+outside_raised x t raised u h =
+    ap (option_map (λ above. outside x t above at_least)) (raise_same t raised (raise t) h (raise_by_function t u))
+    ∙ ap (λ v. option_map (λ above. outside x v above at_least) (raise v)) (sym (encodes-chars t u))
+
+pub outside_beginning : (x : Expression) (t above : List ℕ) → IsUtf8 t → IsRaise t (Some above) → Some (outside x t above at_least) ≡ shape_falsifier x (beginning (chars t))
+outside_beginning x t above u h = outside_raised x t (Some above) u h
+
+pub not_raised : (x : Expression) (t : List ℕ) → IsUtf8 t → IsRaise t None → None ≡ shape_falsifier x (beginning (chars t))
+not_raised x t u h = outside_raised x t None u h

@@ -1,0 +1,30 @@
+-- What is true of each chunk of a table.
+use Rattle.std.specs.Prelude.{ℕ, List, [], ◌∷◌, length, map, Bool, true, false, ◌&&◌, nat_lt, nat_eq}
+use Rattle.std.specs.List.{list_all}
+use Rattle.std.specs.Cmp.Lexicographic.{pointwise}
+use Rattle.vortex_model.specs.LogicalType.{LogicalType}
+use Rattle.vortex_model.specs.Path.{Positions, eq_positions}
+use Rattle.vortex_model.specs.Valid.{valid}
+use Rattle.vortex_scalar_value.specs.View.{raw_of}
+use Rattle.vortex_table_schema.specs.Leaves.{leaf_positions}
+use Rattle.vortex_table_chunk.specs.Bounds.{are_sums_of}
+use Rattle.vortex_table_chunk.specs.declared.chunk.Chunk.{Chunk}
+
+-- the leaves are equal, one by one
+abbrev pub eq_leaves : List Positions → List Positions → Bool
+eq_leaves [] [] = true
+eq_leaves (is ∷ xs) (js ∷ ys) = eq_positions is js && eq_leaves xs ys
+eq_leaves xs ys = false
+
+-- these are the bound lengths of the type's leaves, one by one
+abbrev pub are_lengths_of : (Positions → ℕ) → LogicalType → List ℕ → Bool
+are_lengths_of L k lengths = pointwise nat_eq lengths (map L (leaf_positions k))
+
+-- the chunk has rows, these are of the type, its leaves are those of the type and its bound lengths
+-- theirs, and its sums are of the kinds of the leaves
+abbrev pub is_formed : (Positions → ℕ) → LogicalType → Chunk → Bool
+is_formed L k c =
+    nat_lt 0 (length c.rows.items) &&
+    (list_all (λ row. valid k (raw_of row)) c.rows.items &&
+    (eq_leaves c.leaves.value.items (leaf_positions k) && (are_lengths_of L k c.lengths.value.items
+    && are_sums_of k c.leaves.value.items c.bounds.items)))

@@ -1,0 +1,45 @@
+use Rattle.std.proofs.Common.{◌≡◌, ap, sym, subst, ◌∙◌, map, None, is_none}
+use Rattle.vortex_model.specs.Kept.{type_fault_so_far}
+use Rattle.vortex_model.specs.Table.{rows_of}
+use Rattle.vortex_model.specs.Command.{first_unconvertible}
+use Rattle.vortex_dtype_core.specs.View.{type_of}
+use Rattle.vortex_table_schema.specs.Leaves.{leaf_positions}
+use Rattle.vortex_table_chunk.proofs.EqualLeaves.{leaves_same}
+use Rattle.vortex_table_chunk.proofs.Formed.{lengths_same}
+use Rattle.vortex_table_check.specs.Lengths.{length_in}
+use Rattle.vortex_table_check.proofs.Explained.{none_so, none_both}
+use Rattle.vortex_table_core.specs.TableView.{table_of}
+use Rattle.vortex_table_core.proofs.OwnType.{chunks_convert}
+use Rattle.vortex_table_core.proofs.Regrouped.{groups_again, sizes_again, counted_again}
+use Rattle.vortex_table_core.proofs.table.Table.retype.Goals as goal
+
+pub returns-then-eq-clause-accepted : goal.returns-then-eq-clause-accepted
+returns-then-eq-clause-accepted c =
+    let t = c.args.self.now in let s = type_of t.dtype in let k = type_of c.args.dtype in let rows = rows_of (table_of t) in
+    let same : k ≡ s = c.eq.ensures.equal.0 c.if-eq.true in
+    none_both (type_fault_so_far k) (first_unconvertible 0 s k rows) c.in_ok-check_type.ensures.ok
+    (subst (λ x. first_unconvertible 0 s x rows ≡ None) (sym same) (chunks_convert 0 (length_in t.bound_lengths) s t.chunks.items (none_so (type_fault_so_far s) t.kept) t.formed))
+
+pub invariant_of-self : goal.invariant_of-self
+invariant_of-self c =
+    let t = c.args.self.now in let s = type_of t.dtype in let k = type_of c.args.dtype in let L = length_in t.bound_lengths in
+    let made = c.in_ok-chunks.ensures in let chunks = c.in_ok-chunks.chunks.items in let leaves = c.in_ok-leaves.leaves.value.items in record {
+      kept = ap is_none c.in_ok-check_type.ensures.ok;
+      led = leaves_same leaves (leaf_positions k) c.in_ok-leaves.ensures;
+      measured = lengths_same L k c.in_ok-lengths.lengths.value.items
+          (c.in_ok-lengths.ensures ∙ ap (map L) (c.deref-2.ensures.value ∙ ap (λ v. v.items) c.deref.ensures ∙ c.in_ok-leaves.ensures));
+      formed = made.formed;
+      counted = counted_again s k L t.chunks.items chunks made.rows ∙ t.counted;
+      grouped = groups_again s k L t.chunks.items chunks made.rows 0 t.groups.items c.in_ok-chunks.groups.items t.grouped made.groups;
+    }
+
+pub returns-clause-retyped : goal.returns-clause-retyped
+returns-clause-retyped c =
+    let t = c.args.self.now in let s = type_of t.dtype in let k = type_of c.args.dtype in
+    let made = c.in_ok-chunks.ensures in λ i. record {
+      kind = k;
+      default = t.bound_lengths.default;
+      lengths = t.bound_lengths.entries.items;
+      chunks = made.rows i;
+      groups = sizes_again s k (length_in t.bound_lengths) t.chunks.items c.in_ok-chunks.chunks.items made.rows t.groups.items c.in_ok-chunks.groups.items made.groups i;
+    }

@@ -1,0 +1,150 @@
+//! The forms of predicates in a line: what the first item of an array names.
+ghost use Rattle.std.specs.Prelude.{◌≡◌, option_map};
+ghost use Rattle.serde_json.specs.View.{view};
+ghost use Rattle.vortex_stats_stat.specs.Aggregate.{aggregate_of};
+ghost use Rattle.vortex_table_request.specs.Parsed.{Gives};
+ghost use Rattle.vortex_table_request.specs.FormNames.{operator_named, form_named, aggregate_named, has_size, form_in};
+
+use crate::{ParseError, length};
+use serde_json::Value;
+use vortex_stats_expr::operator::Operator;
+use vortex_stats_stat::aggregate::AggregateFn;
+
+/// Which predicate an array is, by how many of its items are predicates themselves.
+#[derive(Clone, Copy, Debug, PartialEq, Eq)]
+pub(crate) enum Form {
+    /// None is.
+    Leaf(Leaf),
+    /// The second item is.
+    Unary(Unary),
+    /// The second and the third are.
+    Binary(Binary),
+    /// `["between",x,lo,hi,lower_strict,upper_strict]`.
+    Between,
+}
+
+/// A predicate over no other.
+#[derive(Clone, Copy, Debug, PartialEq, Eq)]
+pub(crate) enum Leaf {
+    /// `["lit",type,content]`.
+    Literal,
+    /// `["col",name,..]`.
+    Column,
+    /// `["row_count"]`.
+    RowCount,
+}
+
+/// A predicate over one other.
+#[derive(Clone, Copy, Debug, PartialEq, Eq)]
+pub(crate) enum Unary {
+    /// `["not",x]`.
+    Not,
+    /// `["is_null",x]`.
+    IsNull,
+    /// `["is_not_null",x]`.
+    IsNotNull,
+    /// `["is_nan",x]`.
+    IsNan,
+    /// `["stat",x,name]`.
+    Stat,
+}
+
+/// A predicate over two others.
+#[derive(Clone, Copy, Debug, PartialEq, Eq)]
+pub(crate) enum Binary {
+    /// `[op,x,y]`.
+    Operator(Operator),
+    /// `["like",x,pattern,negated,ignore_case]`.
+    Like,
+}
+
+fn operator_named(name: &str) -> Option<Operator>
+    ensures { result ≡ operator_named name.now }
+{
+    match name {
+        "=" => Some(Operator::Eq),
+        "!=" => Some(Operator::NotEq),
+        ">" => Some(Operator::Gt),
+        ">=" => Some(Operator::Gte),
+        "<" => Some(Operator::Lt),
+        "<=" => Some(Operator::Lte),
+        "and" => Some(Operator::And),
+        "or" => Some(Operator::Or),
+        _ => None,
+    }
+}
+
+fn form_named(name: &str) -> Option<Form>
+    ensures { result ≡ form_named name.now }
+{
+    match name {
+        "lit" => Some(Form::Leaf(Leaf::Literal)),
+        "col" => Some(Form::Leaf(Leaf::Column)),
+        "row_count" => Some(Form::Leaf(Leaf::RowCount)),
+        "not" => Some(Form::Unary(Unary::Not)),
+        "is_null" => Some(Form::Unary(Unary::IsNull)),
+        "is_not_null" => Some(Form::Unary(Unary::IsNotNull)),
+        "is_nan" => Some(Form::Unary(Unary::IsNan)),
+        "stat" => Some(Form::Unary(Unary::Stat)),
+        "like" => Some(Form::Binary(Binary::Like)),
+        "between" => Some(Form::Between),
+        _ => match operator_named(name) {
+            Some(operator) => Some(Form::Binary(Binary::Operator(operator))),
+            None => None,
+        },
+    }
+}
+
+/// The statistic of this name.
+pub(crate) fn aggregate_named(name: &str) -> Option<AggregateFn>
+    ensures { option_map aggregate_of result ≡ aggregate_named name.now }
+{
+    match name {
+        "min" => Some(AggregateFn::Min),
+        "max" => Some(AggregateFn::Max),
+        "sum" => Some(AggregateFn::Sum),
+        "null_count" => Some(AggregateFn::NullCount),
+        "nan_count" => Some(AggregateFn::NanCount),
+        "uncompressed_size_in_bytes" => Some(AggregateFn::UncompressedSizeInBytes),
+        "min_max" => Some(AggregateFn::MinMax),
+        "all_null" => Some(AggregateFn::AllNull),
+        "all_non_null" => Some(AggregateFn::AllNonNull),
+        "all_nan" => Some(AggregateFn::AllNan),
+        "all_non_nan" => Some(AggregateFn::AllNonNan),
+        _ => None,
+    }
+}
+
+/// Whether an array of this form may have this many items. A column has a name for each record on
+/// its way, and the root has none.
+fn has_size(form: Form, count: usize) -> bool
+    ensures { result ≡ has_size form count }
+{
+    match form {
+        Form::Leaf(Leaf::Literal) => count == 3,
+        Form::Leaf(Leaf::Column) => true,
+        Form::Leaf(Leaf::RowCount) => count == 1,
+        Form::Unary(Unary::Stat) => count == 3,
+        Form::Unary(_) => count == 2,
+        Form::Binary(Binary::Operator(_)) => count == 3,
+        Form::Binary(Binary::Like) => count == 5,
+        Form::Between => count == 6,
+    }
+}
+
+/// The form of an array that has as many items as its form has.
+pub(crate) fn read_form(value: &Value) -> Result<Form, ParseError>
+    ensures { Gives (λ form. form) result (form_in (view value.now)) }
+{
+    let count = length(value).ok_or(ParseError::Malformed)?;
+    let form = value
+        .get(0)
+        .and_then(Value::as_str)
+        .and_then(form_named)
+        .ok_or(ParseError::Malformed)?;
+    if has_size(form, count) {
+        Ok(form)
+    } else {
+        Err(ParseError::Malformed)
+    }
+}
