@@ -1,5 +1,4 @@
 pub mod Comparing
-pub mod Joined
 pub mod Literals
 pub mod SideBySide
 pub mod Shown

@@ -53,10 +53,6 @@ wanted_of_not false c = refl
 
 -- ---- comparisons
 
-pub wanted_true : (c : Content) → is_wanted true c ≡ is_true c
-wanted_true (boolean b) = refl
-wanted_true c = refl
-
 tests_negated : (op : Comparison) (o : Ordering) → not (test_of op o) ≡ test_of (negated op) o
 tests_negated equal Less = refl
 tests_negated equal Equal = refl

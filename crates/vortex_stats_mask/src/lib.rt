@@ -3,6 +3,7 @@
 
 pub mod column;
 pub mod compare;
+pub mod laws;
 mod literal;
 pub mod masks;
 pub mod numbers;

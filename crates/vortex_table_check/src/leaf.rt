@@ -70,7 +70,8 @@ pub fn leaf_at(
     ensures place { IfOk result
         (λ place. positions_of (type_of dtype.now) (steps_of path.now) ≡ place.items) }
     ensures leaf { IfOk result (λ place. is_leaf_at (type_of dtype.now) place.items ≡ true) }
-    ensures accepted { OnOk result (or_else (path_fault index (type_of dtype.now) (steps_of path.now))
+    ensures accepted { OnOk result
+        (or_else (path_fault index (type_of dtype.now) (steps_of path.now))
         (leaf_fault (type_of dtype.now) (steps_of path.now)) ≡ None) }
     ensures refused { IfErr result (λ e. Explains ⊥
         (or_else (path_fault index (type_of dtype.now) (steps_of path.now))

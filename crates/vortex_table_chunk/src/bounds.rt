@@ -19,7 +19,8 @@ use vortex_scalar_value::scalar_value::ScalarValue;
 use vortex_stats_bind::bound::part_at;
 use vortex_table_schema::leaves::LeafPath;
 
-/// The least and the greatest value and the sum of the column at this path. Each value is read once.
+/// The least and the greatest value and the sum of the column at this path. Each value is read
+/// once.
 pub fn leaf_pass<'a>(rows: &'a [ScalarValue], leaf: &[usize]) -> (MinMax<'a>, RunningSum)
     ensures min_max { IsMinMaxOf result.0 (column_at leaf.now rows.now) }
     ensures sum { IsSumOf result.1 (column_at leaf.now rows.now) }

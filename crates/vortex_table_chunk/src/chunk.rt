@@ -28,8 +28,8 @@ pub struct Chunk {
             rows.items },
 }
 
-/// A chunk of these rows of a type. A bound that is a text or bytes is shortened to as many bytes as
-/// `lengths` has for its leaf column.
+/// A chunk of these rows of a type. A bound that is a text or bytes is shortened to as many bytes
+/// as `lengths` has for its leaf column.
 pub fn new_chunk(
     alloc: Global,
     dtype: &DType,

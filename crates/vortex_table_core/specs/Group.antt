@@ -19,7 +19,8 @@ HasStatistics k L (Some bounds) chunks =
     (1 < length chunks) × ∥ AreJoined k L (leaf_positions k) bounds (map chunk_rows chunks) ∥₁
 
 -- the group has these chunks of a type, at these bound lengths
-pub record IsGroup (k : LogicalType) (L : Positions → ℕ) (g : Group) (chunks : List Chunk) : Type 0 where
+pub record IsGroup (k : LogicalType) (L : Positions → ℕ) (g : Group)
+    (chunks : List Chunk) : Type 0 where
   pub count : length chunks ≡ g.chunks
   pub some : 0 < g.chunks
   pub rows : rows_in (map chunk_rows chunks) ≡ g.rows
@@ -62,8 +63,8 @@ IsGroup-prop k L g chunks = λ p q i. record {
       q.statistics i;
 }
 
-pub AreGroups-prop : (k : LogicalType) (L : Positions → ℕ) (i : ℕ) (groups : List Group) (chunks : List Chunk) →
-    IsProp (AreGroups k L i groups chunks)
+pub AreGroups-prop : (k : LogicalType) (L : Positions → ℕ) (i : ℕ) (groups : List Group)
+    (chunks : List Chunk) → IsProp (AreGroups k L i groups chunks)
 AreGroups-prop k L i [] [] = Unit-prop
 AreGroups-prop k L i [] (c ∷ chunks) = λ p q. absurd p
 AreGroups-prop k L i (g ∷ groups) chunks = λ p q j. (

@@ -63,8 +63,8 @@ impl Table {
     fn leaf_statistics<'a>(&'a self, group: usize, place: &[usize]) -> &'a ColumnBounds
         requires group { group < length self.now.groups.items }
         requires leaf { is_leaf_at (type_of self.now.dtype) place.now ≡ true }
-        ensures { (g : Group) → ∥ IsJoined (type_of self.now.dtype) (length_in self.now.bound_lengths) place.now
-            result.now (map chunk_rows (chunks_of self.now.chunks.items
+        ensures { (g : Group) → ∥ IsJoined (type_of self.now.dtype)
+            (length_in self.now.bound_lengths) place.now result.now (map chunk_rows (chunks_of self.now.chunks.items
             (slice_index_or self.now.groups.items group g))) ∥₁ }
     {
         let group = &self.groups[group];

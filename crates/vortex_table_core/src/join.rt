@@ -22,8 +22,8 @@ impl Table {
     // The statistics of each leaf column in the rows of a group.
     pub(crate) fn statistics<'a>(&'a self, group: &'a Group) -> &'a [ColumnBounds]
         requires inside { group.now.first < length self.now.chunks.items }
-        requires group { IsGroup (type_of self.now.dtype) (length_in self.now.bound_lengths) group.now
-            (chunks_of self.now.chunks.items group.now) }
+        requires group { IsGroup (type_of self.now.dtype) (length_in self.now.bound_lengths)
+            group.now (chunks_of self.now.chunks.items group.now) }
         ensures { ∥ AreJoined (type_of self.now.dtype) (length_in self.now.bound_lengths)
             (leaf_positions (type_of self.now.dtype)) result.now
             (map chunk_rows (chunks_of self.now.chunks.items group.now)) ∥₁ }
@@ -37,8 +37,8 @@ impl Table {
     // The group at the index and the one behind it, as one.
     fn joined_group(&self, alloc: Global, index: usize) -> Result<Group, AllocError>
         requires { index + 1 < length self.now.groups.items }
-        ensures { IfOk result (λ group. IsOneGroup (type_of self.now.dtype) (length_in self.now.bound_lengths)
-            self.now.groups.items index self.now.chunks.items group) }
+        ensures { IfOk result (λ group. IsOneGroup (type_of self.now.dtype)
+            (length_in self.now.bound_lengths) self.now.groups.items index self.now.chunks.items group) }
     {
         let left = &self.groups[index];
         let right = &self.groups[index + 1];

@@ -141,10 +141,10 @@ impl Table {
         Ok((chunks, groups))
     }
 
-    /// Converts all rows to the type, which becomes the table's. A leaf column that stays one at its
-    /// positions keeps its bounds and null counts in each chunk. All other statistics are taken
-    /// anew, those of a group from its chunks, from the first to the last. To the table's own type
-    /// nothing changes, and after an error the table is as before.
+    /// Converts all rows to the type, which becomes the table's. A leaf column that stays one at
+    /// its positions keeps its bounds and null counts in each chunk. All other statistics are
+    /// taken anew, those of a group from its chunks, from the first to the last. To the table's
+    /// own type nothing changes, and after an error the table is as before.
     ///
     /// Refused, in this order: where a table can't hold the type, `NotARecord`, `RepeatedName`,
     /// `UnkeptType`; `NotConvertible` with the first row that the type can't hold, counted over the

@@ -40,8 +40,8 @@ impl Scan<'_> {
     fn is_skipped(&self, group: &Group) -> bool
         requires { IsPlan self.now }
         ensures { (chunks : List Chunk)
-            → IsTrue (list_all (is_formed (bound_length (table_in self.now)) (table_in self.now).kind)
-            chunks)
+            → IsTrue (list_all
+            (is_formed (bound_length (table_in self.now)) (table_in self.now).kind) chunks)
             → IsGroup (table_in self.now).kind (bound_length (table_in self.now)) group.now chunks
             → result ≡ is_group_skipped (table_in self.now) (predicate_in self.now)
             (map chunk_rows chunks) }
@@ -111,8 +111,8 @@ impl Scan<'_> {
         requires plan { IsPlan self.now }
         requires inside { group.now.first + group.now.chunks
             ≤ length self.now.table.now.chunks.items }
-        requires group { IsGroup (table_in self.now).kind (bound_length (table_in self.now)) group.now
-            (chunks_of self.now.table.now.chunks.items group.now) }
+        requires group { IsGroup (table_in self.now).kind (bound_length (table_in self.now))
+            group.now (chunks_of self.now.table.now.chunks.items group.now) }
         requires counted { saturated answer.old.rows_tested ≡ answer.old.rows_tested }
         requires typed { All (λ row. scalar_type row ≡ type_of self.now.prepared.now.cut.dtype)
             answer.old.rows.items }

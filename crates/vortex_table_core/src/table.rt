@@ -62,9 +62,9 @@ impl Table {
     ghost use Rattle.vortex_table_check.specs.Lengths.{entries_in};
     ghost use Rattle.vortex_table_core.specs.TableView.{table_of};
 
-    /// A table without rows. A bound of a leaf column that is a text or bytes of more bytes than the
-    /// column's bound length is shortened: that of its path in `lengths`, and else `default`. A path
-    /// stands for the positions of its names in the type.
+    /// A table without rows. A bound of a leaf column that is a text or bytes of more bytes than
+    /// the column's bound length is shortened: that of its path in `lengths`, and else `default`.
+    /// A path stands for the positions of its names in the type.
     ///
     /// Refused, in this order: where a table can't hold the type, `NotARecord`, `RepeatedName`,
     /// `UnkeptType`; the first of `lengths` at fault, by its index, `UnknownPath`, `ElementStep`,
