@@ -97,14 +97,14 @@ fn push_fixed<'a>(
         ≡ map raw_at all.old.items ++ fixed_items size (raw_at value.entry)) }
 {
     let Some(value) = value else {
-        return push_nulls(all, size);
+        return push_absent(all, size);
     };
     push_items(all, list_of(Some(value)))
 }
 
 // Adds so many nulls.
 #[tactic(auto, using(crate::proofs::ItemLemmas::nulls))]
-fn push_nulls(all: &mut Vec<Option<&ScalarValue>>, size: u32) -> Result<(), AllocError>
+fn push_absent(all: &mut Vec<Option<&ScalarValue>>, size: u32) -> Result<(), AllocError>
     ensures { OnOk result (map raw_at all.new.items
         ≡ map raw_at all.old.items ++ replicate size raw_null) }
 {

@@ -214,7 +214,7 @@ fn stats_of_any(
     }
 }
 
-// The same of integers, whose kind is matched once.
+// The statistics of integers, whose kind is matched once for all rows.
 #[tactic(auto, using(crate::proofs::Compared::of_kinds))]
 fn stats_of_any_numbers(
     alloc: Global,

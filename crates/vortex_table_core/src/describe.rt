@@ -64,7 +64,8 @@ impl Table {
         requires group { group < length self.now.groups.items }
         requires leaf { is_leaf_at (type_of self.now.dtype) place.now ≡ true }
         ensures { (g : Group) → ∥ IsJoined (type_of self.now.dtype)
-            (length_in self.now.bound_lengths) place.now result.now (map chunk_rows (chunks_of self.now.chunks.items
+            (length_in self.now.bound_lengths) place.now result.now
+            (map chunk_rows (chunks_of self.now.chunks.items
             (slice_index_or self.now.groups.items group g))) ∥₁ }
     {
         let group = &self.groups[group];

@@ -38,7 +38,8 @@ impl Table {
     fn joined_group(&self, alloc: Global, index: usize) -> Result<Group, AllocError>
         requires { index + 1 < length self.now.groups.items }
         ensures { IfOk result (λ group. IsOneGroup (type_of self.now.dtype)
-            (length_in self.now.bound_lengths) self.now.groups.items index self.now.chunks.items group) }
+            (length_in self.now.bound_lengths) self.now.groups.items index
+            self.now.chunks.items group) }
     {
         let left = &self.groups[index];
         let right = &self.groups[index + 1];
