@@ -1,15 +1,15 @@
 -- A predicate that a scan accepts has a truth.
-use Rattle.std.proofs.Common.{◌≡◌, refl, ap, ◌∙◌, List, ℕ, Bool, true, false, not, ◌&&◌, ◌||◌, Option, Some, None}
+use Rattle.std.proofs.Common.{◌≡◌, refl, ap, Bool, true, false, not, ◌&&◌, ◌||◌, Option, Some, None}
 use Rattle.std.specs.Option.{option_map_or}
-use Rattle.vortex_model.specs.LogicalType.{LogicalType, boolean_type, integer_type, float, utf8, binary}
-use Rattle.vortex_model.specs.Content.{Content, null, boolean, integer, text}
+use Rattle.vortex_model.specs.LogicalType.{LogicalType, boolean_type, integer_type, utf8, binary}
+use Rattle.vortex_model.specs.Content.{text}
 use Rattle.vortex_model.specs.Path.{type_of_column}
 use Rattle.vortex_model.specs.Kept.{is_leaf}
 use Rattle.vortex_model.specs.Like.{has_backslash}
 use Rattle.vortex_model.specs.Refusal.{Refusal, or_else, not_a_leaf, unequal_types, not_boolean, unsupported_like, unsupported_predicate, placeholder}
 use Rattle.vortex_model.specs.Typing.{expression_type, is_float, is_of_floats}
 use Rattle.vortex_model.specs.Expression.{Expression, literal, column, compare, both, either, negation, is_null, is_not_null, is_nan, between, like, row_count, statistic}
-use Rattle.vortex_model.specs.Truth.{has_truth, HasTruth, is_free_of_backslash}
+use Rattle.vortex_model.specs.Truth.{has_truth, HasTruth}
 use Rattle.vortex_model.specs.Command.{expression_fault, predicate_fault, column_fault, unless, is_boolean, eq_optional_type, is_utf8_type, is_supported_like}
 use Rattle.vortex_model.proofs.Held.{first_none, second_none}
 

@@ -7,7 +7,6 @@ use Rattle.std.specs.Cmp.{IsTotalOrder, bool_cmp_total, unsigned_ties}
 use Rattle.std.specs.Cmp.Lexicographic.{lists_ties, bytes_decides}
 use Rattle.std.specs.FinMap.{int_cmp-IsAntisymmetric}
 use Rattle.std.proofs.lemmas.Cmp.{int_cmp_total, nat_list_cmp_total}
-use Rattle.vortex_model.specs.LogicalType.{LogicalType}
 use Rattle.vortex_model.specs.Content.{Content, null, boolean, integer, text, byte_string, tuple, tagged, scalar, Contents, nothing, first}
 use Rattle.vortex_model.specs.Order.{content_cmp, contents_cmp, and_then, is_known, bytes_cmp}
 use Rattle.vortex_model.specs.Statistics.{IsNotAbove}

@@ -5,7 +5,7 @@ use Rattle.vortex_model.specs.LogicalType.{LogicalType, struct, extension, Field
 use Rattle.vortex_model.specs.Content.{Content, null, tuple, Contents, nothing, first, nth}
 use Rattle.vortex_model.specs.Valid.{IsContent, Holds, FieldsHold}
 use Rattle.vortex_model.specs.Path.{Positions, field_at, type_at, at}
-use Rattle.vortex_model.specs.Kept.{type_fault_so_far, part_fault_so_far, fields_fault_so_far, names_distinct, is_leaf}
+use Rattle.vortex_model.specs.Kept.{type_fault, part_fault, fields_fault, names_distinct, is_leaf}
 use Rattle.vortex_model.specs.Refusal.{repeated_name}
 use Rattle.vortex_model.proofs.Held.{first_none, second_none, parts_faultless}
 use Rattle.vortex_model.proofs.Kept.{loosened}
@@ -76,25 +76,25 @@ leaf_within nullable k = refl
 
 -- ---- the parts of what tables hold so far
 
-kept_within : (n : Nullability) (k : LogicalType) → part_fault_so_far (nullable_inside n k) ≡ part_fault_so_far k
+kept_within : (n : Nullability) (k : LogicalType) → part_fault (nullable_inside n k) ≡ part_fault k
 kept_within non_nullable k = refl
 kept_within nullable (extension id meta k) = refl
 kept_within nullable k = refl
 
-field_kept : (fs : Fields) (i : ℕ) (part : LogicalType) → fields_fault_so_far fs ≡ None → field_at fs i ≡ Some part → part_fault_so_far part ≡ None
-field_kept (field x k fs) zero part h e = ap part_fault_so_far (sym (some_equal k part e)) ∙ first_none (part_fault_so_far k) (fields_fault_so_far fs) h
-field_kept (field x k fs) (suc i) part h e = field_kept fs i part (second_none (part_fault_so_far k) (fields_fault_so_far fs) h) e
+field_kept : (fs : Fields) (i : ℕ) (part : LogicalType) → fields_fault fs ≡ None → field_at fs i ≡ Some part → part_fault part ≡ None
+field_kept (field x k fs) zero part h e = ap part_fault (sym (some_equal k part e)) ∙ first_none (part_fault k) (fields_fault fs) h
+field_kept (field x k fs) (suc i) part h e = field_kept fs i part (second_none (part_fault k) (fields_fault fs) h) e
 field_kept no_fields i part h e = absurd (cc (e))
 
 -- tables hold each part of what they hold
-part_kept : (k : LogicalType) (is : Positions) (t : LogicalType) → part_fault_so_far k ≡ None → type_at k is ≡ Some t → part_fault_so_far t ≡ None
-part_kept k [] t h e = ap part_fault_so_far (sym (some_equal k t e)) ∙ h
+part_kept : (k : LogicalType) (is : Positions) (t : LogicalType) → part_fault k ≡ None → type_at k is ≡ Some t → part_fault t ≡ None
+part_kept k [] t h e = ap part_fault (sym (some_equal k t e)) ∙ h
 part_kept (struct fs n) (i ∷ is) t h e =
     let s = stepped n (field_at fs i) is t e in
-    ap part_fault_so_far (sym s.result) ∙ kept_within n s.inner
-    ∙ part_kept s.part is s.inner (field_kept fs i s.part (parts_faultless (names_distinct fs) (fields_fault_so_far fs) repeated_name h) s.there) s.type
+    ap part_fault (sym s.result) ∙ kept_within n s.inner
+    ∙ part_kept s.part is s.inner (field_kept fs i s.part (parts_faultless (names_distinct fs) (fields_fault fs) repeated_name h) s.there) s.type
 part_kept k (i ∷ is) t h e = absurd (cc (e))
 
-pub at_kept : (k : LogicalType) (is : Positions) (t : LogicalType) → type_fault_so_far k ≡ None → type_at k is ≡ Some t → part_fault_so_far t ≡ None
+pub at_kept : (k : LogicalType) (is : Positions) (t : LogicalType) → type_fault k ≡ None → type_at k is ≡ Some t → part_fault t ≡ None
 at_kept (struct fs non_nullable) is t h e = part_kept (struct fs non_nullable) is t h e
 at_kept k is t h e = absurd (cc (h))

@@ -1,12 +1,12 @@
 -- Paths that cover the same keep the same.
-use Rattle.std.proofs.Common.{◌≡◌, refl, sym, ◌∙◌, ap, subst, ℕ, List, [], ◌∷◌, ◌++◌, map, filter, Bool, true, false, ◌&&◌, ◌||◌, if◌then◌else◌, ◌⊎◌, inl, inr}
+use Rattle.std.proofs.Common.{◌≡◌, refl, sym, ◌∙◌, ap, ℕ, List, [], ◌∷◌, ◌++◌, map, filter, Bool, true, false, ◌&&◌, ◌||◌, if◌then◌else◌, ◌⊎◌, inl, inr}
 use Rattle.std.specs.List.{list_any}
 use Rattle.std.specs.Str.{bytes_eq}
 use Rattle.std.specs.Cmp.Lexicographic.{bytes_decides}
 use Rattle.vortex_model.specs.LogicalType.{LogicalType, struct, Fields, no_fields, field}
-use Rattle.vortex_model.specs.Content.{Content, tuple, Contents, nothing, first}
+use Rattle.vortex_model.specs.Content.{Content, tuple, Contents, first}
 use Rattle.vortex_model.specs.Path.{Names, begins}
-use Rattle.vortex_model.specs.Cut.{covers, is_kept, cut_kind, cut_fields, cut_type, cut_content, cut_contents, cut_row}
+use Rattle.vortex_model.specs.Cut.{is_kept, cut_kind, cut_fields, cut_type, cut_content, cut_contents, cut_row}
 use Rattle.vortex_model.specs.Expression.{Expression}
 use Rattle.vortex_model.specs.Truth.{selects}
 use Rattle.vortex_model.specs.Table.{Table, rows_of, answer}

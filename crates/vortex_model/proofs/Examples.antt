@@ -2,7 +2,7 @@
 use Rattle.std.proofs.Common.{◌≡◌, refl, ℕ, pos, List, [], ◌∷◌, map, Option, Some, None, true, false, option_map}
 use Rattle.std.specs.Prelude.{codes}
 use Rattle.std.specs.Str.{chars, is_utf8}
-use Rattle.vortex_model.specs.LogicalType.{LogicalType, boolean_type, integer_type, float, utf8, binary, list, struct, no_fields, field, Nullability, non_nullable, nullable, u8, i32, i64, f32, f64}
+use Rattle.vortex_model.specs.LogicalType.{LogicalType, boolean_type, integer_type, float, utf8, binary, list, fixed_list, struct, no_fields, field, Nullability, non_nullable, nullable, u8, i32, i64, f32, f64}
 use Rattle.vortex_model.specs.Content.{Content, null, boolean, integer, text, byte_string, tuple, nothing, first, Raw, raw_null, raw_boolean, raw_number, raw_text, raw_byte_string, raw_tuple, Raws, no_raws, raw_first, contents_from}
 use Rattle.vortex_model.specs.Bounds.{low, high}
 use Rattle.vortex_model.specs.Path.{Step, name}
@@ -217,8 +217,14 @@ kept_record = refl
 told_float : told (create_fault (one a (float f64 nullable)) []) ≡ Some (3, None)
 told_float = refl
 
-told_list : told (create_fault (one a (list (number nullable) nullable)) []) ≡ Some (3, None)
-told_list = refl
+kept_list : create_fault (one a (list (fixed_list (one a (number non_nullable)) 2 nullable) nullable)) [] ≡ None
+kept_list = refl
+
+told_in_list : told (create_fault (one a (list (float f64 nullable) nullable)) []) ≡ Some (3, None)
+told_in_list = refl
+
+told_twice_in_list : told (create_fault (one a (list twice nullable)) []) ≡ Some (4, None)
+told_twice_in_list = refl
 
 kept_leaves : create_fault (struct (field a (boolean_type nullable) (field s (utf8 nullable) (field (codes "b") (binary non_nullable) no_fields))) non_nullable) [] ≡ None
 kept_leaves = refl

@@ -11,8 +11,7 @@ use Rattle.vortex_model.specs.Statistics.{Precision, exact, inexact, absent, Sta
 use Rattle.vortex_model.specs.Rewrite.{falsifier, satisfier}
 use Rattle.vortex_model.specs.Sound.{Placeholders, of_proof, IsSoundFalsifier, IsSoundSatisfier}
 use Rattle.vortex_model.specs.Valid.{IsContent}
-use Rattle.vortex_model.specs.Pruning.{has_no_like}
-use Rattle.vortex_model.proofs.ContentOrder.{Bounds, true_left, true_right}
+use Rattle.vortex_model.proofs.ContentOrder.{Bounds}
 use Rattle.vortex_model.proofs.Texts.{value_textual}
 use Rattle.vortex_model.proofs.Pruning.{IsTold, AreTold, IsTestTold, falsified, satisfied}
 
@@ -236,19 +235,6 @@ module _ (k : LogicalType) (g : Given) (row : Content) (typed : IsContent k row)
   told_everywhere (like x form n i) f = (h x, value_textual k row typed x f.0, value_textual k row typed form f.1)
   told_everywhere e f = tt
 
--- the same without LIKE, whose literals may be of any form
-module _ (k : LogicalType) (g : Given) (row : Content) (h : (x : Expression) → IsTold k g row x) where
-  told_without_like : (e : Expression) → has_no_like e ≡ true → AreTold k g row e
-  told_without_like (compare op x y) w = (h x, h y)
-  told_without_like (both x y) w = (told_without_like x (true_left (has_no_like x) (has_no_like y) w), told_without_like y (true_right (has_no_like x) (has_no_like y) w))
-  told_without_like (either x y) w = (told_without_like x (true_left (has_no_like x) (has_no_like y) w), told_without_like y (true_right (has_no_like x) (has_no_like y) w))
-  told_without_like (is_null_test x) w = h x
-  told_without_like (is_not_null_test x) w = h x
-  told_without_like (is_nan_test x) w = h x
-  told_without_like (between x lo hi s t) w = (h x, h lo, h hi)
-  told_without_like (like x form n i) w = absurd (cc (w))
-  told_without_like e w = tt
-
 test_told : (k : LogicalType) (g : Given) (row : Content) → ((x : Expression) → IsTold k g row x) → (e : Expression) → IsTestTold k g row e
 test_told k g row h (is_null_test x) = h x
 test_told k g row h (is_not_null_test x) = h x
@@ -260,12 +246,6 @@ sound_falsifier k e proof has formed is rows given typed honest t =
     each_among (λ row. ¬ (Satisfies k e row)) rows (λ row here.
     falsified k (of_proof given rows) row e proof
     (told_everywhere k (of_proof given rows) row (all_among (IsContent k) row rows typed here) (λ x. told k rows given x (honest x) row here) e formed) is t.1)
-
-pub sound_without_like : (k : LogicalType) (e proof : Expression) → has_no_like e ≡ true → falsifier k e ≡ Some proof → IsSoundFalsifier k e proof
-sound_without_like k e proof w is rows given typed honest t =
-    each_among (λ row. ¬ (Satisfies k e row)) rows (λ row here.
-    falsified k (of_proof given rows) row e proof
-    (told_without_like k (of_proof given rows) row (λ x. told k rows given x (honest x) row here) e w) is t.1)
 
 -- whatever the predicate, since what has no truth is null here
 pub sound_satisfier_of_any : (k : LogicalType) (e proof : Expression) → satisfier k e ≡ Some proof → IsSoundSatisfier k e proof

@@ -1,10 +1,8 @@
 -- No row of a chunk whose box is hopeless satisfies a predicate of the wide class.
 use Rattle.std.proofs.Common.{◌≡◌, refl, sym, ap, ◌∙◌, subst, ℕ, pos, ◌<◌, ◌≤◌, List, [], ◌∷◌, ◌++◌, map, length, filter, Bool, true, false, not, ◌&&◌, ◌||◌, if◌then◌else◌, Option, Some, None, option_and_then, option_map, ◌⊎◌, inl, inr, arith, IfSome}
 use Rattle.std.specs.List.{AllByRecursion, list_any}
-use Rattle.std.specs.Str.{bytes_eq}
 use Rattle.std.specs.Cmp.Lexicographic.{bytes_decides}
 use Rattle.std.proofs.lemmas.Bool.{cases_lt}
-use Rattle.std.proofs.lemmas.List.{length-map}
 use Rattle.std.proofs.lemmas.List.Sums.{count_by-le-length}
 use Rattle.vortex_model.specs.LogicalType.{LogicalType, boolean_type, integer_type, utf8, binary, non_nullable, with_nullability, IntKind, u8, u16, u32, u64, i8, i16, i32, i64}
 use Rattle.vortex_model.specs.Content.{Content, null, boolean, integer, text, byte_string, is_null}
@@ -22,10 +20,10 @@ use Rattle.vortex_model.specs.Scan.{chunk_zone, chunk_zone_at, if_leaf}
 use Rattle.vortex_model.specs.Class.{Box, box_of, unknown_zone, IsFrom, IsUpTo, IsValueOf, IsBetween, IsCounted, Hopeless, columns_of, eq_names, all_distinct, is_wide, is_wide_tree, are_sides, is_column, are_ends, is_text_form}
 use Rattle.vortex_model.specs.Command.{expression_fault, predicate_fault, column_fault, unless, is_boolean, eq_optional_type, is_utf8_type, is_supported_like}
 use Rattle.vortex_model.specs.Typing.{expression_type}
-use Rattle.vortex_model.proofs.Columns.{at_type, all_at_type}
+use Rattle.vortex_model.proofs.Columns.{all_at_type}
 use Rattle.vortex_model.proofs.ContentOrder.{true_left, true_right}
 use Rattle.vortex_model.proofs.Honesty.{Among, among_map, all_among, value_among, no_null_among, all_null_among}
-use Rattle.vortex_model.proofs.Hopeless.{MayHold, Keeps, Fills, none_held}
+use Rattle.vortex_model.proofs.Hopeless.{MayHold, Fills, none_held}
 use Rattle.vortex_model.proofs.Held.{first_none, second_none}
 use Rattle.vortex_model.proofs.Skipping.{kept_none, never_true}
 use Rattle.vortex_model.proofs.Tests.{range_so}

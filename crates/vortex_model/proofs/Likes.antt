@@ -1,5 +1,5 @@
 -- What a LIKE pattern without a backslash says of the texts that match it.
-use Rattle.std.proofs.Common.{◌≡◌, refl, sym, ap, ◌∙◌, subst, ℕ, List, [], ◌∷◌, ◌++◌, map, Bool, true, false, not, ◌&&◌, ◌||◌, ◌==◌, if◌then◌else◌, Option, Some, None, option_map, IsUtf8, chars, arith, eqb-true}
+use Rattle.std.proofs.Common.{◌≡◌, refl, sym, ap, ◌∙◌, subst, ℕ, List, [], ◌∷◌, ◌++◌, map, Bool, true, false, ◌&&◌, ◌||◌, ◌==◌, if◌then◌else◌, Some, None, option_map, IsUtf8, chars, arith, eqb-true}
 use Rattle.std.specs.List.{list_any}
 use Rattle.std.specs.Char.{encode_utf8}
 use Rattle.std.specs.Str.{encode_utf8_all}
@@ -9,12 +9,11 @@ use Rattle.vortex_model.specs.Content.{Content, null, boolean, text}
 use Rattle.vortex_model.specs.Bounds.{IsRaise, raise, IsAtMostBytes, IsBelow}
 use Rattle.vortex_model.specs.Like.{matches, some_end, after_one, after_this, is_like, has_backslash}
 use Rattle.vortex_model.specs.Truth.{liked}
-use Rattle.vortex_model.specs.Rewrite.{Sign, letter, wildcard, sign_of, signs_of, Shape, exact_text, beginning, no_shape, onto_shape, shape_of_signs, shape_of}
+use Rattle.vortex_model.specs.Rewrite.{letter, wildcard, sign_of, signs_of, Shape, exact_text, beginning, no_shape, onto_shape, shape_of_signs, shape_of}
 use Rattle.vortex_model.proofs.Beginnings.{scalars_left}
 use Rattle.vortex_model.proofs.BoundFunctions.{raise_by_function}
-use Rattle.vortex_model.proofs.ByteOrder.{under_below, upto_refl, upto_front}
+use Rattle.vortex_model.proofs.ByteOrder.{under_below, upto_front}
 use Rattle.vortex_model.proofs.Raised.{raised_over}
-use Rattle.vortex_model.proofs.Texts.{IsTextual}
 
 -- ---- no backslash
 

@@ -1,21 +1,21 @@
 -- Worked values of truth, of proofs and of when they may be believed.
-use Rattle.std.proofs.Common.{◌≡◌, refl, pos, ◌<◌, List, [], ◌∷◌, ◌++◌, filter, Option, Some, None, true, false, inl, arith}
+use Rattle.std.proofs.Common.{◌≡◌, refl, pos, ◌<◌, List, [], ◌∷◌, ◌++◌, filter, Some, None, true, false, inl, arith}
 use Rattle.std.specs.Prelude.{codes}
 use Rattle.std.specs.List.{AllByRecursion}
 use Rattle.std.specs.Str.{chars, is_utf8}
 use Rattle.std.proofs.lemmas.Str.{is_utf8-from_IsUtf8}
 use Rattle.std.specs.declared.cmp.Ordering.TheVariants.{Less, Equal, Greater}
-use Rattle.vortex_model.specs.LogicalType.{LogicalType, boolean_type, float, utf8, variant, non_nullable, nullable, f32}
-use Rattle.vortex_model.specs.Content.{Content, null, boolean, integer, text, tuple, scalar, Contents, nothing, first}
+use Rattle.vortex_model.specs.LogicalType.{LogicalType, boolean_type, float, variant, non_nullable, nullable, f32}
+use Rattle.vortex_model.specs.Content.{Content, null, boolean, integer, text, tuple, scalar, first}
 use Rattle.vortex_model.specs.Valid.{IsContent}
 use Rattle.vortex_model.specs.Order.{scalar_cmp}
-use Rattle.vortex_model.specs.Expression.{Expression, literal, column, compare, both, either, is_null, is_nan, like, statistic, equal, greater, null_count, all_non_null, HasFormedLiterals}
+use Rattle.vortex_model.specs.Expression.{Expression, literal, compare, either, is_null, is_nan, like, statistic, equal, greater, null_count, all_non_null, HasFormedLiterals}
 use Rattle.vortex_model.specs.Truth.{value_at, has_truth, selects, Satisfies}
 use Rattle.vortex_model.specs.Cut.{covers}
 use Rattle.vortex_model.specs.Table.{Table}
 use Rattle.vortex_model.specs.Scan.{chunk_zone}
 use Rattle.vortex_model.specs.Class.{box_of, IsCounted, IsBetween, Hopeless, is_wide}
-use Rattle.vortex_model.specs.Rewrite.{Sign, letter, wildcard, signs_of, falsifiers, falsifier, joined_proofs, count_literal, boolean_literal}
+use Rattle.vortex_model.specs.Rewrite.{letter, wildcard, signs_of, falsifiers, falsifier, joined_proofs, count_literal, boolean_literal}
 use Rattle.vortex_model.specs.Sound.{Placeholders, AreHonest, Proves, IsSoundFalsifier}
 use Rattle.vortex_model.proofs.Examples.{one, row, a, A, N, col, lit32, s, S, lit_text}
 

@@ -13,10 +13,10 @@ use Rattle.vortex_model.specs.Typing.{is_of_floats}
 use Rattle.vortex_model.specs.Rewrite.{bound_expression, null_count_expression, comparison_falsifier, comparison_falsifiers, guarded, no_nan_by_count, no_nan_by_flag, is_comparable, is_float_placeholder, nan_count_expression, joined_proofs, either_there, both_there, as_list, Shape, exact_text, beginning, no_shape, shape_of, outside, shape_falsifier, falsifier, satisfier, count_literal}
 use Rattle.vortex_model.specs.Bounds.{raise, IsAtMostBytes}
 use Rattle.vortex_model.proofs.ByteOrder.{upto_refl}
-use Rattle.vortex_model.proofs.ContentOrder.{true_left, true_right, Between, passing, none_equal, none_equal_back, none_not_equal, none_greater, none_at_least, none_less, none_at_most}
+use Rattle.vortex_model.proofs.ContentOrder.{Between, passing, none_equal, none_equal_back, none_not_equal, none_greater, none_at_least, none_less, none_at_most}
 use Rattle.vortex_model.proofs.Hopeless.{and_left, and_right, or_one}
 use Rattle.vortex_model.proofs.Texts.{IsTextual}
-use Rattle.vortex_model.proofs.Likes.{Fits, Matched, matched, shape_fits, exact_bytes, beginning_upto, beginning_below}
+use Rattle.vortex_model.proofs.Likes.{Fits, matched, shape_fits, exact_bytes, beginning_upto, beginning_below}
 
 -- What the placeholders say of an expression is true of its value at a row, one of `g.rows`.
 pub record IsTold (k : LogicalType) (g : Given) (row : Content) (x : Expression) : Type 0 where

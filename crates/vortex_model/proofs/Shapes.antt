@@ -1,6 +1,6 @@
 -- A pattern's shape is told by its signs.
-use Rattle.std.proofs.Common.{◌≡◌, refl, sym, ◌∙◌, ap, ℕ, List, [], ◌∷◌, ◌++◌, map, Option, Some, None}
-use Rattle.vortex_model.specs.Rewrite.{Sign, letter, wildcard, signs_of, Shape, exact_text, beginning, no_shape, onto_shape, shape_of_signs}
+use Rattle.std.proofs.Common.{◌≡◌, refl, ◌∙◌, ap, ℕ, List, [], ◌∷◌, ◌++◌, map, Option, Some, None}
+use Rattle.vortex_model.specs.Rewrite.{Sign, letter, wildcard, Shape, exact_text, beginning, no_shape, onto_shape, shape_of_signs}
 
 abbrev text_in : Shape → List ℕ
 text_in (exact_text t) = t

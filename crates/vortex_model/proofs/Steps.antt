@@ -7,14 +7,13 @@ use Rattle.vortex_model.specs.LogicalType.{LogicalType, stored}
 use Rattle.vortex_model.specs.Content.{Content, Raw, content_of}
 use Rattle.vortex_model.specs.Valid.{IsContent, valid}
 use Rattle.vortex_model.specs.Convert.{converts}
-use Rattle.vortex_model.specs.Kept.{type_fault_so_far}
+use Rattle.vortex_model.specs.Kept.{type_fault}
 use Rattle.vortex_model.specs.Refusal.{Refusal, or_else, invalid_value, not_convertible}
 use Rattle.vortex_model.specs.Table.{Table, IsTable, rows_of}
 use Rattle.vortex_model.specs.Command.{Command, create, append, append_array, join, retype, compact, scan, describe, first_invalid, first_unconvertible, entries_fault, appended, joined_at, refusal, after, step}
 use Rattle.vortex_model.specs.Laws.{IsFormed}
 use Rattle.vortex_model.proofs.Contents.{said}
 use Rattle.vortex_model.proofs.Kept.{kept}
-use Rattle.vortex_model.proofs.Held.{can_hold}
 use Rattle.vortex_model.proofs.Tests.{has_so, converts_so}
 
 none_first : (p q : Option Refusal) → or_else p q ≡ None → p ≡ None
@@ -101,20 +100,20 @@ joined_sum (suc i) (m ∷ sizes) = sum_first m (joined_at i sizes) ∙ ap (λ s.
 
 after_kept : (t : Table) (c : Command) → IsFormed c → refusal t c ≡ None → IsTable t → IsTable (after t c)
 after_kept t (create k default entries) f e h =
-    record { holds = can_hold k (none_first (type_fault_so_far k) (entries_fault 0 k [] entries) e); rows = tt; not_empty = tt; positive = tt; grouped = refl }
+    record { holds = (none_first (type_fault k) (entries_fault 0 k [] entries) e); rows = tt; not_empty = tt; positive = tt; grouped = refl }
 after_kept t (append s values) f e h =
-    let later = none_second (type_fault_so_far s) (or_else (first_invalid 0 s values) (first_unconvertible 0 s t.kind (map content_of values))) e in
+    let later = none_second (type_fault s) (or_else (first_invalid 0 s values) (first_unconvertible 0 s t.kind (map content_of values))) e in
     appended_kept t (map content_of values)
     (rows_so 0 s t.kind (map content_of values)
     (valid_so 0 s values (none_first (first_invalid 0 s values) (first_unconvertible 0 s t.kind (map content_of values)) later))
     (none_second (first_invalid 0 s values) (first_unconvertible 0 s t.kind (map content_of values)) later)) h
 after_kept t (append_array s rows) f e h =
-    appended_kept t rows (rows_so 0 s t.kind rows f (none_second (type_fault_so_far s) (first_unconvertible 0 s t.kind rows) e)) h
+    appended_kept t rows (rows_so 0 s t.kind rows f (none_second (type_fault s) (first_unconvertible 0 s t.kind rows) e)) h
 after_kept t (join i) f e h =
     record { holds = h.holds; rows = h.rows; not_empty = h.not_empty; positive = joined_positive i t.groups h.positive; grouped = joined_sum i t.groups ∙ h.grouped }
 after_kept t (retype k) f e h = record {
-  holds = can_hold k (none_first (type_fault_so_far k) (first_unconvertible 0 t.kind k (rows_of t)) e);
-  rows = unflat k t.chunks (rows_so 0 t.kind k (rows_of t) (flat t.kind t.chunks h.rows) (none_second (type_fault_so_far k) (first_unconvertible 0 t.kind k (rows_of t)) e));
+  holds = (none_first (type_fault k) (first_unconvertible 0 t.kind k (rows_of t)) e);
+  rows = unflat k t.chunks (rows_so 0 t.kind k (rows_of t) (flat t.kind t.chunks h.rows) (none_second (type_fault k) (first_unconvertible 0 t.kind k (rows_of t)) e));
   not_empty = h.not_empty;
   positive = h.positive;
   grouped = h.grouped;

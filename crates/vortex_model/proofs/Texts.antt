@@ -1,11 +1,11 @@
 -- Texts that stand in rows and in literals are UTF-8.
-use Rattle.std.proofs.Common.{◌≡◌, refl, ap, ◌∙◌, List, [], ◌∷◌, ℕ, Bool, true, false, not, ◌||◌, if◌then◌else◌, Option, Some, None, option_map, option_and_then, IsUtf8}
+use Rattle.std.proofs.Common.{◌≡◌, refl, ap, ◌∙◌, [], ◌∷◌, ℕ, Bool, true, false, not, ◌||◌, if◌then◌else◌, Option, Some, None, option_map, option_and_then, IsUtf8}
 use Rattle.std.specs.Prelude.{is_some}
 use Rattle.std.specs.declared.cmp.Ordering.{Ordering}
 use Rattle.vortex_model.specs.LogicalType.{LogicalType, utf8, stored, nullability_of, nullable_inside}
 use Rattle.vortex_model.specs.Content.{Content, null, boolean, text, is_null as is_null_content}
 use Rattle.vortex_model.specs.Valid.{IsContent, Holds}
-use Rattle.vortex_model.specs.Path.{Names, Positions, positions, part_at, position_in, type_at, at, column as column_value}
+use Rattle.vortex_model.specs.Path.{Names, Positions, positions, part_at, position_in, type_at, at}
 use Rattle.vortex_model.specs.Order.{content_cmp}
 use Rattle.vortex_model.specs.Like.{has_backslash, is_like}
 use Rattle.vortex_model.specs.Expression.{Expression, literal, column, compare, both, either, negation, is_null, is_not_null, is_nan, between, like, row_count, statistic, Comparison, HasFormedLiterals}

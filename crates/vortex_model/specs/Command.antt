@@ -6,7 +6,7 @@ use Rattle.vortex_model.specs.Content.{Content, text, Raw, content_of}
 use Rattle.vortex_model.specs.Valid.{valid}
 use Rattle.vortex_model.specs.Convert.{converts}
 use Rattle.vortex_model.specs.Path.{Names, Step, name, element, Positions, positions, position_in, part_at, eq_positions, type_of_column}
-use Rattle.vortex_model.specs.Kept.{type_fault_so_far, is_leaf, is_leaf_at}
+use Rattle.vortex_model.specs.Kept.{type_fault, is_leaf, is_leaf_at}
 use Rattle.vortex_model.specs.Refusal.{Refusal, invalid_value, not_convertible, no_such_group, unknown_path, element_step, placeholder, unknown_column, not_a_leaf, unequal_types, not_boolean, unsupported_like, no_table, unsupported_predicate, repeated_path, or_else}
 use Rattle.vortex_model.specs.Expression.{Expression, literal, column, compare, both, either, negation, is_null, is_not_null, is_nan, between, like, row_count, statistic}
 use Rattle.vortex_model.specs.Like.{has_backslash}
@@ -76,7 +76,7 @@ entries_fault i k earlier (entry ∷ entries) =
 
 -- the type is judged before the bound lengths
 abbrev pub create_fault : LogicalType → List (List Step × ℕ) → Option Refusal
-create_fault k entries = or_else (type_fault_so_far k) (entries_fault 0 k [] entries)
+create_fault k entries = or_else (type_fault k) (entries_fault 0 k [] entries)
 
 -- a table without chunks
 abbrev pub created : LogicalType → ℕ → List (List Step × ℕ) → Table
@@ -105,7 +105,7 @@ first_unconvertible i s t (c ∷ cs) =
 -- all rows are judged for validity before any for conversion
 abbrev pub append_fault : LogicalType → LogicalType → List Raw → Option Refusal
 append_fault t s values =
-    or_else (type_fault_so_far s)
+    or_else (type_fault s)
     (or_else (first_invalid 0 s values) (first_unconvertible 0 s t (map content_of values)))
 
 -- the rows are one new chunk in a group of its own, and no rows are none
@@ -116,7 +116,7 @@ appended t (row ∷ rows) =
 
 -- rows are counted over the whole table
 abbrev pub retype_fault : Table → LogicalType → Option Refusal
-retype_fault t k = or_else (type_fault_so_far k) (first_unconvertible 0 t.kind k (rows_of t))
+retype_fault t k = or_else (type_fault k) (first_unconvertible 0 t.kind k (rows_of t))
 
 -- ---- join
 
@@ -219,7 +219,7 @@ abbrev pub refusal : Table → Command → Option Refusal
 refusal t (create k default entries) = create_fault k entries
 refusal t (append s values) = append_fault t.kind s values
 refusal t (append_array s rows) =
-    or_else (type_fault_so_far s) (first_unconvertible 0 s t.kind rows)
+    or_else (type_fault s) (first_unconvertible 0 s t.kind rows)
 refusal t (join i) = join_fault t i
 refusal t (retype k) = retype_fault t k
 refusal t compact = None

@@ -48,22 +48,6 @@ is_leaf (utf8 n) = true
 is_leaf (binary n) = true
 is_leaf k = false
 
--- The same faults, where tables hold leaves and records so far, and no lists.
-abbrev mutual
-  pub part_fault_so_far : LogicalType → Option Refusal
-  part_fault_so_far (struct fs n) =
-      if names_distinct fs then fields_fault_so_far fs else Some repeated_name
-  part_fault_so_far k = if is_leaf k then None else Some unkept_type
-
-  pub fields_fault_so_far : Fields → Option Refusal
-  fields_fault_so_far no_fields = None
-  fields_fault_so_far (field x k fs) = or_else (part_fault_so_far k) (fields_fault_so_far fs)
-
--- why a table can't hold the type so far
-abbrev pub type_fault_so_far : LogicalType → Option Refusal
-type_fault_so_far (struct fs non_nullable) = part_fault_so_far (struct fs non_nullable)
-type_fault_so_far k = Some not_a_record
-
 -- these positions lead, through records alone, to a leaf
 abbrev pub is_leaf_at : LogicalType → Positions → Bool
 is_leaf_at k is = elim (type_at k is) [ None ↦ false | Some leaf ↦ is_leaf leaf ]

@@ -1,13 +1,12 @@
 -- Laws over the definitions.
-use Rattle.std.specs.Prelude.{◌≡◌, ◌↔◌, ℕ, List, [], ◌∷◌, ◌++◌, map, length, Bool, true, false, Some, None, IfSome}
+use Rattle.std.specs.Prelude.{◌≡◌, ◌↔◌, ℕ, List, [], ◌∷◌, ◌++◌, map, length, Bool, true, false, Some, IfSome}
 use Rattle.std.specs.List.{AllByRecursion, range_with_len}
 use Rattle.vortex_model.specs.LogicalType.{LogicalType, boolean_type, non_nullable, eq_type, equal_ignoring_nullability, EqualIgnoringNullability}
-use Rattle.vortex_model.specs.Content.{Content, boolean, integer, text, byte_string, is_null, Raw, content_of}
+use Rattle.vortex_model.specs.Content.{Content, boolean, integer, text, byte_string, Raw, content_of}
 use Rattle.vortex_model.specs.Valid.{IsContent, IsValid, valid, AreBytes}
 use Rattle.vortex_model.specs.Convert.{Converts, converts}
 use Rattle.vortex_model.specs.Path.{Names, column as column_value}
 use Rattle.vortex_model.specs.Order.{IsAtMost}
-use Rattle.vortex_model.specs.Kept.{type_fault, type_fault_so_far}
 use Rattle.vortex_model.specs.Bounds.{IsLow, IsHigh, low, high}
 use Rattle.vortex_model.specs.Expression.{Expression, literal, reads_columns}
 use Rattle.vortex_model.specs.Truth.{Satisfies}
@@ -111,10 +110,6 @@ TestsOfConversionAreRight =
 abbrev pub TestsOfEqualityAreRight : Type 0
 TestsOfEqualityAreRight = (k l : LogicalType) → ((eq_type k l ≡ true) ↔ (k ≡ l)) ×
     ((equal_ignoring_nullability k l ≡ true) ↔ EqualIgnoringNullability k l)
-
--- what is kept so far is what a table of the whole product can hold
-abbrev pub KeptTypesCanBeHeld : Type 0
-KeptTypesCanBeHeld = (k : LogicalType) → type_fault_so_far k ≡ None → type_fault k ≡ None
 
 -- the built-in proofs read placeholders alone, and no column
 abbrev pub BuiltInProofsReadNoColumns : Type 0

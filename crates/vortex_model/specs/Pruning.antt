@@ -1,12 +1,12 @@
 -- Laws of skipping: what a true proof says of the rows.
-use Rattle.std.specs.Prelude.{◌≡◌, ℕ, List, [], ◌++◌, length, map, filter, flat_map, Some, None, Bool, true, false, ◌&&◌}
+use Rattle.std.specs.Prelude.{◌≡◌, ℕ, List, [], ◌++◌, length, map, filter, flat_map, Some, None, Bool, true}
 use Rattle.std.specs.List.{AllByRecursion}
 use Rattle.vortex_model.specs.LogicalType.{LogicalType}
 use Rattle.vortex_model.specs.Content.{Content}
 use Rattle.vortex_model.specs.Valid.{IsContent}
 use Rattle.vortex_model.specs.Path.{Names}
 use Rattle.vortex_model.specs.Kept.{is_leaf}
-use Rattle.vortex_model.specs.Expression.{Expression, both, either, like, HasFormedLiterals}
+use Rattle.vortex_model.specs.Expression.{Expression, HasFormedLiterals}
 use Rattle.vortex_model.specs.Truth.{selects, HasTruth}
 use Rattle.vortex_model.specs.Cut.{cut_row}
 use Rattle.vortex_model.specs.Table.{Table, rows_of, answer}
@@ -17,13 +17,6 @@ use Rattle.vortex_model.specs.Sound.{IsSoundFalsifier, IsSoundSatisfier}
 use Rattle.vortex_model.specs.Scan.{Outcome, skipped_in_group, skipped, whole, tested, chunk_outcome, chunk_zone, proves}
 use Rattle.vortex_model.specs.Class.{Hopeless, box_of, is_wide}
 use Rattle.vortex_model.specs.Command.{predicate_fault, appended}
-
--- no condition of the predicate is a LIKE
-abbrev pub has_no_like : Expression → Bool
-has_no_like (both x y) = has_no_like x && has_no_like y
-has_no_like (either x y) = has_no_like x && has_no_like y
-has_no_like (like x form negated ignores_case) = false
-has_no_like e = true
 
 -- what a scan takes of a chunk with this outcome: nothing, all, or what passes the test
 abbrev pub found_in : (Content → Bool) → Outcome → List Content → List Content

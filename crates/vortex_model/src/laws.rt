@@ -19,7 +19,6 @@ ghost use Rattle.vortex_model.specs.Laws.{
   TestsOfValidityAreRight,
   TestsOfConversionAreRight,
   TestsOfEqualityAreRight,
-  KeptTypesCanBeHeld,
   BuiltInProofsReadNoColumns,
   ShapesAreSpelled,
   StepsKeepTables,
@@ -135,11 +134,6 @@ pub fn tests_of_conversion_are_right()
 /// Exactly equal types pass the test for equality.
 pub fn tests_of_equality_are_right()
     ensures { TestsOfEqualityAreRight }
-{}
-
-/// What is kept so far is what a table of the whole product can hold.
-pub fn kept_types_can_be_held()
-    ensures { KeptTypesCanBeHeld }
 {}
 
 /// The built-in proofs read placeholders alone, and no column.

@@ -3,7 +3,7 @@ use Rattle.std.proofs.Common.{◌≡◌, refl, ◌∙◌, ap, ℕ, suc, List, []
 use Rattle.vortex_model.specs.LogicalType.{LogicalType}
 use Rattle.vortex_model.specs.Content.{Content}
 use Rattle.vortex_model.specs.Convert.{converts}
-use Rattle.vortex_model.specs.Kept.{type_fault_so_far}
+use Rattle.vortex_model.specs.Kept.{type_fault}
 use Rattle.vortex_model.specs.Refusal.{Refusal, not_convertible, or_else}
 use Rattle.vortex_model.specs.Table.{Table, rows_of}
 use Rattle.vortex_model.specs.Command.{retype, refusal, after, first_unconvertible}
@@ -35,7 +35,7 @@ module _ (compose : ConversionsCompose) (tests : TestsOfConversionAreRight) wher
       (refusal t (retype l) ≡ None) × (after t (retype l) ≡ after (after t (retype k)) (retype l))
   at_once t k l h g =
       let rows = rows_of t in (
-        no_fault (type_fault_so_far l) (first_unconvertible 0 t.kind l rows) (first_none (type_fault_so_far l) (first_unconvertible 0 k l rows) g)
-            (all_at_once 0 0 0 t.kind k l rows (second_none (type_fault_so_far k) (first_unconvertible 0 t.kind k rows) h) (second_none (type_fault_so_far l) (first_unconvertible 0 k l rows) g)),
+        no_fault (type_fault l) (first_unconvertible 0 t.kind l rows) (first_none (type_fault l) (first_unconvertible 0 k l rows) g)
+            (all_at_once 0 0 0 t.kind k l rows (second_none (type_fault k) (first_unconvertible 0 t.kind k rows) h) (second_none (type_fault l) (first_unconvertible 0 k l rows) g)),
         refl,
       )

@@ -14,8 +14,8 @@ use Rattle.vortex_model.proofs.LeafOrder.{least_in_front, greatest_in_front}
 use Rattle.vortex_stats_array.specs.declared.running.Running.{Running}
 use Rattle.vortex_stats_array.specs.declared.array_stats.ArrayStats.{ArrayStats}
 use Rattle.vortex_stats_array.specs.Sums.{sum_in_parts, known_sum}
-use Rattle.vortex_stats_array.specs.Zones.{bound_said, zone_in, low_at, high_by, high_at}
-use Rattle.vortex_stats_array.specs.Running.{said_or_null, lesser, greater, in_front, DoCompare, IsSeen, constant_by}
+use Rattle.vortex_stats_array.specs.Zones.{bound_content, zone_in, low_at, high_by, high_at}
+use Rattle.vortex_stats_array.specs.Running.{content_or_null, lesser, greater, in_front, DoCompare, IsSeen, constant_by}
 use Rattle.vortex_stats_array.proofs.Constancy.{constancy}
 
 least_step : (c : Content) (o : Option Content) → Some (in_front lesser c o) ≡ Some (elim o [ None ↦ c | Some d ↦ (if is_at_most c d then c else d) ])
@@ -48,10 +48,10 @@ module _ {V : Type 0} (said : V → Content) (old new : Running V) where
       option_map said new.least ≡ Some (in_front lesser (said v) (option_map said old.least)) →
       option_map said new.greatest ≡ Some (in_front greater (said v) (option_map said old.greatest)) →
       new.null_count ≡ old.null_count → z ≡ number_in (said v) → sum_in_parts new.sum ≡ z +ℤ sum_in_parts old.sum →
-      (cs : List Content) → IsSeen said old cs → IsSeen said new (said_or_null said o ∷ cs)
+      (cs : List Content) → IsSeen said old cs → IsSeen said new (content_or_null said o ∷ cs)
   with_value o v z is there least greatest nulls number sum cs h =
       let c = said v in
-      subst (λ p. IsSeen said new (said_or_null said p ∷ cs)) (sym is) (record {
+      subst (λ p. IsSeen said new (content_or_null said p ∷ cs)) (sym is) (record {
         least = λ compare.
             least ∙ ap (λ l. Some (in_front lesser c l)) (h.least (rest_compare c cs there compare)) ∙ least_step c (least_value (non_null cs))
             ∙ sym (least_in_front c (non_null cs) (front_compares c cs there compare)) ∙ ap least_value (kept_in_front c cs there);
@@ -65,12 +65,12 @@ module _ {V : Type 0} (said : V → Content) (old new : Running V) where
   -- null in front is counted, and changes nothing else
   pub with_null : (o : Option V) → o ≡ None → option_map said new.least ≡ option_map said old.least →
       option_map said new.greatest ≡ option_map said old.greatest → new.null_count ≡ old.null_count + 1 →
-      sum_in_parts new.sum ≡ sum_in_parts old.sum → (cs : List Content) → IsSeen said old cs → IsSeen said new (said_or_null said o ∷ cs)
+      sum_in_parts new.sum ≡ sum_in_parts old.sum → (cs : List Content) → IsSeen said old cs → IsSeen said new (content_or_null said o ∷ cs)
   with_null o is least greatest nulls sum cs h =
       let counts = h.nulls in
       let split : null_count_of (null ∷ cs) ≡ (0 + 1) + null_count_of cs = sum_by-append (λ x. if is_null x then 1 else 0) (null ∷ []) cs in
       let added : sum_of cs ≡ pos 0 +ℤ sum_of cs = omega (arith, ints) in
-      subst (λ p. IsSeen said new (said_or_null said p ∷ cs)) (sym is) (record {
+      subst (λ p. IsSeen said new (content_or_null said p ∷ cs)) (sym is) (record {
         least = λ compare. least ∙ h.least compare;
         greatest = λ compare. greatest ∙ h.greatest compare;
         nulls = omega (arith, nulls, counts, split);
@@ -101,13 +101,13 @@ high_step L None = refl
 high_step L (Some v) = high_by_step L v (high L v)
 
 pub zone_seen : {V : Type 0} (said : V → Content) (L : ℕ) (k : LogicalType) (r : Running V) (s : ArrayStats) (i : Option IntKind) (cs : List Content) →
-    bound_said s.min ≡ low_at L (option_map said r.least) → bound_said s.max ≡ high_at L (option_map said r.greatest) →
+    bound_content s.min ≡ low_at L (option_map said r.least) → bound_content s.max ≡ high_at L (option_map said r.greatest) →
     s.null_count ≡ r.null_count → s.row_count ≡ length cs → known_sum s.sum ≡ sum_in i (sum_in_parts r.sum) → i ≡ sum_kind k →
     s.is_constant ≡ constant_by (option_map said r.least) (option_map said r.greatest) r.null_count →
     IsSeen said r cs → DoCompare cs → zone_in s ≡ zone_of k L cs
 zone_seen said L k r s i cs lowest highest nulls rows total kind constant h compare =
-    let least : bound_said s.min ≡ low_of_values L cs = lowest ∙ ap (low_at L) (h.least compare) ∙ low_step L (least_value (non_null cs)) in
-    let greatest : bound_said s.max ≡ high_of_values L cs = highest ∙ ap (high_at L) (h.greatest compare) ∙ high_step L (greatest_value (non_null cs)) in
+    let least : bound_content s.min ≡ low_of_values L cs = lowest ∙ ap (low_at L) (h.least compare) ∙ low_step L (least_value (non_null cs)) in
+    let greatest : bound_content s.max ≡ high_of_values L cs = highest ∙ ap (high_at L) (h.greatest compare) ∙ high_step L (greatest_value (non_null cs)) in
     let sum : known_sum s.sum ≡ sum_in (sum_kind k) (sum_of cs) = total ∙ (λ j. sum_in (kind j) (h.total j)) in
     let same : s.is_constant ≡ is_constant cs = constant ∙ (λ j. constant_by (h.least compare j) (h.greatest compare j) (h.nulls j)) ∙ sym (constancy cs compare) in
     (λ j. record {

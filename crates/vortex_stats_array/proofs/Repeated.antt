@@ -9,7 +9,7 @@ use Rattle.vortex_model.specs.Content.{Content, null, is_null}
 use Rattle.vortex_model.specs.Statistics.{is_at_most, least_value, greatest_value, non_null, null_count_of, number_in, sum_of}
 use Rattle.vortex_stats_array.specs.declared.running.Running.{Running}
 use Rattle.vortex_stats_array.specs.Sums.{sum_in_parts, repeated_sum}
-use Rattle.vortex_stats_array.specs.Running.{said_or_null, lesser, greater, DoCompare, IsSeen}
+use Rattle.vortex_stats_array.specs.Running.{content_or_null, lesser, greater, DoCompare, IsSeen}
 use Rattle.vortex_stats_array.proofs.InFront.{kept_in_front, front_compares, rest_compare, no_null_in_front}
 
 -- ---- sums
@@ -98,18 +98,18 @@ module _ {V : Type 0} (said : V → Content) (new : Running V) where
     total = sum ∙ ap (repeated_sum (suc n)) number ∙ sum_all (said v) (suc n) 0;
   }
 
-  pub value_repeated : (o : Option V) (v : V) (z : ℤ) (c : Content) (n : ℕ) → o ≡ Some v → said_or_null said o ≡ c → is_null (said v) ≡ false →
+  pub value_repeated : (o : Option V) (v : V) (z : ℤ) (c : Content) (n : ℕ) → o ≡ Some v → content_or_null said o ≡ c → is_null (said v) ≡ false →
       new.least ≡ Some v → new.greatest ≡ Some v → new.null_count ≡ 0 → z ≡ number_in (said v) → sum_in_parts new.sum ≡ repeated_sum n z → 0 < n →
       IsSeen said new (repeated c 0 n)
   value_repeated o v z c zero is read there least greatest nulls number sum some = absurd (omega (arith, some))
   value_repeated o v z c (suc n) is read there least greatest nulls number sum some =
-      subst (λ d. IsSeen said new (repeated d 0 (suc n))) (sym (ap (said_or_null said) is) ∙ read)
+      subst (λ d. IsSeen said new (repeated d 0 (suc n))) (sym (ap (content_or_null said) is) ∙ read)
       (of_value v z n there least greatest nulls number sum)
 
-  pub null_repeated : (o : Option V) (c : Content) (n : ℕ) → o ≡ None → said_or_null said o ≡ c → new.least ≡ None → new.greatest ≡ None →
+  pub null_repeated : (o : Option V) (c : Content) (n : ℕ) → o ≡ None → content_or_null said o ≡ c → new.least ≡ None → new.greatest ≡ None →
       new.null_count ≡ n → sum_in_parts new.sum ≡ pos 0 → IsSeen said new (repeated c 0 n)
   null_repeated o c n is read least greatest nulls sum =
-      subst (λ d. IsSeen said new (repeated d 0 n)) (sym (ap (said_or_null said) is) ∙ read) (record {
+      subst (λ d. IsSeen said new (repeated d 0 n)) (sym (ap (content_or_null said) is) ∙ read) (record {
         least = λ compare. ap (option_map said) least ∙ ap least_value (none_there n 0);
         greatest = λ compare. ap (option_map said) greatest ∙ ap greatest_value (none_there n 0);
         nulls = nulls ∙ all_null n 0;

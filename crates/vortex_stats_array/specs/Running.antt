@@ -7,15 +7,15 @@ use Rattle.vortex_stats_array.specs.Sums.{sum_in_parts, FitsSum}
 use Rattle.vortex_stats_array.specs.declared.running.Running.{Running}
 
 -- what was read, and null where nothing was
-abbrev pub said_or_null : {V : Type 0} → (V → Content) → Option V → Content
-said_or_null said None = null
-said_or_null said (Some v) = said v
+abbrev pub content_or_null : {V : Type 0} → (V → Content) → Option V → Content
+content_or_null said None = null
+content_or_null said (Some v) = said v
 
 -- what is read at each of the first n rows, as `reads` says, is the content of the row
 abbrev pub ReadsRows : {V : Type 0} → (V → Content) → ℕ → (ℕ → Option V → Type 0) →
     (ℕ → Content) → Type 0
 ReadsRows {V} said n reads content =
-    (i : ℕ) (v : Option V) → i < n → reads i v → said_or_null said v ≡ content i
+    (i : ℕ) (v : Option V) → i < n → reads i v → content_or_null said v ≡ content i
 
 -- the lesser and the greater of two values that compare
 abbrev pub lesser : Content → Content → Content

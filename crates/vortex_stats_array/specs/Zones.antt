@@ -6,20 +6,20 @@ use Rattle.vortex_model.specs.Statistics.{Precision, exact, absent}
 use Rattle.vortex_model.specs.ZoneMap.{ZoneMap, bound_of}
 use Rattle.vortex_scalar_value.specs.declared.scalar_value.ScalarValue.{ScalarValue}
 use Rattle.vortex_stats_bound.specs.Precision.{precision_of, precision_map}
-use Rattle.vortex_stats_bound.specs.ValueOrder.{said_by}
+use Rattle.vortex_stats_bound.specs.ValueOrder.{value_content}
 use Rattle.vortex_stats_bound.specs.declared.precision.Precision as known
 use Rattle.vortex_stats_array.specs.Sums.{known_sum}
 use Rattle.vortex_stats_array.specs.declared.array_stats.ArrayStats.{ArrayStats}
 
 -- what a bound says, as precise
-abbrev pub bound_said : known.Precision ScalarValue → Precision Content
-bound_said p = precision_map said_by (precision_of p)
+abbrev pub bound_content : known.Precision ScalarValue → Precision Content
+bound_content p = precision_map value_content (precision_of p)
 
 -- the zone map that the statistics are
 abbrev pub zone_in : ArrayStats → ZoneMap
 zone_in s = record {
-  low = bound_said s.min;
-  high = bound_said s.max;
+  low = bound_content s.min;
+  high = bound_content s.max;
   nulls = s.null_count;
   rows = s.row_count;
   total = known_sum s.sum;

@@ -5,8 +5,8 @@ ghost use Rattle.vortex_model.specs.Bounds.{low, high, is_longer};
 ghost use Rattle.vortex_model.specs.Content.{Content, boolean, integer, text, byte_string, is_null};
 ghost use Rattle.vortex_model.specs.Statistics.{is_at_most, number_in};
 ghost use Rattle.vortex_model.specs.ZoneMap.{bound_of};
-ghost use Rattle.vortex_stats_bound.specs.ValueOrder.{said_by};
-ghost use Rattle.vortex_stats_array.specs.Zones.{bound_said, high_by};
+ghost use Rattle.vortex_stats_bound.specs.ValueOrder.{value_content};
+ghost use Rattle.vortex_stats_array.specs.Zones.{bound_content, high_by};
 
 use crate::shortened::{bytes_above, bytes_below, text_above, text_below};
 use std::alloc::{AllocError, Global};
@@ -34,12 +34,12 @@ pub(crate) trait LeafValue: Copy + Drop {
 
     // A copy that is not above it. A text and bytes have at most `max_length` bytes.
     fn below(self, alloc: Global, max_length: usize) -> Result<Precision<ScalarValue>, AllocError>
-        ensures { IfOk result (λ below. bound_said below
+        ensures { IfOk result (λ below. bound_content below
             ≡ bound_of (is_longer max_length (said self)) (low max_length (said self))) };
 
     // A copy that is not below it, where such a text or such bytes have at most `max_length` bytes.
     fn above(self, alloc: Global, max_length: usize) -> Result<Precision<ScalarValue>, AllocError>
-        ensures { IfOk result (λ above. bound_said above
+        ensures { IfOk result (λ above. bound_content above
             ≡ high_by max_length (said self) (high max_length (said self))) };
 }
 
@@ -112,7 +112,7 @@ impl<T: NativePType> LeafValue for Number<T> {
 
 #[tactic(auto, using(vortex_scalar_value::proofs::Views::one_level))]
 fn number_value<T: NativePType>(number: T) -> ScalarValue
-    ensures { said_by result ≡ integer (T.integer number) }
+    ensures { value_content result ≡ integer (T.integer number) }
 {
     match PValue::of(T::ptype(), number.get()) {
         Some(value) => ScalarValue::Primitive(value),

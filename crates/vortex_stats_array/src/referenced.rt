@@ -4,7 +4,7 @@ ghost use Rattle.vortex_model.specs.Content.{boolean, integer, text, byte_string
 ghost use Rattle.vortex_arrays_model.specs.Layout.{len_of, array_type_of, content_at, rows_of};
 ghost use Rattle.vortex_scalar_core.specs.Scalar.{scalar_type, scalar_content};
 ghost use Rattle.vortex_stats_array.specs.Arrays.{IsBooleanType, IsIntegerOf, IsTextType, IsBinaryType, IsStringType, string_or_null};
-ghost use Rattle.vortex_stats_array.specs.Running.{said_or_null, IsSeen};
+ghost use Rattle.vortex_stats_array.specs.Running.{content_or_null, IsSeen};
 
 use crate::leaf_value::{ByteString, Number, Text};
 use crate::running::{Running, seen_rows};
@@ -18,7 +18,7 @@ use vortex_scalar_value::scalar_value::ScalarValue;
 fn number_at<T: NativePType>(array: &ArrayRef, i: usize) -> Option<Number<T>>
     requires within { i < len_of array.now }
     requires kind { IsIntegerOf T.kind (array_type_of array.now) }
-    ensures { said_or_null (λ v. integer (T.integer v.0)) result ≡ content_at array.now i }
+    ensures { content_or_null (λ v. integer (T.integer v.0)) result ≡ content_at array.now i }
 {
     let _rows = array.len();
     match T::of(array.integer(i)?) {
@@ -40,7 +40,7 @@ pub(crate) fn referenced_numbers<T: NativePType>(array: &ArrayRef) -> Running<Nu
 fn bool_at(array: &ArrayRef, i: usize) -> Option<bool>
     requires within { i < len_of array.now }
     requires kind { IsBooleanType (array_type_of array.now) }
-    ensures { said_or_null boolean result ≡ content_at array.now i }
+    ensures { content_or_null boolean result ≡ content_at array.now i }
 {
     let _rows = array.len();
     if array.is_valid(i) {
@@ -108,7 +108,7 @@ fn bytes_in(scalar: &Scalar) -> Option<&[u8]>
 fn text_at<'a>(array: &'a ArrayRef, i: usize) -> Option<Text<'a>>
     requires within { i < len_of array.now }
     requires kind { IsTextType (array_type_of array.now) }
-    ensures { said_or_null (λ v. text v.bytes.now) result ≡ content_at array.now i }
+    ensures { content_or_null (λ v. text v.bytes.now) result ≡ content_at array.now i }
 {
     let _rows = array.len();
     Some(Text::new(bytes_at(array, i)?))
@@ -125,7 +125,7 @@ pub(crate) fn referenced_texts(array: &ArrayRef) -> Running<Text>
 fn byte_string_at<'a>(array: &'a ArrayRef, i: usize) -> Option<ByteString<'a>>
     requires within { i < len_of array.now }
     requires kind { IsBinaryType (array_type_of array.now) }
-    ensures { said_or_null (λ v. byte_string v.0.now) result ≡ content_at array.now i }
+    ensures { content_or_null (λ v. byte_string v.0.now) result ≡ content_at array.now i }
 {
     Some(ByteString(bytes_at(array, i)?))
 }

@@ -3,7 +3,7 @@ ghost use Rattle.std.specs.Prelude.{◌≡◌, ◌<◌, length, map};
 ghost use Rattle.vortex_model.specs.Content.{boolean, integer, text, byte_string};
 ghost use Rattle.vortex_arrays_model.specs.Layout.{bools, numbers, strings, texts, byte_strings, content_at, rows_of, IsSound};
 ghost use Rattle.vortex_arrays_core.specs.LayoutOf.{valid_of};
-ghost use Rattle.vortex_stats_array.specs.Running.{said_or_null, IsSeen};
+ghost use Rattle.vortex_stats_array.specs.Running.{content_or_null, IsSeen};
 
 use crate::leaf_value::{ByteString, Number, Text};
 use crate::running::{Running, seen};
@@ -16,7 +16,7 @@ use vortex_dtype_native::native::NativePType;
 fn number_at<T: NativePType>(items: &[T], validity: &Validity, i: usize) -> Option<Number<T>>
     requires within { i < length items.now }
     requires sound { IsSound (numbers T.kind (map T.integer items.now) (valid_of validity.now)) }
-    ensures { said_or_null (λ v. integer (T.integer v.0)) result
+    ensures { content_or_null (λ v. integer (T.integer v.0)) result
         ≡ content_at (numbers T.kind (map T.integer items.now) (valid_of validity.now)) i }
 {
     if validity.is_valid(i, items.len()) {
@@ -38,7 +38,7 @@ pub(crate) fn seen_numbers<T: NativePType>(items: &[T], validity: &Validity) -> 
 fn bool_at(bits: &BitBuffer, validity: &Validity, i: usize) -> Option<bool>
     requires within { i < length bits.now }
     requires sound { IsSound (bools bits.now (valid_of validity.now)) }
-    ensures { said_or_null boolean result ≡ content_at (bools bits.now (valid_of validity.now)) i }
+    ensures { content_or_null boolean result ≡ content_at (bools bits.now (valid_of validity.now)) i }
 {
     if validity.is_valid(i, bits.len()) {
         Some(bits.value(i))
@@ -63,7 +63,7 @@ fn text_at<'a>(
 ) -> Option<Text<'a>>
     requires within { i < length views.now }
     requires sound { IsSound (strings texts views.now buffers.now (valid_of validity.now)) }
-    ensures { said_or_null (λ v. text v.bytes.now) result
+    ensures { content_or_null (λ v. text v.bytes.now) result
         ≡ content_at (strings texts views.now buffers.now (valid_of validity.now)) i }
 {
     if validity.is_valid(i, views.len()) {
@@ -94,7 +94,7 @@ fn bytes_at<'a>(
 ) -> Option<ByteString<'a>>
     requires within { i < length views.now }
     requires sound { IsSound (strings byte_strings views.now buffers.now (valid_of validity.now)) }
-    ensures { said_or_null (λ v. byte_string v.0.now) result
+    ensures { content_or_null (λ v. byte_string v.0.now) result
         ≡ content_at (strings byte_strings views.now buffers.now (valid_of validity.now)) i }
 {
     if validity.is_valid(i, views.len()) {

@@ -6,9 +6,9 @@ ghost use Rattle.vortex_model.specs.Typing.{sum_kind};
 ghost use Rattle.vortex_model.specs.ZoneMap.{zone_of};
 ghost use Rattle.vortex_dtype_core.specs.View.{type_of};
 ghost use Rattle.vortex_arrays_model.specs.Layout.{len_of, content_at, rows_of};
-ghost use Rattle.vortex_stats_array.specs.Running.{said_or_null, ReadsRows, lesser, greater, in_front, DoCompare, IsSeen, FitsRows, constant_by};
+ghost use Rattle.vortex_stats_array.specs.Running.{content_or_null, ReadsRows, lesser, greater, in_front, DoCompare, IsSeen, FitsRows, constant_by};
 ghost use Rattle.vortex_stats_array.specs.Sums.{int_kind_of};
-ghost use Rattle.vortex_stats_array.specs.Zones.{bound_said, zone_in, low_at, high_at};
+ghost use Rattle.vortex_stats_array.specs.Zones.{bound_content, zone_in, low_at, high_at};
 
 use crate::array_stats::ArrayStats;
 use crate::leaf_value::LeafValue;
@@ -77,7 +77,7 @@ impl<V: LeafValue> Running<V> {
         requires above { self.sum.above ≤ 2 ^ 128 - 1 - 2 ^ 64 }
         requires below { self.sum.below ≤ 2 ^ 128 - 1 - 2 ^ 64 }
         ensures seen { (rows : List Content) → IsSeen V.said self rows
-            → IsSeen V.said result (said_or_null V.said value ∷ rows) }
+            → IsSeen V.said result (content_or_null V.said value ∷ rows) }
         ensures fits { (n : ℕ) → FitsRows self n → FitsRows result (n + 1) }
     {
         match value {
@@ -167,7 +167,7 @@ impl<V: LeafValue> Running<V> {
     }
 
     fn min(&self, alloc: Global, max_length: usize) -> Result<Precision<ScalarValue>, AllocError>
-        ensures { IfOk result (λ min. bound_said min
+        ensures { IfOk result (λ min. bound_content min
             ≡ low_at max_length (option_map V.said self.now.least)) }
     {
         match self.least {
@@ -177,7 +177,7 @@ impl<V: LeafValue> Running<V> {
     }
 
     fn max(&self, alloc: Global, max_length: usize) -> Result<Precision<ScalarValue>, AllocError>
-        ensures { IfOk result (λ max. bound_said max
+        ensures { IfOk result (λ max. bound_content max
             ≡ high_at max_length (option_map V.said self.now.greatest)) }
     {
         match self.greatest {

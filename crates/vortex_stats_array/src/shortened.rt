@@ -4,8 +4,8 @@ ghost use Rattle.vortex_model.specs.Content.{text, byte_string};
 ghost use Rattle.vortex_model.specs.Bounds.{low, high, is_longer};
 ghost use Rattle.vortex_model.specs.Valid.{AreBytes};
 ghost use Rattle.vortex_model.specs.ZoneMap.{bound_of};
-ghost use Rattle.vortex_stats_bound.specs.ValueOrder.{said_by};
-ghost use Rattle.vortex_stats_array.specs.Zones.{bound_said, high_by};
+ghost use Rattle.vortex_stats_bound.specs.ValueOrder.{value_content};
+ghost use Rattle.vortex_stats_array.specs.Zones.{bound_content, high_by};
 
 use bytes::Bytes;
 use std::alloc::{AllocError, Global};
@@ -22,7 +22,7 @@ fn are_bytes(bytes: &[u8])
 
 // Exact where it wasn't shortened.
 fn bound(value: ScalarValue, shortened: bool) -> Precision<ScalarValue>
-    ensures { bound_said result ≡ bound_of shortened (said_by value) }
+    ensures { bound_content result ≡ bound_of shortened (value_content value) }
 {
     if shortened {
         Precision::Inexact(value)
@@ -46,7 +46,7 @@ pub(crate) fn text_below(
     max_length: usize,
 ) -> Result<Precision<ScalarValue>, AllocError>
     requires { IsUtf8 value.now }
-    ensures { IfOk result (λ below. bound_said below
+    ensures { IfOk result (λ below. bound_content below
         ≡ bound_of (is_longer max_length (text value.now)) (low max_length (text value.now))) }
 {
     let copy = text_copy(alloc, value)?;
@@ -61,7 +61,7 @@ pub(crate) fn text_above(
     max_length: usize,
 ) -> Result<Precision<ScalarValue>, AllocError>
     requires { IsUtf8 value.now }
-    ensures { IfOk result (λ above. bound_said above
+    ensures { IfOk result (λ above. bound_content above
         ≡ high_by max_length (text value.now) (high max_length (text value.now))) }
 {
     let copy = text_copy(alloc, value)?;
@@ -77,7 +77,7 @@ pub(crate) fn bytes_below(
     value: &[u8],
     max_length: usize,
 ) -> Result<Precision<ScalarValue>, AllocError>
-    ensures { IfOk result (λ below. bound_said below
+    ensures { IfOk result (λ below. bound_content below
         ≡ bound_of (is_longer max_length (byte_string value.now))
         (low max_length (byte_string value.now))) }
 {
@@ -93,7 +93,7 @@ pub(crate) fn bytes_above(
     value: &[u8],
     max_length: usize,
 ) -> Result<Precision<ScalarValue>, AllocError>
-    ensures { IfOk result (λ above. bound_said above
+    ensures { IfOk result (λ above. bound_content above
         ≡ high_by max_length (byte_string value.now) (high max_length (byte_string value.now))) }
 {
     are_bytes(value);

@@ -12,17 +12,17 @@ use Rattle.vortex_stats_bound.specs.Order.{Comparison, IsLawful}
 use Rattle.vortex_stats_bound.specs.ScalarOrder.{tie_is, tie_decides}
 
 -- what the value says
-abbrev pub said_by : ScalarValue → Content
-said_by v = content_of (raw_of v)
+abbrev pub value_content : ScalarValue → Content
+value_content v = content_of (raw_of v)
 
 abbrev pub value_order : Comparison ScalarValue
-value_order v w = content_cmp (said_by v) (said_by w)
+value_order v w = content_cmp (value_content v) (value_content w)
 
 pub value_order_lawful : IsLawful value_order
 value_order_lawful = record {
-  antisymm = λ v w. reversed (said_by w) (said_by v);
-  trans = λ u v w h g. (chains (said_by u) (said_by v) (said_by w)).0 h g;
+  antisymm = λ v w. reversed (value_content w) (value_content v);
+  trans = λ u v w h g. (chains (value_content u) (value_content v) (value_content w)).0 h g;
   matches_eq = λ v w. tie_decides (value_order v w);
-  congr = λ u v w h. ap (λ c. content_cmp c (said_by w))
-      (tied (said_by u) (said_by v) (tie_is (value_order u v) h));
+  congr = λ u v w h. ap (λ c. content_cmp c (value_content w))
+      (tied (value_content u) (value_content v) (tie_is (value_order u v) h));
 }
