@@ -74,7 +74,7 @@ leaf_within non_nullable k = refl
 leaf_within nullable (extension id meta k) = refl
 leaf_within nullable k = refl
 
--- ---- the parts of what tables hold so far
+-- ---- the parts of what tables hold
 
 kept_within : (n : Nullability) (k : LogicalType) → part_fault (nullable_inside n k) ≡ part_fault k
 kept_within non_nullable k = refl

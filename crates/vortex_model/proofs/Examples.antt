@@ -63,7 +63,7 @@ lit32 n = literal (number non_nullable) (integer (pos n))
 abbrev pub made : List Command → Option Table
 made cs = steps None cs
 
--- The same, were none of them refused: tables of lists are not kept so far.
+-- The same, were none of them refused.
 abbrev pub filled_from : Option Table → List Command → Option Table
 filled_from t [] = t
 filled_from t (c ∷ cs) = filled_from (after_in t c) cs

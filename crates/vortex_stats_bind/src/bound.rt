@@ -29,11 +29,14 @@ use vortex_stats_stat::aggregate::AggregateFn;
 #[cycle(bound)]
 #[derive(Drop)]
 pub struct BoundExpression {
-    pub(crate) node: BoundNode,
+    /// The form, with the parts that it is made of.
+    pub node: BoundNode,
 }
 
+/// The forms of bound expressions. A column is told by positions, each the index of a field in the
+/// record before it.
 #[cycle(bound)]
-pub(crate) enum BoundNode {
+pub enum BoundNode {
     Literal(Option<ScalarValue>),
     Column(Vec<usize>),
     Compare(Comparison, Box<BoundExpression>, Box<BoundExpression>),

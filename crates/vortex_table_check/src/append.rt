@@ -5,7 +5,7 @@ ghost use Rattle.std.specs.List.{list_all};
 ghost use Rattle.vortex_model.specs.Content.{content_of};
 ghost use Rattle.vortex_model.specs.Valid.{valid};
 ghost use Rattle.vortex_model.specs.Convert.{converts};
-ghost use Rattle.vortex_model.specs.Kept.{type_fault_so_far};
+ghost use Rattle.vortex_model.specs.Kept.{type_fault};
 ghost use Rattle.vortex_model.specs.Refusal.{invalid_value, not_convertible, or_else};
 ghost use Rattle.vortex_model.specs.Command.{unless, first_invalid, first_unconvertible};
 ghost use Rattle.vortex_dtype_core.specs.View.{type_of};
@@ -43,11 +43,11 @@ pub fn check_batch(
     dtype: &DType,
     values: &[Option<ScalarValue>],
 ) -> Result<(), TableError>
-    ensures kept { OnOk result (type_fault_so_far (type_of dtype.now) ≡ None) }
+    ensures kept { OnOk result (type_fault (type_of dtype.now) ≡ None) }
     ensures valid { OnOk result (first_invalid 0 (type_of dtype.now) (map raw_in values.now)
         ≡ None) }
     ensures refused { IfErr result (λ e. Explains ⊥
-        (or_else (type_fault_so_far (type_of dtype.now))
+        (or_else (type_fault (type_of dtype.now))
         (first_invalid 0 (type_of dtype.now) (map raw_in values.now))) e) }
 {
     check_type(alloc, dtype)?;
@@ -66,7 +66,7 @@ pub fn convert_row(
     index: usize,
     value: Option<&ScalarValue>,
 ) -> Result<ScalarValue, TableError>
-    requires kept { type_fault_so_far (type_of target.now) ≡ None }
+    requires kept { type_fault (type_of target.now) ≡ None }
     requires valid { valid (type_of source.now) (raw_at value) ≡ true }
     ensures converts { OnOk result
         (converts (type_of source.now) (type_of target.now) (content_at value.entry) ≡ true) }
@@ -94,7 +94,7 @@ fn push_converted(
     value: Option<&ScalarValue>,
     rows: &mut Vec<ScalarValue>,
 ) -> Result<(), TableError>
-    requires kept { type_fault_so_far (type_of target.now) ≡ None }
+    requires kept { type_fault (type_of target.now) ≡ None }
     requires valid { valid (type_of source.now) (raw_at value) ≡ true }
     ensures converts { OnOk result
         (converts (type_of source.now) (type_of target.now) (content_at value.entry) ≡ true) }
@@ -133,7 +133,7 @@ pub fn convert_rows(
     target: &DType,
     mut values: CowSlice<'_, Option<ScalarValue>>,
 ) -> Result<Vec<ScalarValue>, TableError>
-    requires kept { type_fault_so_far (type_of target.now) ≡ None }
+    requires kept { type_fault (type_of target.now) ≡ None }
     requires valid { first_invalid 0 (type_of source.now) (map raw_in (cow_slice_items values))
         ≡ None }
     ensures converts { OnOk result (first_unconvertible 0 (type_of source.now) (type_of target.now)

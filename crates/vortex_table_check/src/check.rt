@@ -1,6 +1,6 @@
 //! Tests of types and paths before a command does anything.
 ghost use Rattle.std.specs.Prelude.{◌≡◌, Some, None, OnOk, IfErr, map, option_map};
-ghost use Rattle.vortex_model.specs.Kept.{type_fault_so_far};
+ghost use Rattle.vortex_model.specs.Kept.{type_fault};
 ghost use Rattle.vortex_model.specs.Command.{part_named, path_fault, paths_fault};
 ghost use Rattle.vortex_dtype_core.specs.View.{type_of};
 ghost use Rattle.vortex_dtype_path.specs.View.{steps_of};
@@ -28,8 +28,8 @@ fn type_error(fault: TypeFault) -> TableError
 
 /// Tests whether a table can hold the type: `NotARecord`, `RepeatedName`, `UnkeptType`.
 pub fn check_type(alloc: Global, dtype: &DType) -> Result<(), TableError>
-    ensures ok { OnOk result (type_fault_so_far (type_of dtype.now) ≡ None) }
-    ensures refused { IfErr result (λ e. Explains ⊥ (type_fault_so_far (type_of dtype.now)) e) }
+    ensures ok { OnOk result (type_fault (type_of dtype.now) ≡ None) }
+    ensures refused { IfErr result (λ e. Explains ⊥ (type_fault (type_of dtype.now)) e) }
 {
     match type_fault(alloc, dtype)? {
         Some(fault) => Err(type_error(fault)),

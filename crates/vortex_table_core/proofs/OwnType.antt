@@ -4,7 +4,7 @@ use Rattle.std.specs.List.{list_all}
 use Rattle.vortex_model.specs.LogicalType.{LogicalType, boolean_type, integer_type, utf8, binary, struct, Fields, no_fields, field, non_nullable, eq_int_kind}
 use Rattle.vortex_model.specs.Content.{Raw, raw_null, raw_boolean, raw_number, raw_text, raw_byte_string, raw_tuple, Raws, no_raws, raw_first, content_of, contents_of}
 use Rattle.vortex_model.specs.Convert.{converts, fields_convert}
-use Rattle.vortex_model.specs.Kept.{names_distinct, part_fault_so_far, fields_fault_so_far, type_fault_so_far}
+use Rattle.vortex_model.specs.Kept.{names_distinct, part_fault, fields_fault, type_fault}
 use Rattle.vortex_model.specs.Path.{Positions}
 use Rattle.vortex_model.specs.Refusal.{Refusal, repeated_name, not_convertible, or_else}
 use Rattle.vortex_model.specs.Valid.{valid, fields_have, in_range}
@@ -25,7 +25,7 @@ no_field_fault true o f = f
 no_field_fault false o f = absurd (cc (f))
 
 mutual
-  part_converts : (k : LogicalType) (r : Raw) → part_fault_so_far k ≡ None → valid k r ≡ true → converts k k (content_of r) ≡ true
+  part_converts : (k : LogicalType) (r : Raw) → part_fault k ≡ None → valid k r ≡ true → converts k k (content_of r) ≡ true
   part_converts (boolean_type n) raw_null f e = e
   part_converts (boolean_type n) (raw_boolean b) f e = refl
   part_converts (boolean_type n) r f e = absurd (cc (e))
@@ -39,22 +39,22 @@ mutual
   part_converts (binary n) (raw_byte_string bs) f e = refl
   part_converts (binary n) r f e = absurd (cc (e))
   part_converts (struct fs n) raw_null f e = e
-  part_converts (struct fs n) (raw_tuple rs) f e = parts_convert fs rs (no_field_fault (names_distinct fs) (fields_fault_so_far fs) f) e
+  part_converts (struct fs n) (raw_tuple rs) f e = parts_convert fs rs (no_field_fault (names_distinct fs) (fields_fault fs) f) e
   part_converts (struct fs n) r f e = absurd (cc (e))
   part_converts k r f e = absurd (cc (f))
 
-  parts_convert : (fs : Fields) (rs : Raws) → fields_fault_so_far fs ≡ None → fields_have fs rs ≡ true → fields_convert fs fs (contents_of rs) ≡ true
+  parts_convert : (fs : Fields) (rs : Raws) → fields_fault fs ≡ None → fields_have fs rs ≡ true → fields_convert fs fs (contents_of rs) ≡ true
   parts_convert no_fields no_raws f e = refl
   parts_convert (field x k fs) (raw_first r rs) f e = λ i.
-      part_converts k r (first_none (part_fault_so_far k) (fields_fault_so_far fs) f) (true_left (valid k r) (fields_have fs rs) e) i
-      && parts_convert fs rs (second_none (part_fault_so_far k) (fields_fault_so_far fs) f) (true_right (valid k r) (fields_have fs rs) e) i
+      part_converts k r (first_none (part_fault k) (fields_fault fs) f) (true_left (valid k r) (fields_have fs rs) e) i
+      && parts_convert fs rs (second_none (part_fault k) (fields_fault fs) f) (true_right (valid k r) (fields_have fs rs) e) i
   parts_convert fs rs f e = absurd (cc (e))
 
-kept_part : (k : LogicalType) → type_fault_so_far k ≡ None → part_fault_so_far k ≡ None
+kept_part : (k : LogicalType) → type_fault k ≡ None → part_fault k ≡ None
 kept_part (struct fs non_nullable) f = f
 kept_part k f = absurd (cc (f))
 
-rows_convert : (n : ℕ) (k : LogicalType) (rows : List ScalarValue) → type_fault_so_far k ≡ None → list_all (λ row. valid k (raw_of row)) rows ≡ true → first_unconvertible n k k (map row_content rows) ≡ None
+rows_convert : (n : ℕ) (k : LogicalType) (rows : List ScalarValue) → type_fault k ≡ None → list_all (λ row. valid k (raw_of row)) rows ≡ true → first_unconvertible n k k (map row_content rows) ≡ None
 rows_convert n k [] f h = refl
 rows_convert n k (row ∷ rows) f h =
     let behind = list_all (λ (r : ScalarValue). valid k (raw_of r)) rows in
@@ -62,7 +62,7 @@ rows_convert n k (row ∷ rows) f h =
     ∙ rows_convert (suc n) k rows f (true_right (valid k (raw_of row)) behind h)
 
 -- so none of the rows of formed chunks is refused
-pub chunks_convert : (n : ℕ) (L : Positions → ℕ) (k : LogicalType) (chunks : List Chunk) → type_fault_so_far k ≡ None → list_all (is_formed L k) chunks ≡ true → first_unconvertible n k k (all_rows chunks) ≡ None
+pub chunks_convert : (n : ℕ) (L : Positions → ℕ) (k : LogicalType) (chunks : List Chunk) → type_fault k ≡ None → list_all (is_formed L k) chunks ≡ true → first_unconvertible n k k (all_rows chunks) ≡ None
 chunks_convert n L k [] f h = refl
 chunks_convert n L k (c ∷ chunks) f h =
     unconvertible_on n k k (chunk_rows c) (all_rows chunks)

@@ -69,7 +69,7 @@ fn regroup(
 impl Table {
     ghost use Rattle.std.specs.Prelude.{◌≡◌, None, map, IfOk, OnOk, IfErr, OnErr, IsTrue};
     ghost use Rattle.std.specs.List.{list_all};
-    ghost use Rattle.vortex_model.specs.Kept.{type_fault_so_far};
+    ghost use Rattle.vortex_model.specs.Kept.{type_fault};
     ghost use Rattle.vortex_model.specs.Table.{rows_of};
     ghost use Rattle.vortex_model.specs.Command.{retype, refusal, after, first_unconvertible};
     ghost use Rattle.vortex_dtype_core.specs.View.{type_of};
@@ -112,7 +112,7 @@ impl Table {
         leaves: &Rc<Vec<LeafPath>>,
         lengths: &Rc<Vec<usize>>,
     ) -> Result<(Vec<Chunk>, Vec<Group>), TableError>
-        requires kept { type_fault_so_far (type_of dtype.now) ≡ None }
+        requires kept { type_fault (type_of dtype.now) ≡ None }
         requires leaves { leaves.now.value.items ≡ leaf_positions (type_of dtype.now) }
         requires lengths { lengths.now.value.items
             ≡ map (length_in self.now.bound_lengths) (leaf_positions (type_of dtype.now)) }

@@ -1,7 +1,7 @@
 //! Tables, and the commands that make and fill them.
 ghost use Rattle.std.specs.Prelude.{◌≡◌, IsTrue, is_none};
 ghost use Rattle.std.specs.List.{list_all};
-ghost use Rattle.vortex_model.specs.Kept.{type_fault_so_far};
+ghost use Rattle.vortex_model.specs.Kept.{type_fault};
 ghost use Rattle.vortex_dtype_core.specs.View.{type_of};
 ghost use Rattle.vortex_table_chunk.specs.Chunk.{row_count};
 ghost use Rattle.vortex_table_schema.specs.Leaves.{leaf_positions};
@@ -36,7 +36,7 @@ pub struct Table {
     pub(crate) len: usize,
     pub(crate) chunks: Vec<Chunk>,
     pub(crate) groups: Vec<Group>,
-    pub ghost kept: { IsTrue (is_none (type_fault_so_far (type_of dtype))) },
+    pub ghost kept: { IsTrue (is_none (type_fault (type_of dtype))) },
     pub ghost led: { IsTrue (eq_leaves leaves.value.items (leaf_positions (type_of dtype))) },
     pub ghost measured: { IsTrue (are_lengths_of (length_in bound_lengths) (type_of dtype)
         lengths.value.items) },

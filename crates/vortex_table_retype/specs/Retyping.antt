@@ -2,7 +2,7 @@
 use Rattle.std.specs.Prelude.{◌≡◌, ℕ, map, None}
 use Rattle.vortex_model.specs.LogicalType.{LogicalType}
 use Rattle.vortex_model.specs.Path.{Positions}
-use Rattle.vortex_model.specs.Kept.{type_fault_so_far}
+use Rattle.vortex_model.specs.Kept.{type_fault}
 use Rattle.vortex_dtype_core.specs.View.{type_of}
 use Rattle.vortex_table_schema.specs.Leaves.{leaf_positions}
 use Rattle.vortex_table_check.specs.Lengths.{length_in}
@@ -20,6 +20,6 @@ lengths_of r = length_in r.bound_lengths.now
 
 -- a table can hold the target, and the leaves and their bound lengths are the target's
 pub record IsRetyping (r : Retyping) : Type 0 where
-  pub kept : type_fault_so_far (target_of r) ≡ None
+  pub kept : type_fault (target_of r) ≡ None
   pub leaves : r.leaves.now.value.items ≡ leaf_positions (target_of r)
   pub lengths : r.lengths.now.value.items ≡ map (lengths_of r) (leaf_positions (target_of r))

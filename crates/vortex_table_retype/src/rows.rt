@@ -2,7 +2,7 @@
 ghost use Rattle.std.specs.Prelude.{◌≡◌, ◌<◌, ◌+◌, ◌^◌, true, None, length, map, IfOk, OnOk, IfErr, IsTrue};
 ghost use Rattle.std.specs.List.{list_all};
 ghost use Rattle.vortex_model.specs.Valid.{valid};
-ghost use Rattle.vortex_model.specs.Kept.{type_fault_so_far};
+ghost use Rattle.vortex_model.specs.Kept.{type_fault};
 ghost use Rattle.vortex_model.specs.Command.{first_unconvertible};
 ghost use Rattle.vortex_dtype_core.specs.View.{type_of};
 ghost use Rattle.vortex_scalar_value.specs.View.{raw_of};
@@ -24,7 +24,7 @@ pub fn convert_rows(
     first: usize,
     rows: &[ScalarValue],
 ) -> Result<Vec<ScalarValue>, TableError>
-    requires kept { type_fault_so_far (type_of target.now) ≡ None }
+    requires kept { type_fault (type_of target.now) ≡ None }
     requires valid { IsTrue (list_all (λ row. valid (type_of source.now) (raw_of row)) rows.now) }
     requires fits { first + length rows.now < 2 ^ 64 }
     ensures converts { OnOk result (first_unconvertible first (type_of source.now)

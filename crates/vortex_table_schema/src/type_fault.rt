@@ -1,7 +1,7 @@
 //! Types that a table can hold, and the fault of one that it can't.
 ghost use Rattle.std.specs.Prelude.{◌≡◌, not, IfOk, option_map};
 ghost use Rattle.vortex_model.specs.LogicalType.{struct, non_nullable};
-ghost use Rattle.vortex_model.specs.Kept.{type_fault_so_far, part_fault_so_far, fields_fault_so_far, names_distinct};
+ghost use Rattle.vortex_model.specs.Kept.{type_fault, part_fault, fields_fault, names_distinct};
 ghost use Rattle.vortex_dtype_core.specs.View.{type_of, fields_of};
 ghost use Rattle.vortex_dtype_ptype.specs.View.{number_kind_of};
 ghost use Rattle.vortex_table_schema.specs.Fault.{refusal_of_fault, fault_of_numbers};
@@ -18,8 +18,8 @@ use vortex_dtype_ptype::ptype::PType;
 pub enum TypeFault {
     /// The type is no record, or a nullable one.
     NotARecord,
-    /// A part has a type that tables don't hold so far: anything but truth values, integers, texts,
-    /// bytes and records.
+    /// A part has a type that tables don't hold: anything but truth values, integers, texts, bytes,
+    /// lists and records.
     UnkeptType,
     /// Two fields of a record have one name.
     RepeatedName,
@@ -31,7 +31,7 @@ pub enum TypeFault {
 #[tactic(auto, using(crate::proofs::KeptParts::roots))]
 pub fn type_fault(alloc: Global, dtype: &DType) -> Result<Option<TypeFault>, AllocError>
     ensures { IfOk result (λ fault. option_map refusal_of_fault fault
-        ≡ type_fault_so_far (type_of dtype.now)) }
+        ≡ type_fault (type_of dtype.now)) }
 {
     match dtype {
         DType::Struct(fields, Nullability::NonNullable) => {
@@ -64,7 +64,7 @@ fn number_fault(ptype: PType) -> Option<TypeFault>
 #[tactic(auto, using(crate::proofs::KeptParts::parts))]
 fn part_fault(alloc: Global, dtype: &DType) -> Result<Option<TypeFault>, AllocError>
     ensures { IfOk result (λ fault. option_map refusal_of_fault fault
-        ≡ part_fault_so_far (type_of dtype.now)) }
+        ≡ part_fault (type_of dtype.now)) }
 {
     match dtype {
         DType::Struct(fields, _) => {
@@ -75,9 +75,15 @@ fn part_fault(alloc: Global, dtype: &DType) -> Result<Option<TypeFault>, AllocEr
         DType::Bool(_) | DType::Binary(_) => Ok(None),
         DType::Utf8(_) => Ok(None),
         DType::Null | DType::Decimal(_, _) | DType::Variant(_) => Ok(Some(TypeFault::UnkeptType)),
-        DType::List(_, _) | DType::FixedSizeList(_, _, _) | DType::Map(_, _) => {
-            Ok(Some(TypeFault::UnkeptType))
+        DType::List(element, _) => {
+            let fault = part_fault(alloc, element)?;
+            Ok(fault)
         }
+        DType::FixedSizeList(element, _, _) => {
+            let fault = part_fault(alloc, element)?;
+            Ok(fault)
+        }
+        DType::Map(_, _) => Ok(Some(TypeFault::UnkeptType)),
         DType::Union(_, _) | DType::Extension(_) => Ok(Some(TypeFault::UnkeptType)),
     }
 }
@@ -87,7 +93,7 @@ fn part_fault(alloc: Global, dtype: &DType) -> Result<Option<TypeFault>, AllocEr
 #[tactic(auto, using(crate::proofs::KeptParts::parts))]
 fn record_fault(alloc: Global, fields: &[StructField]) -> Result<Option<TypeFault>, AllocError>
     ensures { IfOk result (λ fault. option_map refusal_of_fault fault
-        ≡ part_fault_so_far (struct (fields_of fields.now) non_nullable)) }
+        ≡ part_fault (struct (fields_of fields.now) non_nullable)) }
 {
     if has_repeated_name(alloc, fields)? {
         return Ok(Some(TypeFault::RepeatedName));
@@ -100,7 +106,7 @@ fn record_fault(alloc: Global, fields: &[StructField]) -> Result<Option<TypeFaul
 #[tactic(auto, using(crate::proofs::KeptParts::parts))]
 fn fields_fault(alloc: Global, fields: &[StructField]) -> Result<Option<TypeFault>, AllocError>
     ensures { IfOk result (λ fault. option_map refusal_of_fault fault
-        ≡ fields_fault_so_far (fields_of fields.now)) }
+        ≡ fields_fault (fields_of fields.now)) }
 {
     for field in fields {
         let fault = part_fault(alloc, &field.dtype)?;

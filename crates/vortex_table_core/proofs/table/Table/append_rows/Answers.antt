@@ -4,7 +4,7 @@ use Rattle.std.proofs.Common.{◌≡◌, None, rules, subst, ◌+◌, ◌^◌, �
 use Rattle.std.specs.Cow.{cow_slice_items}
 use Rattle.vortex_model.specs.Content.{content_of}
 use Rattle.vortex_model.specs.Refusal.{or_else}
-use Rattle.vortex_model.specs.Kept.{type_fault_so_far}
+use Rattle.vortex_model.specs.Kept.{type_fault}
 use Rattle.vortex_model.specs.Table.{rows_of}
 use Rattle.vortex_model.specs.Command.{append, refusal, first_invalid, first_unconvertible}
 use Rattle.vortex_dtype_core.specs.View.{type_of}
@@ -16,7 +16,7 @@ use Rattle.vortex_table_core.specs.contracts.table.Table.{the_row}
 use Rattle.vortex_table_core.proofs.table.Table.append_rows.Goals as goal
 
 pub convert_rows-requires-clause-kept : goal.convert_rows-requires-clause-kept
-convert_rows-requires-clause-kept c = none_so (type_fault_so_far (type_of c.args.self.now.dtype)) c.args.self.now.kept
+convert_rows-requires-clause-kept c = none_so (type_fault (type_of c.args.self.now.dtype)) c.args.self.now.kept
 
 pub convert_rows-requires-clause-valid : goal.convert_rows-requires-clause-valid
 convert_rows-requires-clause-valid c =
@@ -29,10 +29,10 @@ returns-in_err-check_batch c =
     let values = cow_slice_items c.args.values in
     let vs = map raw_in values in
     let e = c.in_err-check_batch.field-0.0 in
-    let why : Explains ⊥ (or_else (type_fault_so_far s) (first_invalid 0 s vs)) e
-    = subst (λ us. Explains ⊥ (or_else (type_fault_so_far s) (first_invalid 0 s (map raw_in us))) e) c.as_slice.ensures.value c.in_err-check_batch.ensures.refused in
+    let why : Explains ⊥ (or_else (type_fault s) (first_invalid 0 s vs)) e
+    = subst (λ us. Explains ⊥ (or_else (type_fault s) (first_invalid 0 s (map raw_in us))) e) c.as_slice.ensures.value c.in_err-check_batch.ensures.refused in
     let refused : Explains (2 ^ 64 ≤ length (rows_of t) + length values) (refusal t (append s vs)) e
-    = explained_two (2 ^ 64 ≤ length (rows_of t) + length values) (type_fault_so_far s) (first_invalid 0 s vs)
+    = explained_two (2 ^ 64 ≤ length (rows_of t) + length values) (type_fault s) (first_invalid 0 s vs)
     (first_unconvertible 0 s t.kind (map content_of vs)) e why in
     let gives = c.from_residual.ensures.1 in
     record {

@@ -1,5 +1,5 @@
 use Rattle.std.proofs.Common.{◌≡◌, ap, sym, subst, ◌∙◌, map, None, is_none}
-use Rattle.vortex_model.specs.Kept.{type_fault_so_far}
+use Rattle.vortex_model.specs.Kept.{type_fault}
 use Rattle.vortex_model.specs.Table.{rows_of}
 use Rattle.vortex_model.specs.Command.{first_unconvertible}
 use Rattle.vortex_dtype_core.specs.View.{type_of}
@@ -17,8 +17,8 @@ pub returns-then-eq-clause-accepted : goal.returns-then-eq-clause-accepted
 returns-then-eq-clause-accepted c =
     let t = c.args.self.now in let s = type_of t.dtype in let k = type_of c.args.dtype in let rows = rows_of (table_of t) in
     let same : k ≡ s = c.eq.ensures.equal.0 c.if-eq.true in
-    none_both (type_fault_so_far k) (first_unconvertible 0 s k rows) c.in_ok-check_type.ensures.ok
-    (subst (λ x. first_unconvertible 0 s x rows ≡ None) (sym same) (chunks_convert 0 (length_in t.bound_lengths) s t.chunks.items (none_so (type_fault_so_far s) t.kept) t.formed))
+    none_both (type_fault k) (first_unconvertible 0 s k rows) c.in_ok-check_type.ensures.ok
+    (subst (λ x. first_unconvertible 0 s x rows ≡ None) (sym same) (chunks_convert 0 (length_in t.bound_lengths) s t.chunks.items (none_so (type_fault s) t.kept) t.formed))
 
 pub invariant_of-self : goal.invariant_of-self
 invariant_of-self c =
