@@ -78,17 +78,22 @@ abbrev pub SaysIn : Option Table → Command → Answer → Type 0
 SaysIn (Some t) c a = Says t c a
 SaysIn None c a = a ≡ accepted
 
+-- Which totals a command would pass: rows that can't be counted, and what the layouts that hold the
+-- rows have no room for.
+abbrev pub Totals : Type 1
+Totals = Option Table → Command → Type 0
+
 -- With the rows of the command, the table would have 2^64 rows or more.
-abbrev pub PassesTotal : Option Table → Command → Type 0
-PassesTotal (Some t) (append k values) = 2 ^ 64 ≤ length (rows_of t) + length values
-PassesTotal (Some t) (append_array k rows) = 2 ^ 64 ≤ length (rows_of t) + length rows
-PassesTotal old c = ⊥
+abbrev pub RowsPass : Totals
+RowsPass (Some t) (append k values) = 2 ^ 64 ≤ length (rows_of t) + length values
+RowsPass (Some t) (append_array k rows) = 2 ^ 64 ≤ length (rows_of t) + length rows
+RowsPass old c = ⊥
 
 -- A command is refused by the first reason, is accepted, or is answered by want of memory. A total
 -- goes behind all other reasons. Only where the command is accepted the table changes.
-abbrev pub RespondsTo : Option Table → Command → Answer → Option Table → Type 0
-RespondsTo old c out_of_memory new = new ≡ old
-RespondsTo old c (refused total_passed) new =
-    (refusal_in old c ≡ None) × PassesTotal old c × (new ≡ old)
-RespondsTo old c (refused r) new = (refusal_in old c ≡ Some r) × (new ≡ old)
-RespondsTo old c a new = (refusal_in old c ≡ None) × SaysIn old c a × (new ≡ after_in old c)
+abbrev pub RespondsTo : Totals → Option Table → Command → Answer → Option Table → Type 0
+RespondsTo passes old c out_of_memory new = new ≡ old
+RespondsTo passes old c (refused total_passed) new =
+    (refusal_in old c ≡ None) × passes old c × (new ≡ old)
+RespondsTo passes old c (refused r) new = (refusal_in old c ≡ Some r) × (new ≡ old)
+RespondsTo passes old c a new = (refusal_in old c ≡ None) × SaysIn old c a × (new ≡ after_in old c)

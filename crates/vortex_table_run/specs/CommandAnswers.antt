@@ -3,7 +3,7 @@ use Rattle.std.specs.Prelude.{◌≡◌, ℕ, List, [], Option, Some, None, code
 use Rattle.vortex_model.specs.Table.{Table}
 use Rattle.vortex_model.specs.Command.{Command}
 use Rattle.vortex_model.specs.Refusal.{total_passed}
-use Rattle.vortex_model.specs.Reply.{Answer, accepted, out_of_memory, refused, RespondsTo}
+use Rattle.vortex_model.specs.Reply.{Answer, accepted, out_of_memory, refused, RowsPass, RespondsTo}
 use Rattle.vortex_table_check.specs.Error.{refusal_of}
 use Rattle.vortex_table_check.specs.declared.error.TableError.{TableError}
 use Rattle.vortex_table_check.specs.declared.error.TableError.TheVariants as error
@@ -22,7 +22,7 @@ IsWrittenAs a NoMemory out = a ≡ out_of_memory
 
 -- an answer to the command was said
 abbrev pub Responds : Option Table → Command → Response → List ℕ → Option Table → Type 0
-Responds old c response out new = (a : Answer) × RespondsTo old c a new × IsWrittenAs a response out
+Responds old c response out new = (a : Answer) × RespondsTo RowsPass old c a new × IsWrittenAs a response out
 
 -- the answer that an error is
 abbrev pub error_answer : TableError → Answer
