@@ -134,7 +134,9 @@ def are_texts(values):
 
 
 def read_type(value):
-    """A type as its kind, the fields of a record, and whether null is a value."""
+    """A type as its kind, what it is made of, and whether null is a value. A record is made of
+    pairs of a name and a type, a list of the type of its elements, one of fixed size of the size
+    too."""
     need(isinstance(value, dict) and isinstance(value.get("kind"), str))
     kind = value["kind"]
     keys(value, ["kind", *OWN.get(kind, [])], ["nullable", "children", *FREE.get(kind, [])])
@@ -166,7 +168,31 @@ def read_type(value):
     if kind == "extension":
         metadata = value.get("metadata", "")
         need(isinstance(value["id"], str) and are_digits(metadata) and nullable == children[0][2])
+    if kind == "list":
+        return (kind, children[0], nullable)
+    if kind == "fixed_size_list":
+        return (kind, (children[0], value["size"]), nullable)
     return (kind, None, nullable)
+
+
+def fields_of(dtype):
+    return dtype[1] if dtype[0] == "struct" else []
+
+
+def element_of(dtype):
+    """The type of a list's elements, if it is one."""
+    if dtype[0] == "fixed_size_list":
+        return dtype[1][0]
+    return dtype[1] if dtype[0] == "list" else None
+
+
+def has_length(dtype, count):
+    """Whether a list of the type may have so many elements."""
+    return dtype[0] == "list" or dtype[1][1] == count
+
+
+def is_leaf(dtype):
+    return dtype[0] in RANGES or dtype[0] in PLAIN
 
 
 def is_number(value):
@@ -186,12 +212,15 @@ class Unreadable(Exception):
 
 def reading(value, dtype):
     """What a JSON value says at the type: null, a truth value, a number, a text as str, bytes as
-    bytes, or a list."""
+    bytes, or a list, of a record or of elements."""
     kind, fields, _ = dtype
     if value is None:
         return None
     if kind == "struct" and isinstance(value, list) and len(value) == len(fields):
         return [reading(v, f[1]) for v, f in zip(value, fields)]
+    element = element_of(dtype)
+    if element and isinstance(value, list) and has_length(dtype, len(value)):
+        return [reading(item, element) for item in value]
     if kind == "bool" and isinstance(value, bool) or kind == "utf8" and isinstance(value, str):
         return value
     if kind == "binary" and are_digits(value):
@@ -220,9 +249,34 @@ def is_content(content, dtype):
             and len(content) == len(fields)
             and all(is_content(c, f[1]) for c, f in zip(content, fields))
         )
+    element = element_of(dtype)
+    if element:
+        return (
+            isinstance(content, list)
+            and has_length(dtype, len(content))
+            and all(is_content(item, element) for item in content)
+        )
     if kind in PLAIN:
         return isinstance(content, {"bool": bool, "utf8": str, "binary": bytes}[kind])
     return kind in RANGES and is_between(content, *RANGES[kind])
+
+
+def converts(content, source, target):
+    """Whether a value of the one type is one of the other, which keeps its content: records go to
+    records by position, lists of both kinds to each other by their elements."""
+    element, other = element_of(source), element_of(target)
+    if content is None:
+        return target[2]
+    if element and other:
+        return has_length(target, len(content)) and all(
+            converts(item, element, other) for item in content
+        )
+    if source[0] == target[0] == "struct":
+        return len(source[1]) == len(target[1]) and all(
+            converts(part, field[1], other[1])
+            for part, field, other in zip(content, source[1], target[1])
+        )
+    return is_leaf(source) and is_leaf(target) and is_content(content, target)
 
 
 def read_path(value):
@@ -303,6 +357,9 @@ def read_command(line):
     if value.get("cmd") == "retype":
         keys(value, ["cmd", "dtype"])
         return ("retype", read_type(value["dtype"]))
+    if value.get("cmd") == "compact":
+        keys(value, ["cmd"])
+        return ("compact",)
     if value.get("cmd") == "append":
         keys(value, ["cmd", "dtype", "rows"], ["layouts"])
         layouts = value.get("layouts", [])
@@ -337,14 +394,15 @@ def chunks_in(group):
 
 def check_part(dtype):
     """A record's names go before its parts, and these from left to right."""
-    kind, fields, _ = dtype
-    if kind != "struct" and kind not in RANGES and kind not in PLAIN:
+    fields = fields_of(dtype)
+    if element_of(dtype):
+        return check_part(element_of(dtype))
+    if dtype[0] != "struct" and not is_leaf(dtype):
         raise Refused(3)
-    if kind == "struct":
-        if len({name for name, _ in fields}) != len(fields):
-            raise Refused(4)
-        for _, part in fields:
-            check_part(part)
+    if len({name for name, _ in fields}) != len(fields):
+        raise Refused(4)
+    for _, part in fields:
+        check_part(part)
 
 
 def check_type(dtype):
@@ -369,7 +427,7 @@ def create(dtype, length, lengths):
     for at, (path, length) in enumerate(lengths):
         check_path(dtype, path, at)
         places, part = positions(dtype, path)
-        if part[0] == "struct":
+        if not is_leaf(part):
             raise Refused(13)
         if places in table["lengths"]:
             raise Refused(21, at)
@@ -383,7 +441,7 @@ def append(table, dtype, rows):
         if not is_content(row, dtype):
             raise Refused(5, i)
     for i, row in enumerate(rows):
-        if not is_content(row, table["dtype"]):
+        if not converts(row, dtype, table["dtype"]):
             raise Refused(6, i)
     if rows:
         table["groups"].append(rows)
@@ -394,7 +452,7 @@ def retype(table, dtype):
     check_type(dtype)
     rows = [row for group in table["groups"] for chunk in chunks_in(group) for row in chunk]
     for i, row in enumerate(rows):
-        if not is_content(row, dtype):
+        if not converts(row, table["dtype"], dtype):
             raise Refused(6, i)
     if dtype != table["dtype"]:
         table["groups"] = [
@@ -408,7 +466,7 @@ def check_path(dtype, path, at):
     for step in path:
         if step is None:
             raise Refused(10, at)
-        parts = [part for name, part in dtype[1] or [] if name == step]
+        parts = [part for name, part in fields_of(dtype) if name == step]
         if not parts:
             raise Refused(9, at)
         dtype = parts[0]
@@ -422,11 +480,11 @@ def part_at(dtype, path):
 
 def column_type(dtype, path):
     for name in path:
-        parts = [part for other, part in dtype[1] or [] if other == name]
+        parts = [part for other, part in fields_of(dtype) if other == name]
         if not parts:
             raise Refused(12)
         dtype = parts[0]
-    if dtype[0] == "struct":
+    if not is_leaf(dtype):
         raise Refused(13)
     return dtype[0]
 
@@ -436,7 +494,7 @@ def predicate_type(dtype, predicate):
     left to right."""
     name = predicate[0]
     if name == "lit":
-        if predicate[1][0] not in RANGES and predicate[1][0] not in PLAIN:
+        if not is_leaf(predicate[1]):
             raise Refused(20)
         return predicate[1][0]
     if name == "col":
@@ -843,7 +901,7 @@ def join(table, at):
 
 def describe(table, path, at):
     check_path(table["dtype"], path, 0)
-    if part_at(table["dtype"], path)[0] == "struct":
+    if not is_leaf(part_at(table["dtype"], path)):
         raise Refused(13)
     if at >= len(table["groups"]):
         raise Refused(8)
@@ -856,6 +914,13 @@ def describe(table, path, at):
 
 def type_json(dtype):
     kind, fields, nullable = dtype
+    if element_of(dtype):
+        return {
+            "children": [type_json(element_of(dtype))],
+            "kind": kind,
+            "nullable": nullable,
+            **({"size": fields[1]} if kind == "fixed_size_list" else {}),
+        }
     if kind != "struct":
         return {"kind": kind, "nullable": nullable}
     return {
@@ -898,6 +963,9 @@ class Session:
             if command[0] == "retype":
                 retype(self.table, *command[1:])
                 return compact({"ok": True})
+            if command[0] == "compact":
+                # Lists move within a chunk, whose rows are as they were.
+                return compact({"ok": True})
             if command[0] == "describe":
                 return compact(describe(self.table, *command[1:]))
             return compact(scan(self.table, *command[1:]))
@@ -925,18 +993,30 @@ def random_kind(chance):
     }
 
 
+def random_list(chance, element):
+    """Lists of the elements, of one size or of any."""
+    dtype = {"kind": "list", "children": [element], "nullable": chance.random() < 0.4}
+    if chance.random() < 0.4:
+        dtype = {**dtype, "kind": "fixed_size_list", "size": chance.choice([0, 1, 2, 2, 3])}
+    return dtype
+
+
+def random_part(chance, depth):
+    """A type for a field or for elements: a leaf, or where it may go deeper a record or lists."""
+    roll = chance.random() if depth else 1
+    if roll < 0.35:
+        return random_record(chance, chance.choice([0, 1, 1, 2, 2, 3]), depth - 1)
+    if roll < 0.6:
+        return random_list(chance, random_part(chance, depth - 1))
+    return random_kind(chance)
+
+
 def random_record(chance, width, depth):
     names = chance.sample(["a", "b", "c", "\u00e9", 'd"e'], width)
     if width > 1 and chance.random() < 0.02:
         names[1] = names[0]
-    inner = lambda: random_kind(chance)
-    if depth:
-        inner = (
-            lambda: random_record(chance, chance.choice([0, 1, 1, 2, 2, 3]), depth - 1)
-            if chance.random() < 0.4
-            else random_kind(chance)
-        )
-    dtype = {"kind": "struct", "names": names, "children": [inner() for _ in names]}
+    children = [random_part(chance, depth) for _ in names]
+    dtype = {"kind": "struct", "names": names, "children": children}
     if chance.random() < 0.5:
         dtype["nullable"] = True
     return dtype
@@ -957,9 +1037,9 @@ def other_kind(chance):
                 "precision": chance.randint(0, 77),
                 "scale": chance.choice([-76, 0, 76, 77]),
             },
-            {"kind": "list", "children": [child]},
+            {"kind": "list", "children": [{"kind": "variant"}]},
             {"kind": "list"},
-            {"kind": "fixed_size_list", "size": 2, "children": [child]},
+            {"kind": "fixed_size_list", "children": [child]},
             {"kind": "map", "sorted": False, "children": [child, child]},
             {
                 "kind": "union",
@@ -981,7 +1061,7 @@ def other_kind(chance):
 
 
 def random_type(chance, width):
-    dtype = random_record(chance, width, chance.choice([0, 1, 2, 3]))
+    dtype = random_record(chance, width, chance.choice([0, 1, 1, 2, 3]))
     if chance.random() < 0.98:
         dtype.pop("nullable", None)
     if dtype["children"] and chance.random() < 0.1:
@@ -990,8 +1070,8 @@ def random_type(chance, width):
 
 
 def alike(chance, dtype):
-    """The same records, of other names, kinds and nullability; mostly so that rows can be
-    converted."""
+    """The same records and lists, of other names, kinds, sizes and nullability; mostly so that rows
+    can be converted."""
     if dtype["kind"] in PLAIN:
         return (
             {**dtype, "nullable": not dtype.get("nullable")}
@@ -1000,6 +1080,11 @@ def alike(chance, dtype):
             if chance.random() < 0.05
             else dtype
         )
+    if dtype["kind"] in ("list", "fixed_size_list") and len(dtype.get("children", [])) == 1:
+        element = alike(chance, dtype["children"][0])
+        if chance.random() < 0.2:
+            return random_list(chance, element)
+        return {**dtype, "children": [element]}
     if dtype["kind"] not in RANGES and dtype["kind"] != "struct":
         return dtype
     if dtype["kind"] != "struct":
@@ -1078,6 +1163,10 @@ def random_leaf(chance, kind):
 def random_value(chance, dtype):
     if dtype.get("nullable") and chance.random() < 0.2:
         return None
+    if dtype["kind"] in ("list", "fixed_size_list") and len(dtype.get("children", [])) == 1:
+        count = dtype.get("size", chance.choice([0, 0, 1, 1, 2, 3]))
+        count = count if chance.random() < 0.997 else count + 1
+        return [random_value(chance, dtype["children"][0]) for _ in range(min(count, 4))]
     if dtype["kind"] != "struct":
         return (
             random_leaf(chance, dtype["kind"])
@@ -1092,7 +1181,17 @@ def random_value(chance, dtype):
 
 def random_rows(chance, dtype):
     dtype = {**dtype, "nullable": chance.random() < 0.01}
-    return [random_value(chance, dtype) for _ in range(chance.choice([0, 1, 1, 2, 3, 5, 12]))]
+    rows = [random_value(chance, dtype) for _ in range(chance.choice([0, 1, 1, 2, 3, 5, 12]))]
+    # Rows that repeat, so that constants and dictionaries fit.
+    return [chance.choice(rows[:2]) for _ in rows] if rows and chance.random() < 0.2 else rows
+
+
+def random_layouts(chance, width):
+    """A hint a column; at times too few or too many, or one that isn't there."""
+    count = width if chance.random() < 0.8 else chance.choice([0, 1, width + 2])
+    names = ["plain", "dictionary", "dictionary", "constant", "constant"]
+    names = names if chance.random() < 0.98 else [*names, "sparse", None]
+    return {"layouts": [chance.choice(names) for _ in range(count)]}
 
 
 def parts_of(dtype, here):
@@ -1165,6 +1264,9 @@ def random_odd(chance, leaves):
             ["stat", column, "mean"],
             ["lit", {"kind": "f32", "nullable": True}, None],
             ["lit", {"kind": "struct", "names": ["a"], "children": [{"kind": "i8"}]}, [1]],
+            ["lit", {"kind": "list", "children": [{"kind": "i8", "nullable": True}]}, [1, None]],
+            ["lit", {"kind": "list", "children": [{"kind": "i8"}]}, [None]],
+            ["lit", {"kind": "fixed_size_list", "size": 1, "children": [{"kind": "bool"}]}, []],
             ["row_count", 1],
             ["not"],
             ["is_null", column, True],
@@ -1226,9 +1328,14 @@ def random_scan(chance, dtype):
     return {"cmd": "scan", "paths": paths, "where": where}
 
 
+def leaves_of(chance, dtype):
+    """The paths of the leaves, at times of all that is no record."""
+    others = ("struct",) if chance.random() < 0.1 else ("struct", "list", "fixed_size_list")
+    return [path for path, part in parts_of(dtype, []) if part["kind"] not in others]
+
+
 def random_lengths(chance, dtype):
-    paths = [path for path, part in parts_of(dtype, []) if part["kind"] != "struct"]
-    paths = [path for path in paths if chance.random() < 0.5]
+    paths = [path for path in leaves_of(chance, dtype) if chance.random() < 0.5]
     if chance.random() < 0.1:
         paths.append(chance.choice([["zz"], [None], [], *paths]))
     return [[path, chance.choice([0, 1, 2, 3, 7, 20])] for path in paths]
@@ -1242,7 +1349,7 @@ def random_group(chance, groups):
 
 
 def random_description(chance, dtype, groups):
-    paths = [path for path, part in parts_of(dtype, []) if part["kind"] != "struct"]
+    paths = leaves_of(chance, dtype)
     path = chance.choice(paths) if paths and chance.random() < 0.95 else []
     if chance.random() < 0.05:
         path = chance.choice([path + ["zz"], path + [None], ["zz"], path[:-1]])
@@ -1267,14 +1374,21 @@ def random_session(chance):
             batch = dtype if chance.random() < 0.6 else alike(chance, dtype)
             if chance.random() < 0.05:
                 batch = random_type(chance, len(dtype["names"]))
-            lines.append({"cmd": "append", "dtype": batch, "rows": random_rows(chance, batch)})
+            hints = random_layouts(chance, len(batch["names"])) if chance.random() < 0.5 else {}
+            rows = random_rows(chance, batch)
+            lines.append({"cmd": "append", "dtype": batch, "rows": rows, **hints})
         elif roll < 0.5:
             other = alike(chance, dtype) if chance.random() < 0.9 else dtype
             lines.append({"cmd": "retype", "dtype": other})
-        elif roll < 0.6:
+        elif roll < 0.53:
+            lines.append({"cmd": "compact", **({"group": 0} if chance.random() < 0.05 else {})})
+        elif roll < 0.62:
             lines.append({"cmd": "join", "group": random_group(chance, groups - 1)})
-        elif roll < 0.75:
+        elif roll < 0.73:
             lines.append(random_description(chance, dtype, groups))
+        elif roll < 0.8:
+            every = ["lit", {"kind": "bool"}, True]
+            lines.append({"cmd": "scan", "paths": [[]], "where": every})
         else:
             lines.append(random_scan(chance, dtype))
         answer = session.answer(json.dumps(lines[-1]).encode())

@@ -17,6 +17,7 @@ pub use vortex_arrays_builder::constant::build_constant;
 pub use vortex_arrays_builder::fits::{fits_constant, fits_dictionary};
 pub use vortex_arrays_builder::plain::build_plain;
 pub use vortex_arrays_core::array::{ArrayLayout, ArrayRef, StringKind, Validity};
+pub use vortex_arrays_dictionary::build::build_dictionary;
 pub use vortex_arrays_leaf::bool_array::{BoolArray, BoolDataParts};
 pub use vortex_arrays_leaf::constant_array::ConstantArray;
 pub use vortex_arrays_leaf::primitive_array::{PrimitiveArray, PrimitiveDataParts};
@@ -29,6 +30,21 @@ pub use vortex_arrays_nested::list_view::{ListViewArray, ListViewDataParts, List
 pub use vortex_arrays_numbers::bool_array_ext::BoolArrayExt;
 pub use vortex_arrays_numbers::native_buffer::NativeBuffer;
 pub use vortex_arrays_numbers::primitive_array_ext::PrimitiveArrayExt;
+pub use vortex_arrays_parts::array_ref_ext::ArrayRefExt;
+pub use vortex_arrays_parts::constant_array_ext::{ConstantArrayExt, ConstantDataParts};
+pub use vortex_arrays_parts::data::{
+    BoolData, ConstantData, DictData, FixedSizeListData, ListViewData, PrimitiveData, StructData,
+    VarBinViewData,
+};
+pub use vortex_arrays_parts::dict_array_ext::{DictArrayExt, DictOwnedExt};
+pub use vortex_arrays_parts::fixed_size_list_array_ext::FixedSizeListArrayExt;
+pub use vortex_arrays_parts::slots::{
+    BoolArraySlotsExt, BoolSlots, ConstantArraySlotsExt, ConstantSlots, DictArraySlotsExt,
+    DictSlots, PrimitiveArraySlotsExt, PrimitiveSlots, StructArraySlotsExt, StructSlots,
+    VarBinViewArraySlotsExt, VarBinViewSlots,
+};
+pub use vortex_arrays_parts::struct_array_ext::StructArrayExt;
+pub use vortex_arrays_parts::var_bin_view_array_ext::{VarBinViewArrayExt, VarBinViewDataParts};
 pub use vortex_arrays_rebuild::density::ListViewArrayExt;
 pub use vortex_arrays_rebuild::rebuild::{ListViewRebuild, ListViewRebuildMode};
 pub use vortex_arrays_struct::column::column_at;

@@ -1,12 +1,13 @@
 -- What is true of each chunk of a table.
-use Rattle.std.proofs.Common.{◌≡◌, sym, ap, ◌∙◌, ℕ, ◌<◌, nat_lt, List, length, map, Bool, true, ◌&&◌, IsTrue, arith}
-use Rattle.std.specs.List.{list_all}
+use Rattle.std.proofs.Common.{◌≡◌, refl, sym, ap, ◌∙◌, ℕ, ◌<◌, nat_lt, List, map, Bool, true, ◌&&◌, IsTrue, arith}
 use Rattle.std.proofs.lemmas.Bool.Decides.{nat_tests}
-use Rattle.vortex_model.specs.LogicalType.{LogicalType}
+use Rattle.vortex_model.specs.Content.{null, scalar, equal_content}
+use Rattle.vortex_model.specs.LogicalType.{LogicalType, eq_type}
 use Rattle.vortex_model.specs.Path.{Positions, eq_positions}
-use Rattle.vortex_model.specs.Valid.{valid}
 use Rattle.vortex_model.proofs.ContentOrder.{true_left, true_right}
-use Rattle.vortex_scalar_value.specs.View.{raw_of}
+use Rattle.vortex_model.proofs.Equality.{content_passes}
+use Rattle.vortex_model.proofs.Tests.{kind_so}
+use Rattle.vortex_arrays_model.specs.Layout.{len_of, array_type_of}
 use Rattle.vortex_table_schema.specs.Leaves.{leaf_positions}
 use Rattle.vortex_table_chunk.specs.Bounds.{are_sums_of}
 use Rattle.vortex_table_chunk.specs.declared.chunk.Chunk.{Chunk}
@@ -21,6 +22,13 @@ lengths_so L k lengths h = positions_so lengths (map L (leaf_positions k)) (sym 
 pub lengths_same : (L : Positions → ℕ) (k : LogicalType) (lengths : List ℕ) → lengths ≡ map L (leaf_positions k) → are_lengths_of L k lengths ≡ true
 lengths_same L k lengths e = by_steps lengths (map L (leaf_positions k)) ∙ ap (eq_positions lengths) (sym e) ∙ positions_itself lengths
 
+-- equal types
+type_itself : (k : LogicalType) → eq_type k k ≡ true
+type_itself k = true_left (eq_type k k) (equal_content null null) (content_passes (scalar k null) (scalar k null) refl)
+
+pub type_same : (k l : LogicalType) → k ≡ l → eq_type k l ≡ true
+type_same k l e = ap (eq_type k) (sym e) ∙ type_itself k
+
 above_zero : (n : ℕ) → nat_lt 0 n ≡ true → 0 < n
 above_zero n h = grind (arith, nat_tests, h)
 
@@ -28,8 +36,8 @@ not_none : (n : ℕ) → 0 < n → nat_lt 0 n ≡ true
 not_none n h = grind (arith, nat_tests, h)
 
 module _ (L : Positions → ℕ) (k : LogicalType) (c : Chunk) (formed : IsTrue (is_formed L k c)) where
-  abbrev are_valid : Bool
-  are_valid = list_all (λ row. valid k (raw_of row)) c.rows.items
+  abbrev is_typed : Bool
+  is_typed = eq_type (array_type_of c.array) k
 
   abbrev is_led : Bool
   is_led = eq_leaves c.leaves.value.items (leaf_positions k)
@@ -41,25 +49,26 @@ module _ (L : Positions → ℕ) (k : LogicalType) (c : Chunk) (formed : IsTrue 
   is_summed = are_sums_of k c.leaves.value.items c.bounds.items
 
   abbrev has_rows : Bool
-  has_rows = nat_lt 0 (length c.rows.items)
+  has_rows = nat_lt 0 (len_of c.array)
 
-  behind_count : are_valid && (is_led && (is_as_long && is_summed)) ≡ true
-  behind_count = true_right has_rows (are_valid && (is_led && (is_as_long && is_summed))) formed
+  behind_count : is_typed && (is_led && (is_as_long && is_summed)) ≡ true
+  behind_count = true_right has_rows (is_typed && (is_led && (is_as_long && is_summed))) formed
 
-  behind_rows : is_led && (is_as_long && is_summed) ≡ true
-  behind_rows = true_right are_valid (is_led && (is_as_long && is_summed)) behind_count
+  behind_type : is_led && (is_as_long && is_summed) ≡ true
+  behind_type = true_right is_typed (is_led && (is_as_long && is_summed)) behind_count
 
   behind_leaves : is_as_long && is_summed ≡ true
-  behind_leaves = true_right is_led (is_as_long && is_summed) behind_rows
+  behind_leaves = true_right is_led (is_as_long && is_summed) behind_type
 
-  pub some_rows : 0 < length c.rows.items
-  some_rows = above_zero (length c.rows.items) (true_left has_rows (are_valid && (is_led && (is_as_long && is_summed))) formed)
+  pub some_rows : 0 < len_of c.array
+  some_rows = above_zero (len_of c.array) (true_left has_rows (is_typed && (is_led && (is_as_long && is_summed))) formed)
 
-  pub valid_rows : are_valid ≡ true
-  valid_rows = true_left are_valid (is_led && (is_as_long && is_summed)) behind_count
+  -- the array is of the type
+  pub of_type : array_type_of c.array ≡ k
+  of_type = kind_so (array_type_of c.array) k (true_left is_typed (is_led && (is_as_long && is_summed)) behind_count)
 
   pub led : c.leaves.value.items ≡ leaf_positions k
-  led = leaves_so c.leaves.value.items (leaf_positions k) (true_left is_led (is_as_long && is_summed) behind_rows)
+  led = leaves_so c.leaves.value.items (leaf_positions k) (true_left is_led (is_as_long && is_summed) behind_type)
 
   pub as_long : c.lengths.value.items ≡ map L (leaf_positions k)
   as_long = lengths_so L k c.lengths.value.items (true_left is_as_long is_summed behind_leaves)
@@ -68,7 +77,7 @@ module _ (L : Positions → ℕ) (k : LogicalType) (c : Chunk) (formed : IsTrue 
   summed = true_right is_as_long is_summed behind_leaves
 
 -- what all hold of is formed
-pub formed_so : (L : Positions → ℕ) (k : LogicalType) (c : Chunk) → 0 < length c.rows.items → list_all (λ row. valid k (raw_of row)) c.rows.items ≡ true → c.leaves.value.items ≡ leaf_positions k →
+pub formed_so : (L : Positions → ℕ) (k : LogicalType) (c : Chunk) → 0 < len_of c.array → array_type_of c.array ≡ k → c.leaves.value.items ≡ leaf_positions k →
     c.lengths.value.items ≡ map L (leaf_positions k) → are_sums_of k c.leaves.value.items c.bounds.items ≡ true → is_formed L k c ≡ true
-formed_so L k c some valids leaves lengths sums = λ i.
-    not_none (length c.rows.items) some i && (valids i && (leaves_same c.leaves.value.items (leaf_positions k) leaves i && (lengths_same L k c.lengths.value.items lengths i && sums i)))
+formed_so L k c some typed leaves lengths sums = λ i.
+    not_none (len_of c.array) some i && (type_same (array_type_of c.array) k typed i && (leaves_same c.leaves.value.items (leaf_positions k) leaves i && (lengths_same L k c.lengths.value.items lengths i && sums i)))

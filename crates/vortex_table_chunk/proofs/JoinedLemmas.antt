@@ -14,16 +14,13 @@ use Rattle.vortex_model.specs.Scan.{kind_at}
 use Rattle.vortex_model.specs.Typing.{sum_kind}
 use Rattle.vortex_model.specs.Statistics.{sum_of}
 use Rattle.vortex_model.specs.ZoneMap.{zone_of, values_at, value_in, sum_in, alone, together, joined}
-use Rattle.vortex_model.proofs.Columns.{all_at_type}
 use Rattle.vortex_model.proofs.ContentOrder.{true_left, true_right}
-use Rattle.vortex_model.proofs.LeafOrder.{bounds_of_column, leaves_compare}
-use Rattle.vortex_scalar_value.specs.declared.scalar_value.ScalarValue.{ScalarValue}
+use Rattle.vortex_model.proofs.LeafOrder.{bounds_of_column}
 use Rattle.vortex_table_chunk.specs.declared.zones.bounds.ColumnBounds.{ColumnBounds}
 use Rattle.vortex_table_chunk.specs.zones.Bounds.{bound_in, IsBoundsOf}
 use Rattle.vortex_table_chunk.specs.zones.Sums.{int_kind_of, eq_sum_kind}
 use Rattle.vortex_table_chunk.specs.zones.Join.{AreNeighbours, IsJoinOf, CanJoin, AreJoinsOf, zone_in}
-use Rattle.vortex_table_chunk.specs.Bounds.{column_at, AreBoundsOf, are_sums_of}
-use Rattle.vortex_table_schema.specs.Rows.{row_content}
+use Rattle.vortex_table_chunk.specs.Bounds.{AreBoundsOf, are_sums_of}
 use Rattle.vortex_table_chunk.specs.Joined.{IsLeafAt, IsJoined, AreJoined, rows_in}
 use Rattle.vortex_table_chunk.proofs.ProvenAlike.{all_of_type}
 use Rattle.vortex_table_chunk.proofs.zones.Forms.{FormIn, both_compare, group_low_form, group_high_form}
@@ -57,38 +54,34 @@ kind_there k is part e = ap (λ o. elim o [ None ↦ null_only | Some t ↦ t ])
 
 -- ---- one chunk
 
-module _ (k : LogicalType) (L : Positions → ℕ) (rows : List ScalarValue) (typed : AllByRecursion (IsContent k) (map row_content rows)) where
-  abbrev said : List Content
-  said = map row_content rows
-
-  column_length : (is : Positions) → rows_in (said ∷ []) ≡ length (column_at is rows)
-  column_length is = one_row_count (length said) ∙ sym (length-map said (λ row. at row is))
+module _ (k : LogicalType) (L : Positions → ℕ) (rows : List Content) (typed : AllByRecursion (IsContent k) rows) where
+  column_length : (is : Positions) → rows_in (rows ∷ []) ≡ length (values_at is rows)
+  column_length is = one_row_count (length rows) ∙ sym (length-map rows (λ row. at row is))
 
   -- the statistics of a leaf are its zone map
-  pub one_zone : (is : Positions) (b : ColumnBounds) → IsBoundsOf (L is) b (column_at is rows) → int_kind_of b.sum_type ≡ sum_kind (kind_at k is) → (part : LogicalType) → IsLeafAt k is part →
-      zone_of part (L is) (column_at is rows) ≡ zone_in b (rows_in (said ∷ []))
+  pub one_zone : (is : Positions) (b : ColumnBounds) → IsBoundsOf (L is) b (values_at is rows) → int_kind_of b.sum_type ≡ sum_kind (kind_at k is) → (part : LogicalType) → IsLeafAt k is part →
+      zone_of part (L is) (values_at is rows) ≡ zone_in b (rows_in (rows ∷ []))
   one_zone is b honest sums part leaf =
-      let cs = column_at is rows in
-      let compare = leaves_compare part cs leaf.leaf (all_at_type k is part said leaf.there typed) in
+      let cs = values_at is rows in
       sym (λ i. record {
-        low = honest.low compare i;
-        high = honest.high compare i;
+        low = honest.low i;
+        high = honest.high i;
         nulls = honest.nulls i;
         rows = column_length is i;
         total = (honest.total ∙ ap (λ o. sum_in o (sum_of cs)) (sums ∙ ap sum_kind (kind_there k is part leaf.there))) i;
-        constant = honest.constant compare i;
+        constant = honest.constant i;
       })
 
-  one_joined : (is : Positions) (b : ColumnBounds) → IsBoundsOf (L is) b (column_at is rows) → int_kind_of b.sum_type ≡ sum_kind (kind_at k is) → IsJoined k L is b (said ∷ [])
+  one_joined : (is : Positions) (b : ColumnBounds) → IsBoundsOf (L is) b (values_at is rows) → int_kind_of b.sum_type ≡ sum_kind (kind_at k is) → IsJoined k L is b (rows ∷ [])
   one_joined is b honest sums = record {
-    made = λ part leaf. (alone (zone_of part (L is) (column_at is rows)), refl, one_zone is b honest sums part leaf);
+    made = λ part leaf. (alone (zone_of part (L is) (values_at is rows)), refl, one_zone is b honest sums part leaf);
     nulls = (
-        let count = count_by-le-length is_null (column_at is rows) in let same = column_length is in let kept = honest.nulls in
+        let count = count_by-le-length is_null (values_at is rows) in let same = column_length is in let kept = honest.nulls in
         omega (arith, count, same, kept));
     sums = sums;
   }
 
-  pub chunk_joined : (leaves : List Positions) (bounds : List ColumnBounds) → AreBoundsOf (map L leaves) leaves bounds rows → are_sums_of k leaves bounds ≡ true → AreJoined k L leaves bounds (said ∷ [])
+  pub chunk_joined : (leaves : List Positions) (bounds : List ColumnBounds) → AreBoundsOf (map L leaves) leaves bounds rows → are_sums_of k leaves bounds ≡ true → AreJoined k L leaves bounds (rows ∷ [])
   chunk_joined [] [] h g = tt
   chunk_joined [] (b ∷ bounds) h g = absurd h
   chunk_joined (is ∷ leaves) [] h g = absurd h

@@ -3,14 +3,15 @@ use Rattle.std.proofs.Common.{◌≡◌, refl, sym, ◌∙◌, ap, subst, zero, 
 use Rattle.std.proofs.lemmas.List.{take_more}
 use Rattle.vortex_model.specs.LogicalType.{LogicalType, IntKind, u8, u16, u32, u64, i8, i16, i32, i64, eq_int_kind}
 use Rattle.vortex_model.specs.Path.{Positions, eq_positions}
+use Rattle.vortex_model.specs.Content.{Content}
 use Rattle.vortex_model.specs.Scan.{kind_at}
 use Rattle.vortex_model.specs.Typing.{sum_kind}
+use Rattle.vortex_model.specs.ZoneMap.{values_at}
 use Rattle.vortex_model.proofs.ContentOrder.{true_left, true_right}
 use Rattle.vortex_table_schema.proofs.Places.{positions_so, is_among}
-use Rattle.vortex_scalar_value.specs.declared.scalar_value.ScalarValue.{ScalarValue}
 use Rattle.vortex_table_chunk.specs.zones.Bounds.{IsBoundsOf}
 use Rattle.vortex_table_chunk.specs.zones.Sums.{int_kind_of, eq_sum_kind}
-use Rattle.vortex_table_chunk.specs.Bounds.{column_at, AreBoundsOf, are_sums_of}
+use Rattle.vortex_table_chunk.specs.Bounds.{AreBoundsOf, are_sums_of}
 use Rattle.vortex_table_chunk.specs.BoundStat.{bounds_at}
 use Rattle.vortex_table_chunk.specs.declared.zones.bounds.ColumnBounds.{ColumnBounds}
 
@@ -41,15 +42,15 @@ passed_over leaves bounds is i leaf all h e other before =
     ∙ sym (bounds_from leaves bounds is i leaf h e ∙ ap (λ b. if b then slice_get bounds i else bounds_at (drop (suc i) leaves) (drop (suc i) bounds) is) other) ∙ before
 
 -- bounds of one more leaf
-pub one_more_leaf : (L : ℕ) (lengths : List ℕ) (leaves : List Positions) (bounds : List ColumnBounds) (is : Positions) (b : ColumnBounds) (rows : List ScalarValue) → AreBoundsOf lengths leaves bounds rows →
-    IsBoundsOf L b (column_at is rows) → AreBoundsOf (lengths ++ L ∷ []) (leaves ++ is ∷ []) (bounds ++ b ∷ []) rows
+pub one_more_leaf : (L : ℕ) (lengths : List ℕ) (leaves : List Positions) (bounds : List ColumnBounds) (is : Positions) (b : ColumnBounds) (rows : List Content) → AreBoundsOf lengths leaves bounds rows →
+    IsBoundsOf L b (values_at is rows) → AreBoundsOf (lengths ++ L ∷ []) (leaves ++ is ∷ []) (bounds ++ b ∷ []) rows
 one_more_leaf L [] [] [] is b rows h g = (g, tt)
 one_more_leaf L (M ∷ lengths) (js ∷ leaves) (d ∷ bounds) is b rows h g = (h.0, one_more_leaf L lengths leaves bounds is b rows h.1 g)
 one_more_leaf L lengths leaves bounds is b rows h g = absurd h
 
-pub leaf_pushed : (lengths : List ℕ) (leaves : List Positions) (i d L : ℕ) (leaf : Positions) (old new : List ColumnBounds) (b : ColumnBounds) (rows : List ScalarValue) → i < length lengths → L ≡ get_or lengths i d →
+pub leaf_pushed : (lengths : List ℕ) (leaves : List Positions) (i d L : ℕ) (leaf : Positions) (old new : List ColumnBounds) (b : ColumnBounds) (rows : List Content) → i < length lengths → L ≡ get_or lengths i d →
     i < length leaves → leaf ≡ get_or leaves i leaf → new ≡ old ++ b ∷ [] →
-    AreBoundsOf (take i lengths) (take i leaves) old rows → IsBoundsOf L b (column_at leaf rows) → AreBoundsOf (take (i + 1) lengths) (take (i + 1) leaves) new rows
+    AreBoundsOf (take i lengths) (take i leaves) old rows → IsBoundsOf L b (values_at leaf rows) → AreBoundsOf (take (i + 1) lengths) (take (i + 1) leaves) new rows
 leaf_pushed lengths leaves i d L leaf old new b rows g at_i h is made before own =
     subst (λ ns. AreBoundsOf ns (take (i + 1) leaves) new rows) (sym (take_more lengths i d g ∙ ap (λ n. take i lengths ++ n ∷ []) (sym at_i)))
     (subst (λ ls. AreBoundsOf (take i lengths ++ L ∷ []) ls new rows) (sym (take_more leaves i leaf h ∙ ap (λ l. take i leaves ++ l ∷ []) (sym is)))
@@ -87,12 +88,12 @@ sum_pushed k leaves i leaf old new b h is made before g =
     ∙ one_more_sum k (take i leaves) old leaf b before (ap (λ o. eq_sum_kind o (sum_kind (kind_at k leaf))) g ∙ kind_itself (sum_kind (kind_at k leaf)))
 
 -- the bounds of a leaf that is there
-pub record Found (L : Positions → ℕ) (leaves : List Positions) (bounds : List ColumnBounds) (rows : List ScalarValue) (is : Positions) : Type 0 where
+pub record Found (L : Positions → ℕ) (leaves : List Positions) (bounds : List ColumnBounds) (rows : List Content) (is : Positions) : Type 0 where
   pub bounds_of : ColumnBounds
   pub there : bounds_at leaves bounds is ≡ Some bounds_of
-  pub honest : IsBoundsOf (L is) bounds_of (column_at is rows)
+  pub honest : IsBoundsOf (L is) bounds_of (values_at is rows)
 
-pub found_among : (L : Positions → ℕ) (leaves : List Positions) (bounds : List ColumnBounds) (rows : List ScalarValue) (is : Positions) → AreBoundsOf (map L leaves) leaves bounds rows → is_among leaves is ≡ true → Found L leaves bounds rows is
+pub found_among : (L : Positions → ℕ) (leaves : List Positions) (bounds : List ColumnBounds) (rows : List Content) (is : Positions) → AreBoundsOf (map L leaves) leaves bounds rows → is_among leaves is ≡ true → Found L leaves bounds rows is
 found_among L [] bounds rows is h g = absurd (cc (g))
 found_among L (js ∷ leaves) [] rows is h g = absurd h
 found_among L (js ∷ leaves) (b ∷ bounds) rows is h g = by_test (eq_positions js is) refl g (found_among L leaves bounds rows is h.1)
@@ -101,7 +102,7 @@ found_among L (js ∷ leaves) (b ∷ bounds) rows is h g = by_test (eq_positions
     by_test true e s f = record {
       bounds_of = b;
       there = ap (λ t. if t then Some b else bounds_at leaves bounds is) e;
-      honest = subst (λ ks. IsBoundsOf (L ks) b (column_at ks rows)) (positions_so js is e) h.0;
+      honest = subst (λ ks. IsBoundsOf (L ks) b (values_at ks rows)) (positions_so js is e) h.0;
     }
     by_test false e s f = record {
       bounds_of = (f s).bounds_of;
@@ -110,8 +111,8 @@ found_among L (js ∷ leaves) (b ∷ bounds) rows is h g = by_test (eq_positions
     }
 
 -- what is found at a position are the bounds of its leaf
-pub found_bounds : (L : Positions → ℕ) (leaves : List Positions) (bounds : List ColumnBounds) (rows : List ScalarValue) (is : Positions) (b : ColumnBounds) → AreBoundsOf (map L leaves) leaves bounds rows →
-    bounds_at leaves bounds is ≡ Some b → IsBoundsOf (L is) b (column_at is rows)
+pub found_bounds : (L : Positions → ℕ) (leaves : List Positions) (bounds : List ColumnBounds) (rows : List Content) (is : Positions) (b : ColumnBounds) → AreBoundsOf (map L leaves) leaves bounds rows →
+    bounds_at leaves bounds is ≡ Some b → IsBoundsOf (L is) b (values_at is rows)
 found_bounds L [] bounds rows is b h e = absurd (cc (e))
 found_bounds L (js ∷ leaves) [] rows is b h e = absurd h
 found_bounds L (js ∷ leaves) (d ∷ bounds) rows is b h e = by_test (eq_positions js is) refl e (found_bounds L leaves bounds rows is b h.1)
@@ -120,6 +121,6 @@ found_bounds L (js ∷ leaves) (d ∷ bounds) rows is b h e = by_test (eq_positi
     same x y s = cc (s)
 
     by_test : (t : Bool) → eq_positions js is ≡ t → ◌≡◌ {A = Option ColumnBounds} (if t then Some d else bounds_at leaves bounds is) (Some b) →
-        (bounds_at leaves bounds is ≡ Some b → IsBoundsOf (L is) b (column_at is rows)) → IsBoundsOf (L is) b (column_at is rows)
-    by_test true at s f = subst (λ x. IsBoundsOf (L is) x (column_at is rows)) (same d b s) (subst (λ ks. IsBoundsOf (L ks) d (column_at ks rows)) (positions_so js is at) h.0)
+        (bounds_at leaves bounds is ≡ Some b → IsBoundsOf (L is) b (values_at is rows)) → IsBoundsOf (L is) b (values_at is rows)
+    by_test true at s f = subst (λ x. IsBoundsOf (L is) x (values_at is rows)) (same d b s) (subst (λ ks. IsBoundsOf (L ks) d (values_at ks rows)) (positions_so js is at) h.0)
     by_test false at s f = f s

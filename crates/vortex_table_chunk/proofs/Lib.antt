@@ -1,9 +1,10 @@
 pub mod Agreement
 pub mod EqualLeaves
 pub mod Formed
-pub mod InColumn
 pub mod JoinLists
 pub mod JoinedLemmas
 pub mod LeafBounds
+pub mod LeafPlaces
+pub mod Parts
 pub mod ProvenAlike
 pub mod TypedRows

@@ -1,7 +1,6 @@
 -- What is proved by the bounds of a chunk or a group is what its zone maps prove.
 use Rattle.std.proofs.Common.{◌≡◌, refl, sym, ◌∙◌, ap, subst, ℕ, List, length, Bool, true, false, Option, Some, None, option_and_then, option_map, is_some, if◌then◌else◌, [], map, ◌∷◌, ◌||◌}
 use Rattle.std.specs.List.{AllByRecursion}
-use Rattle.std.proofs.lemmas.List.{length-map}
 use Rattle.vortex_model.specs.LogicalType.{LogicalType}
 use Rattle.vortex_model.specs.Content.{Content, null}
 use Rattle.vortex_model.specs.Valid.{IsContent}
@@ -17,13 +16,14 @@ use Rattle.vortex_model.specs.Scan.{known, proves, chunk_zone, chunk_zone_at, le
 use Rattle.vortex_model.specs.Sound.{Placeholders}
 use Rattle.vortex_model.specs.Command.{expression_fault, column_fault, unless}
 use Rattle.vortex_model.proofs.Columns.{all_at_type}
+use Rattle.vortex_arrays_model.specs.Layout.{len_of}
+use Rattle.vortex_arrays_model.proofs.RowsLemmas.{row_count}
 use Rattle.vortex_table_schema.specs.Leaves.{leaf_positions}
 use Rattle.vortex_table_schema.proofs.Places.{is_among, leaf_there, positions_so}
 use Rattle.vortex_table_chunk.specs.declared.zones.bounds.ColumnBounds.{ColumnBounds}
 use Rattle.vortex_table_chunk.proofs.zones.StatValueLemmas.{stat_values_are_right, stat_values_alike}
 use Rattle.vortex_stats_bind.specs.Bound.{Bound, Provided, evaluate_bound, bound_of, bound_column, by_names}
-use Rattle.vortex_table_chunk.specs.Bounds.{column_at, AreBoundsOf}
-use Rattle.vortex_table_schema.specs.Rows.{row_content}
+use Rattle.vortex_table_chunk.specs.Bounds.{AreBoundsOf}
 use Rattle.vortex_table_chunk.specs.Chunk.{chunk_rows}
 use Rattle.vortex_table_chunk.specs.BoundStat.{stat_value_or_null, zone_stat, zone_provided, bounds_at}
 use Rattle.vortex_table_chunk.specs.Proved.{proved_in, chunk_provided, IsBoundProof}
@@ -119,9 +119,9 @@ leaf_of_path k xs own =
 is_leaf_among : (k : LogicalType) (leaves : List Positions) (xs : Names) (own : LeafAt k (positions k xs)) → leaves ≡ leaf_positions k → is_among leaves own.place ≡ true
 is_leaf_among k leaves xs own led = ap (λ ls. is_among ls own.place) led ∙ leaf_there k own.place own.type own.there own.leaf
 
--- ---- of a chunk with the leaves and the bound length of a table, whose rows are of its type
+-- ---- of a chunk with the leaves and the bound length of a table
 
-module _ (t : Table) (chunk : Chunk) (of_type : AllByRecursion (IsContent t.kind) (chunk_rows chunk)) (led : chunk.leaves.value.items ≡ leaf_positions t.kind)
+module _ (t : Table) (chunk : Chunk) (led : chunk.leaves.value.items ≡ leaf_positions t.kind)
     (long : chunk.lengths.value.items ≡ map (bound_length t) chunk.leaves.value.items) where
   abbrev rows : List Content
   rows = chunk_rows chunk
@@ -132,22 +132,21 @@ module _ (t : Table) (chunk : Chunk) (of_type : AllByRecursion (IsContent t.kind
   abbrev bounds : List ColumnBounds
   bounds = chunk.bounds.items
 
-  of_leaf : (xs : Names) (own : LeafAt t.kind (positions t.kind xs)) → Found (bound_length t) leaves bounds chunk.rows.items own.place → (a : Aggregate) →
+  of_leaf : (xs : Names) (own : LeafAt t.kind (positions t.kind xs)) → Found (bound_length t) leaves bounds rows own.place → (a : Aggregate) →
       bound_stat t.kind leaves bounds (length rows) (column xs) a ≡ known (chunk_zone t rows) (length rows) (column xs) a
   of_leaf xs own found a =
       ap (λ o. zone_stat leaves bounds (length rows) (bound_column o) a) own.only ∙ ap (λ o. stat_value_or_null o (length rows) a) found.there
-      ∙ stat_values_are_right found.bounds_of own.type (bound_length t own.place) (length rows) (column_at own.place chunk.rows.items) own.leaf
-      (all_at_type t.kind own.place own.type rows own.there of_type)
+      ∙ stat_values_are_right found.bounds_of own.type (bound_length t own.place) (length rows) (values_at own.place rows)
       found.honest xs (chunk_zone t rows)
       (ap (option_map (λ (leaf : Positions × LogicalType). chunk_zone_at t rows leaf.0 leaf.1)) (leaf_of_path t.kind xs own)) a
 
   of_own : (xs : Names) → LeafAt t.kind (positions t.kind xs) → (a : Aggregate) → bound_stat t.kind leaves bounds (length rows) (column xs) a ≡ known (chunk_zone t rows) (length rows) (column xs) a
   of_own xs own a =
       of_leaf xs own
-      (found_among (bound_length t) leaves bounds chunk.rows.items own.place (subst (λ lengths. AreBoundsOf lengths leaves bounds chunk.rows.items) long chunk.honest) (is_leaf_among t.kind leaves xs own led)) a
+      (found_among (bound_length t) leaves bounds rows own.place (subst (λ lengths. AreBoundsOf lengths leaves bounds rows) long chunk.honest) (is_leaf_among t.kind leaves xs own led)) a
 
-  as_many_rows : length chunk.rows.items ≡ length rows
-  as_many_rows = sym (length-map chunk.rows.items row_content)
+  as_many_rows : len_of chunk.array ≡ length rows
+  as_many_rows = sym (row_count chunk.array)
 
   pub chunk_falsified : (e : Expression) (b : Option Bound) → IsBoundProof t.kind (falsifier t.kind e) b → expression_fault t.kind e ≡ None →
       proved_in (chunk_provided chunk) b ≡ proves (chunk_zone t rows) (length rows) (falsifier t.kind e)

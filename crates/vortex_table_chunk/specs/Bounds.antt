@@ -1,5 +1,5 @@
 -- Bounds of the leaves of rows.
-use Rattle.std.specs.Prelude.{ℕ, List, [], ◌∷◌, map, Bool, true, false, ◌&&◌}
+use Rattle.std.specs.Prelude.{ℕ, List, [], ◌∷◌, Bool, true, false, ◌&&◌}
 use Rattle.std.specs.Coded.{Coded-set, coded_ℕ, coded_ℤ, coded_bool}
 use Rattle.vortex_model.specs.Content.{Content}
 use Rattle.vortex_model.specs.Path.{Positions}
@@ -7,22 +7,16 @@ use Rattle.vortex_model.specs.LogicalType.{LogicalType}
 use Rattle.vortex_model.specs.Scan.{kind_at}
 use Rattle.vortex_model.specs.Typing.{sum_kind}
 use Rattle.vortex_model.specs.ZoneMap.{values_at}
-use Rattle.vortex_table_schema.specs.Rows.{row_content}
-use Rattle.vortex_scalar_value.specs.declared.scalar_value.ScalarValue.{ScalarValue}
 use Rattle.vortex_table_chunk.specs.zones.Bounds.{IsBoundsOf}
 use Rattle.vortex_table_chunk.specs.declared.zones.bounds.ColumnBounds.{ColumnBounds}
 use Rattle.vortex_table_chunk.specs.BoundCode.{coded_bound, coded_precision}
 use Rattle.vortex_table_chunk.specs.zones.Sums.{int_kind_of, eq_sum_kind}
 
--- the values of the leaf at these positions
-abbrev pub column_at : Positions → List ScalarValue → List Content
-column_at is rows = values_at is (map row_content rows)
-
 -- one to one, the bounds are those of the rows' leaves at these positions, each at its bound length
-abbrev pub AreBoundsOf : List ℕ → List Positions → List ColumnBounds → List ScalarValue → Type 0
+abbrev pub AreBoundsOf : List ℕ → List Positions → List ColumnBounds → List Content → Type 0
 AreBoundsOf [] [] [] rows = Unit {0}
 AreBoundsOf (L ∷ lengths) (is ∷ leaves) (b ∷ bounds) rows =
-    IsBoundsOf L b (column_at is rows) × AreBoundsOf lengths leaves bounds rows
+    IsBoundsOf L b (values_at is rows) × AreBoundsOf lengths leaves bounds rows
 AreBoundsOf lengths leaves bounds rows = ⊥
 
 -- one to one, the sums are of the kinds of a type's leaves at these positions
@@ -34,19 +28,19 @@ are_sums_of k leaves bounds = false
 
 pub IsBoundsOf-prop : (L : ℕ) (b : ColumnBounds) (cs : List Content) → IsProp (IsBoundsOf L b cs)
 IsBoundsOf-prop L b cs = λ p q i. record {
-  low = λ c. Coded-set coded_bound _ _ (p.low c) (q.low c) i;
-  high = λ c. Coded-set coded_bound _ _ (p.high c) (q.high c) i;
+  low = Coded-set coded_bound _ _ p.low q.low i;
+  high = Coded-set coded_bound _ _ p.high q.high i;
   nulls = Coded-set coded_ℕ _ _ p.nulls q.nulls i;
   total = Coded-set (coded_precision coded_ℤ) _ _ p.total q.total i;
-  constant = λ c. Coded-set (coded_precision coded_bool) _ _ (p.constant c) (q.constant c) i;
+  constant = Coded-set (coded_precision coded_bool) _ _ p.constant q.constant i;
 }
 
 pub AreBoundsOf-prop : (lengths : List ℕ) (leaves : List Positions) (bounds : List ColumnBounds)
-    (rows : List ScalarValue) → IsProp (AreBoundsOf lengths leaves bounds rows)
+    (rows : List Content) → IsProp (AreBoundsOf lengths leaves bounds rows)
 AreBoundsOf-prop [] [] [] rows = λ p q i. tt
 AreBoundsOf-prop (L ∷ lengths) (is ∷ leaves) (b ∷ bounds) rows =
     λ p q i. (
-      IsBoundsOf-prop L b (column_at is rows) p.0 q.0 i,
+      IsBoundsOf-prop L b (values_at is rows) p.0 q.0 i,
       AreBoundsOf-prop lengths leaves bounds rows p.1 q.1 i,
     )
 AreBoundsOf-prop lengths leaves bounds rows = λ p q. absurd p

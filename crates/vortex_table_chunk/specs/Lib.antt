@@ -5,5 +5,6 @@ pub mod Chunk
 pub mod Formed
 pub mod Joined
 pub mod Proved
+pub mod Rows
 pub mod Zone
 pub mod zones

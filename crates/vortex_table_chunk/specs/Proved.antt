@@ -1,8 +1,9 @@
 -- Whether a proof is true of what is provided.
-use Rattle.std.specs.Prelude.{◌≡◌, length, Option, Some, None, Bool, false}
+use Rattle.std.specs.Prelude.{◌≡◌, Option, Some, None, Bool, false}
 use Rattle.vortex_model.specs.LogicalType.{LogicalType}
 use Rattle.vortex_model.specs.Expression.{Expression}
 use Rattle.vortex_model.specs.Truth.{evaluate, is_true}
+use Rattle.vortex_arrays_model.specs.Layout.{len_of}
 use Rattle.vortex_stats_bind.specs.Bound.{Bound, Provided, evaluate_bound, by_names}
 use Rattle.vortex_table_chunk.specs.BoundStat.{zone_provided}
 use Rattle.vortex_table_chunk.specs.declared.chunk.Chunk.{Chunk}
@@ -14,7 +15,7 @@ proved_in p (Some proof) = is_true (evaluate_bound p proof)
 -- what the bounds of a chunk provide
 abbrev pub chunk_provided : Chunk → Provided
 chunk_provided chunk =
-    zone_provided chunk.leaves.value.items chunk.bounds.items (length chunk.rows.items)
+    zone_provided chunk.leaves.value.items chunk.bounds.items (len_of chunk.array)
 
 -- There is a bound proof where there is a proof, and it has the value of the proof whatever is
 -- provided.

@@ -1,81 +1,87 @@
 //! Statistics of all leaf columns of the rows of a chunk.
-ghost use Rattle.std.specs.Prelude.{◌≡◌, length, IfOk, IsTrue};
-ghost use Rattle.vortex_table_chunk.specs.zones.Join.{CanJoin, AreJoinsOf};
-ghost use Rattle.vortex_table_chunk.specs.zones.Bounds.{IsMinMaxOf, IsBoundsOf};
-ghost use Rattle.vortex_table_chunk.specs.Bounds.{column_at, AreBoundsOf, are_sums_of};
-ghost use Rattle.vortex_table_chunk.specs.zones.Sums.{IsSumOf, int_kind_of};
+ghost use Rattle.std.specs.Prelude.{◌≡◌, length, true, IfOk, IsTrue};
+ghost use Rattle.vortex_model.specs.Kept.{is_leaf, is_leaf_at};
 ghost use Rattle.vortex_model.specs.Scan.{kind_at};
 ghost use Rattle.vortex_model.specs.Typing.{sum_kind};
-ghost use Rattle.vortex_dtype_core.specs.View.{type_of};
+ghost use Rattle.vortex_model.specs.ZoneMap.{values_at, zone_of};
+ghost use Rattle.vortex_arrays_model.specs.Layout.{array_type_of, rows_of};
+ghost use Rattle.vortex_arrays_model.specs.Column.{IsPart};
+ghost use Rattle.vortex_stats_array.specs.Zones.{zone_in};
+ghost use Rattle.vortex_table_schema.specs.Leaves.{leaf_positions};
+ghost use Rattle.vortex_table_chunk.specs.zones.Join.{CanJoin, AreJoinsOf};
+ghost use Rattle.vortex_table_chunk.specs.zones.Bounds.{IsBoundsOf};
+ghost use Rattle.vortex_table_chunk.specs.zones.Sums.{int_kind_of};
+ghost use Rattle.vortex_table_chunk.specs.Bounds.{AreBoundsOf, are_sums_of};
 
+use crate::part::part_at_positions;
 use crate::zones::bounds::ColumnBounds;
-use crate::zones::min_max::MinMax;
-use crate::zones::sum::RunningSum;
-use crate::zones::sum_type::sum_type;
 use std::alloc::{AllocError, Global};
-use vortex_dtype_core::dtype::DType;
-use vortex_dtype_ptype::ptype::PType;
-use vortex_scalar_value::scalar_value::ScalarValue;
-use vortex_stats_bind::bound::part_at;
+use vortex_arrays_core::array::ArrayRef;
+use vortex_stats_array::array_stats::ArrayStats;
+use vortex_stats_array::of_array::array_stats;
 use vortex_table_schema::leaves::LeafPath;
 
-/// The least and the greatest value and the sum of the column at this path. Each value is read
-/// once.
-pub fn leaf_pass<'a>(rows: &'a [ScalarValue], leaf: &[usize]) -> (MinMax<'a>, RunningSum)
-    ensures min_max { IsMinMaxOf result.0 (column_at leaf.now rows.now) }
-    ensures sum { IsSumOf result.1 (column_at leaf.now rows.now) }
+// The column of the leaf at these positions.
+fn leaf_column(alloc: Global, array: &ArrayRef, leaf: &[usize]) -> Result<ArrayRef, AllocError>
+    requires { is_leaf_at (array_type_of array.now) leaf.now ≡ true }
+    ensures part { IfOk result (λ column. IsPart array.now leaf.now column) }
+    ensures leaf { IfOk result (λ column. is_leaf (array_type_of column) ≡ true) }
 {
-    // Each is added in front of those behind it.
-    let mut min_max = MinMax::none();
-    let mut sum = RunningSum::none();
-    for index in (0..rows.len()).rev() {
-        let value = part_at(&rows[index], leaf);
-        min_max = min_max.with(value);
-        sum = sum.with(value);
-    }
-    (min_max, sum)
+    let Some(column) = part_at_positions(alloc, array, leaf)? else {
+        unreachable!()
+    };
+    Ok(column)
 }
 
-/// The statistics of the column at this path. A bound that is a text or bytes of more than
-/// `max_length` bytes is shortened.
+fn leaf_stats(alloc: Global, column: &ArrayRef, max_length: usize) -> Result<ArrayStats, AllocError>
+    requires { is_leaf (array_type_of column.now) ≡ true }
+    ensures { IfOk result (λ stats. zone_in stats
+        ≡ zone_of (array_type_of column.now) max_length (rows_of column.now)) }
+{
+    let Some(stats) = array_stats(alloc, column, max_length)? else {
+        unreachable!()
+    };
+    Ok(stats)
+}
+
+/// The statistics of the leaf column at these positions. A bound that is a text or bytes of more
+/// than `max_length` bytes is shortened.
 pub fn leaf_bounds(
     alloc: Global,
-    rows: &[ScalarValue],
+    array: &ArrayRef,
     leaf: &[usize],
-    sum_type: Option<PType>,
     max_length: usize,
 ) -> Result<ColumnBounds, AllocError>
-    ensures statistics { IfOk result
-        (λ bounds. IsBoundsOf max_length bounds (column_at leaf.now rows.now)) }
-    ensures sum_type { IfOk result (λ bounds. bounds.sum_type ≡ sum_type) }
+    requires { is_leaf_at (array_type_of array.now) leaf.now ≡ true }
+    ensures statistics { IfOk result (λ bounds.
+        IsBoundsOf max_length bounds (values_at leaf.now (rows_of array.now))) }
+    ensures sums { IfOk result (λ bounds.
+        int_kind_of bounds.sum_type ≡ sum_kind (kind_at (array_type_of array.now) leaf.now)) }
 {
-    let (min_max, sum) = leaf_pass(rows, leaf);
-    let bounds = min_max.bounds(alloc, sum, sum_type, max_length)?;
-    Ok(bounds)
+    let column = leaf_column(alloc, array, leaf)?;
+    let stats = leaf_stats(alloc, &column, max_length)?;
+    Ok(ColumnBounds::of_stats(column.dtype(), stats))
 }
 
-/// The statistics of these columns of rows of a type, one for each, in the same order. A bound that
-/// is a text or bytes of more bytes than the column's of `max_lengths` is shortened. Each value is
-/// read once, and only the bounds are copied.
+/// The statistics of the leaf columns of an array, one for each of `leaves`, which are those of its
+/// type, in the same order. A bound that is a text or bytes of more bytes than the column's of
+/// `max_lengths` is shortened. Each row is read once, and only the bounds are copied.
 pub fn all_bounds(
     alloc: Global,
-    dtype: &DType,
-    rows: &[ScalarValue],
+    array: &ArrayRef,
     leaves: &[LeafPath],
     max_lengths: &[usize],
 ) -> Result<Vec<ColumnBounds>, AllocError>
-    requires { length max_lengths.now ≡ length leaves.now }
+    requires lengths { length max_lengths.now ≡ length leaves.now }
+    requires leaves { leaves.now ≡ leaf_positions (array_type_of array.now) }
     ensures statistics { IfOk result
-        (λ all. AreBoundsOf max_lengths.now leaves.now all.items rows.now) }
+        (λ all. AreBoundsOf max_lengths.now leaves.now all.items (rows_of array.now)) }
     ensures sums { IfOk result
-        (λ all. IsTrue (are_sums_of (type_of dtype.now) leaves.now all.items)) }
+        (λ all. IsTrue (are_sums_of (array_type_of array.now) leaves.now all.items)) }
 {
     let mut all = Vec::with_capacity(alloc, leaves.len())?;
     for (index, leaf) in leaves.iter().enumerate() {
-        let path = leaf.as_slice();
-        let sum_type = sum_type(dtype, path);
-        let max_length = max_lengths[index];
-        let bounds = leaf_bounds(alloc, rows, path, sum_type, max_length)?;
+        let bounds = leaf_bounds(alloc, array, leaf.as_slice(), max_lengths[index])?;
         all.push(bounds)?;
     }
     Ok(all)

@@ -1,6 +1,9 @@
 //! Chunks of rows with statistics of their leaf columns.
 ghost use Rattle.std.specs.Prelude.{◌≡◌, length, IfOk, IsTrue, option_map};
-ghost use Rattle.vortex_dtype_core.specs.View.{type_of};
+ghost use Rattle.std.proofs.Math.Logic.{∥∥₁_prop};
+ghost use Rattle.vortex_arrays_model.specs.Layout.{array_type_of, rows_of, IsSound};
+ghost use Rattle.vortex_table_schema.specs.Leaves.{leaf_positions};
+ghost use Rattle.vortex_table_chunk.specs.Rows.{are_rows_valid};
 ghost use Rattle.vortex_table_chunk.specs.Bounds.{AreBoundsOf, AreBoundsOf-prop, are_sums_of};
 ghost use Rattle.vortex_table_chunk.specs.BoundStat.{bounds_at};
 
@@ -8,14 +11,16 @@ use crate::bounds::all_bounds;
 use crate::zones::bounds::ColumnBounds;
 use std::alloc::{AllocError, Global};
 use std::rc::Rc;
-use vortex_dtype_core::dtype::DType;
-use vortex_scalar_value::scalar_value::ScalarValue;
+use vortex_arrays_core::array::ArrayRef;
+use vortex_model::laws::tests_of_validity_are_right;
 use vortex_table_schema::leaves::LeafPath;
 
-/// The rows of one append, with statistics of their leaf columns, which stay as they are.
+/// The rows of one append as an array of records, with statistics of their leaf columns, which stay
+/// as they are.
 #[derive(Drop)]
 pub struct Chunk {
-    pub rows: Vec<ScalarValue>,
+    /// The rows.
+    pub array: ArrayRef,
     /// The paths of the leaf columns, which the chunks of a table share.
     pub leaves: Rc<Vec<LeafPath>>,
     /// The greatest number of bytes of a bound that is a text or bytes, of each leaf column in the
@@ -23,32 +28,38 @@ pub struct Chunk {
     pub lengths: Rc<Vec<usize>>,
     /// The statistics of each leaf column, in the order of `leaves`.
     pub bounds: Vec<ColumnBounds>,
+    pub ghost sound: { ∥ IsSound array ∥₁ } by { ∥∥₁_prop },
+    pub ghost typed: { IsTrue (are_rows_valid array) },
     pub ghost honest: { AreBoundsOf lengths.value.items leaves.value.items bounds.items
-        rows.items } by { AreBoundsOf-prop lengths.value.items leaves.value.items bounds.items
-            rows.items },
+        (rows_of array) } by { AreBoundsOf-prop lengths.value.items leaves.value.items bounds.items
+            (rows_of array) },
 }
 
-/// A chunk of these rows of a type. A bound that is a text or bytes is shortened to as many bytes
-/// as `lengths` has for its leaf column.
+/// A chunk of these rows, whose type has these leaf columns. A bound that is a text or bytes is
+/// shortened to as many bytes as `lengths` has for its leaf column.
+#[tactic(auto, using(crate::proofs::TypedRows::passed))]
 pub fn new_chunk(
     alloc: Global,
-    dtype: &DType,
     leaves: &Rc<Vec<LeafPath>>,
     lengths: &Rc<Vec<usize>>,
-    rows: Vec<ScalarValue>,
+    array: ArrayRef,
 ) -> Result<Chunk, AllocError>
-    requires { length lengths.now.value.items ≡ length leaves.now.value.items }
-    ensures rows { IfOk result (λ chunk. chunk.rows.items ≡ rows.items) }
+    requires lengths { length lengths.now.value.items ≡ length leaves.now.value.items }
+    requires leaves { leaves.now.value.items ≡ leaf_positions (array_type_of array) }
+    ensures array { IfOk result (λ chunk. chunk.array ≡ array) }
     ensures leaves { IfOk result (λ chunk. chunk.leaves.value.items ≡ leaves.now.value.items) }
     ensures lengths { IfOk result (λ chunk. chunk.lengths.value.items ≡ lengths.now.value.items) }
-    ensures sums { IfOk result (λ chunk.
-        IsTrue (are_sums_of (type_of dtype.now) chunk.leaves.value.items chunk.bounds.items)) }
+    ensures sums { IfOk result (λ chunk. IsTrue
+        (are_sums_of (array_type_of array) chunk.leaves.value.items chunk.bounds.items)) }
 {
-    let bounds = all_bounds(alloc, dtype, &rows, leaves, lengths)?;
+    let bounds = all_bounds(alloc, &array, leaves, lengths)?;
     let leaves = leaves.clone()?;
     let lengths = lengths.clone()?;
+    // Both tell the proof that the rows are of the array's type.
+    let _ = array.len();
+    tests_of_validity_are_right();
     Ok(Chunk {
-        rows,
+        array,
         leaves,
         lengths,
         bounds,

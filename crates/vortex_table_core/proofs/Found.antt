@@ -1,8 +1,10 @@
 -- What a scan takes of a chunk.
-use Rattle.std.proofs.Common.{◌≡◌, sym, ◌∙◌, ap, List, [], map, filter, get_or, true, IsTrue}
-use Rattle.std.specs.List.{list_all}
-use Rattle.vortex_model.specs.LogicalType.{LogicalType}
-use Rattle.vortex_model.specs.Content.{Content}
+use Rattle.std.proofs.Common.{◌≡◌, sym, ◌∙◌, ap, subst, refl, ℕ, zero, suc, ◌+◌, List, [], map, filter, true, false, None, IsTrue}
+use Rattle.std.specs.List.{AllByRecursion, list_all, range_with_len}
+use Rattle.vortex_model.specs.LogicalType.{LogicalType, struct, non_nullable}
+use Rattle.vortex_model.specs.Content.{Content, raw_null}
+use Rattle.vortex_model.specs.Kept.{type_fault}
+use Rattle.vortex_model.specs.Path.{Names}
 use Rattle.vortex_model.specs.Valid.{valid}
 use Rattle.vortex_model.specs.Table.{bound_length}
 use Rattle.vortex_model.specs.Truth.{selects, is_true}
@@ -11,11 +13,14 @@ use Rattle.vortex_model.specs.Scan as model
 use Rattle.vortex_model.specs.Scan.{skipped, whole, tested, chunk_outcome}
 use Rattle.vortex_model.specs.Pruning.{found_in}
 use Rattle.vortex_model.proofs.Accepted.{accepted_truth}
+use Rattle.vortex_model.proofs.ContentOrder.{true_left, true_right}
 use Rattle.vortex_model.proofs.Honesty.{sound_falsifier}
 use Rattle.vortex_model.proofs.Skipping.{FalsifiesRightly, found_rightly}
-use Rattle.vortex_scalar_value.specs.View.{raw_of}
-use Rattle.vortex_scalar_value.specs.declared.scalar_value.ScalarValue.{ScalarValue}
+use Rattle.vortex_arrays_model.specs.Layout.{Layout, len_of, array_type_of, content_at, rows_of}
+use Rattle.vortex_arrays_core.specs.RawRows.{raw_row}
+use Rattle.vortex_arrays_core.proofs.RawRowsLemmas.{says}
 use Rattle.vortex_table_chunk.specs.Chunk.{chunk_rows}
+use Rattle.vortex_table_chunk.specs.Rows.{are_rows_valid}
 use Rattle.vortex_table_schema.specs.Cut.{content_cut, kept_by, raw_cut}
 use Rattle.vortex_table_core.specs.Plan.{IsPlan, table_in, paths_in, predicate_in}
 use Rattle.vortex_table_core.specs.Progress.{found_rows}
@@ -23,35 +28,58 @@ use Rattle.vortex_table_core.specs.Selected.{is_selected, cut_rows, selected_row
 use Rattle.vortex_table_chunk.specs.Formed.{is_formed}
 use Rattle.vortex_table_chunk.specs.declared.chunk.Chunk.{Chunk}
 use Rattle.vortex_table_core.specs.declared.plan.Scan.{Scan}
-use Rattle.vortex_table_schema.proofs.Cuts.{cut_is_valid}
-use Rattle.vortex_table_chunk.proofs.Formed.{valid_rows as formed_rows}
-use Rattle.vortex_table_chunk.proofs.TypedRows.{list_all_at, rows_said}
-use Rattle.vortex_table_core.proofs.Rows.{kept_each, kept_all}
+use Rattle.vortex_table_schema.proofs.Cuts.{cut_is_valid, cut_is_kept}
+use Rattle.vortex_table_check.proofs.Explained.{none_so}
+use Rattle.vortex_table_chunk.proofs.Formed.{of_type}
+use Rattle.vortex_table_chunk.proofs.TypedRows.{formed_said}
+use Rattle.vortex_table_core.proofs.Rows.{IsCut, kept_each, kept_all}
 
 -- the falsifier of the predicate may be believed
 pub sound_of : (plan : Scan) → IsPlan plan → FalsifiesRightly (table_in plan).kind (predicate_in plan)
 sound_of plan is = λ proof made.
     sound_falsifier (table_in plan).kind (predicate_in plan) proof (accepted_truth (table_in plan).kind (predicate_in plan) is.faultless) is.formed made
 
+no_null : (k : LogicalType) → type_fault k ≡ None → valid k raw_null ≡ false
+no_null (struct fs non_nullable) h = refl
+no_null k h = absurd (cc h)
+
+-- what paths ask for of the rows of an array whose rows are values of its type
+module _ (k : LogicalType) (paths : List Names) (a : Layout) (same : array_type_of a ≡ k) where
+  row_cut : (i : ℕ) → valid (array_type_of a) (raw_row a i) ≡ true → IsCut k paths (content_at a i)
+  row_cut i h = subst (IsCut k paths) (says a i) (cut_is_kept paths k (raw_row a i) (ap (λ t. valid t (raw_row a i)) (sym same) ∙ h))
+
+  each_cut : (from n : ℕ) → list_all (λ i. valid (array_type_of a) (raw_row a i)) (range_with_len from n) ≡ true → AllByRecursion (IsCut k paths) (map (content_at a) (range_with_len from n))
+  each_cut from zero h = tt
+  each_cut from (suc n) h =
+      let behind = list_all (λ i. valid (array_type_of a) (raw_row a i)) (range_with_len (from + 1) n) in
+      (row_cut from (true_left (valid (array_type_of a) (raw_row a from)) behind h), each_cut (from + 1) n (true_right (valid (array_type_of a) (raw_row a from)) behind h))
+
+  pub rows_cut : are_rows_valid a ≡ true → AllByRecursion (IsCut k paths) (rows_of a)
+  rows_cut h = each_cut 0 (len_of a) h
+
 module _ (plan : Scan) (is : IsPlan plan) (chunk : Chunk) (formed : IsTrue (is_formed (bound_length (table_in plan)) (table_in plan).kind chunk)) where
   abbrev k : LogicalType
   k = (table_in plan).kind
 
-  abbrev rows : List ScalarValue
-  rows = chunk.rows.items
+  same_type : array_type_of chunk.array ≡ k
+  same_type = of_type (bound_length (table_in plan)) k chunk formed
 
-  abbrev valid_rows : list_all (λ row. valid k (raw_of row)) rows ≡ true
-  valid_rows = formed_rows (bound_length (table_in plan)) k chunk formed
+  pub can_be_cut : CanBeCut plan.prepared.now.cut (array_type_of chunk.array)
+  can_be_cut r h =
+      (λ j. valid (is.cut_kind j) (raw_cut (is.cut_values j) r))
+      ∙ cut_is_valid (paths_in plan) k r (ap (λ t. valid t r) (sym same_type) ∙ h)
 
-  pub can_be_cut : CanBeCut plan.prepared.now.cut rows
-  can_be_cut i d inside =
-      (λ j. valid (is.cut_kind j) (raw_cut (is.cut_values j) (raw_of (get_or rows i d))))
-      ∙ cut_is_valid (paths_in plan) k (raw_of (get_or rows i d)) (list_all_at (λ row. valid k (raw_of row)) rows i d valid_rows inside)
+  -- the rows are records, and so never null
+  pub never_null : valid (array_type_of chunk.array) raw_null ≡ false
+  never_null = ap (λ t. valid t raw_null) same_type ∙ no_null k (none_so (type_fault k) plan.table.now.kept)
+
+  all_cut : AllByRecursion (IsCut k (paths_in plan)) (chunk_rows chunk)
+  all_cut = rows_cut k (paths_in plan) chunk.array same_type chunk.typed
 
   found_by : (o : model.Outcome) → o ≡ chunk_outcome (table_in plan) (predicate_in plan) (chunk_rows chunk) →
       found_rows k (paths_in plan) (predicate_in plan) (chunk_rows chunk) ≡ map (cut_row (paths_in plan) k) (found_in (selects k (predicate_in plan)) o (chunk_rows chunk))
   found_by o e =
-      ap (map (cut_row (paths_in plan) k)) (found_rightly (table_in plan) (predicate_in plan) (sound_of plan is) (chunk_rows chunk) (rows_said k rows valid_rows)
+      ap (map (cut_row (paths_in plan) k)) (found_rightly (table_in plan) (predicate_in plan) (sound_of plan is) (chunk_rows chunk) (formed_said (bound_length (table_in plan)) k chunk formed)
       ∙ ap (λ p. found_in (selects k (predicate_in plan)) p (chunk_rows chunk)) (sym e))
 
   pub none_found : skipped ≡ chunk_outcome (table_in plan) (predicate_in plan) (chunk_rows chunk) → found_rows k (paths_in plan) (predicate_in plan) (chunk_rows chunk) ≡ []
@@ -59,7 +87,7 @@ module _ (plan : Scan) (is : IsPlan plan) (chunk : Chunk) (formed : IsTrue (is_f
 
   pub all_found : whole ≡ chunk_outcome (table_in plan) (predicate_in plan) (chunk_rows chunk) →
       cut_rows plan.prepared.now.cut (chunk_rows chunk) ≡ found_rows k (paths_in plan) (predicate_in plan) (chunk_rows chunk)
-  all_found e = ap (λ t. map (content_cut t) (chunk_rows chunk)) is.cut_values ∙ kept_all k (paths_in plan) rows valid_rows ∙ sym (found_by whole e)
+  all_found e = ap (λ t. map (content_cut t) (chunk_rows chunk)) is.cut_values ∙ kept_all k (paths_in plan) (chunk_rows chunk) all_cut ∙ sym (found_by whole e)
 
   eq_test : (row : Content) → is_selected plan.prepared.now.bound row ≡ selects k (predicate_in plan) row
   eq_test row = ap is_true (is.bound row)
@@ -68,4 +96,4 @@ module _ (plan : Scan) (is : IsPlan plan) (chunk : Chunk) (formed : IsTrue (is_f
   some_found =
       ap (λ t. map (content_cut t) (selected_rows plan.prepared.now.bound (chunk_rows chunk))) is.cut_values
       ∙ (λ j. map (content_cut (kept_by (paths_in plan) k)) (filter (λ row. eq_test row j) (chunk_rows chunk)))
-      ∙ kept_each k (paths_in plan) (selects k (predicate_in plan)) rows valid_rows
+      ∙ kept_each k (paths_in plan) (selects k (predicate_in plan)) (chunk_rows chunk) all_cut

@@ -17,8 +17,6 @@ use Rattle.vortex_model.specs.Pruning.{found_in}
 use Rattle.vortex_model.specs.Scan.{Outcome, ScanAnswer, skipped_in_group, chunk_outcome, group_outcomes, grouped, is_many, is_skipped, is_whole, is_in_group, one_if, numbers, tested_lengths, saturated, scanned}
 use Rattle.vortex_model.proofs.ContentOrder.{true_left, true_right}
 use Rattle.vortex_model.proofs.GroupSkipping.{none_lost}
-use Rattle.vortex_model.proofs.Held.{can_hold}
-use Rattle.vortex_table_schema.specs.Rows.{row_content}
 use Rattle.vortex_table_chunk.specs.Chunk.{chunk_rows}
 use Rattle.vortex_table_chunk.specs.declared.chunk.Chunk.{Chunk}
 use Rattle.vortex_table_core.specs.Group.{IsGroup, AreGroups, chunks_of}
@@ -31,7 +29,7 @@ use Rattle.vortex_table_check.proofs.Explained.{none_so}
 use Rattle.vortex_table_chunk.proofs.Formed.{some_rows}
 use Rattle.vortex_table_core.proofs.Found.{sound_of}
 use Rattle.vortex_table_core.proofs.Progress.{count_first, saturated_once, rows_after, kind_after, skipped_after, whole_after, tested_after, proofs_after, whole_answer}
-use Rattle.vortex_table_chunk.proofs.TypedRows.{all_said}
+use Rattle.vortex_table_chunk.proofs.TypedRows.{all_said, chunk_counted}
 use Rattle.vortex_table_chunk.proofs.TypedRows.{list_all_at}
 
 -- ---- lists
@@ -122,7 +120,7 @@ none_taken p (chunk ∷ chunks) = none_taken p chunks
 all_some : (L : Positions → ℕ) (k : LogicalType) (chunks : List Chunk) → list_all (is_formed L k) chunks ≡ true → AllByRecursion (λ chunk. 0 < length chunk) (map chunk_rows chunks)
 all_some L k [] h = tt
 all_some L k (c ∷ chunks) h = (
-  (let some = some_rows L k c (true_left (is_formed L k c) (list_all (is_formed L k) chunks) h) in let same = length-map c.rows.items row_content in omega (arith, some, same)),
+  (let some = some_rows L k c (true_left (is_formed L k c) (list_all (is_formed L k) chunks) h) in let same = chunk_counted c in omega (arith, some, same)),
   all_some L k chunks (true_right (is_formed L k c) (list_all (is_formed L k) chunks) h),
 )
 
@@ -151,7 +149,7 @@ module _ (plan : Scan) (is : IsPlan plan) (chunks : List Chunk) (formed : list_a
 
   is_table : 0 < length rows → IsTable alone
   is_table some = record {
-    holds = can_hold table.kind (none_so _ plan.table.now.kept);
+    holds = none_so _ plan.table.now.kept;
     rows = all_said (bound_length table) table.kind chunks formed;
     not_empty = all_some (bound_length table) table.kind chunks formed;
     positive = (some, tt);

@@ -75,11 +75,11 @@ module _ (k : LogicalType) (L : Positions → ℕ) (chunks : List Chunk) where
       let here : is_formed L k c ≡ true = ap (is_formed L k) is ∙ list_all_at (is_formed L k) chunks g.first c formed inside in
       let alone : chunks_of chunks g ≡ c ∷ [] =
       ap (take g.chunks) (drop-cons chunks g.first c inside ∙ ap (λ x. x ∷ drop (suc g.first) chunks) (sym is)) ∙ one_left g.chunks c (drop (suc g.first) chunks) (count ∙ own) in
-      let honest : AreBoundsOf (map L (leaf_positions k)) (leaf_positions k) c.bounds.items c.rows.items =
-      subst (λ ns. AreBoundsOf ns (leaf_positions k) c.bounds.items c.rows.items) (as_long L k c here)
-      (subst (λ ls. AreBoundsOf c.lengths.value.items ls c.bounds.items c.rows.items) (led L k c here) c.honest) in
+      let honest : AreBoundsOf (map L (leaf_positions k)) (leaf_positions k) c.bounds.items (chunk_rows c) =
+      subst (λ ns. AreBoundsOf ns (leaf_positions k) c.bounds.items (chunk_rows c)) (as_long L k c here)
+      (subst (λ ls. AreBoundsOf c.lengths.value.items ls c.bounds.items (chunk_rows c)) (led L k c here) c.honest) in
       subst (λ cs. AreJoined k L (leaf_positions k) c.bounds.items (map chunk_rows cs)) (sym alone)
-      (chunk_joined k L c.rows.items (all_said L k (c ∷ []) (λ i. here i && true)).0 (leaf_positions k) c.bounds.items honest
+      (chunk_joined k L (chunk_rows c) (all_said L k (c ∷ []) (λ i. here i && true)).0 (leaf_positions k) c.bounds.items honest
       (ap (λ ls. are_sums_of k ls c.bounds.items) (sym (led L k c here)) ∙ summed L k c here))
 
   -- ---- two as one

@@ -1,6 +1,6 @@
 pub mod Added
+pub mod Appended
 pub mod Counts
-pub mod DescribedBounds
 pub mod Found
 pub mod JoinedGroups
 pub mod Progress
@@ -9,6 +9,7 @@ pub mod PushedGroups
 pub mod Rows
 pub mod Groups
 pub mod OwnType
+pub mod Rearrayed
 pub mod Regrouped
 pub mod Taken
 pub mod Described

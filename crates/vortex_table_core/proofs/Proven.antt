@@ -1,11 +1,10 @@
 -- What becomes of a chunk and of a group, by what their bounds prove.
 use Rattle.std.proofs.Common.{◌≡◌, refl, sym, ◌∙◌, ap, subst, ℕ, ◌<◌, nat_lt, List, length, map, Bool, true, false, ◌&&◌, Option, Some, None, IsTrue, if◌then◌else◌, arith}
 use Rattle.std.specs.Prelude.{is_some}
-use Rattle.std.specs.List.{AllByRecursion, list_all}
+use Rattle.std.specs.List.{list_all}
 use Rattle.std.proofs.lemmas.Bool.Decides.{nat_tests}
 use Rattle.std.proofs.lemmas.List.{length-map}
 use Rattle.vortex_model.specs.Content.{Content}
-use Rattle.vortex_model.specs.Valid.{IsContent}
 use Rattle.vortex_model.specs.Refusal.{Refusal, not_boolean, or_else}
 use Rattle.vortex_model.specs.Expression.{Expression}
 use Rattle.vortex_model.specs.Typing.{expression_type}
@@ -13,6 +12,7 @@ use Rattle.vortex_model.specs.Rewrite.{falsifier, satisfier}
 use Rattle.vortex_model.specs.Table.{Table, bound_length}
 use Rattle.vortex_model.specs.Scan.{proves, is_many, chunk_zone, group_zone, chunk_outcome, skipped, whole, tested}
 use Rattle.vortex_model.specs.Command.{expression_fault, unless, is_boolean}
+use Rattle.vortex_arrays_model.specs.Layout.{len_of}
 use Rattle.vortex_table_schema.specs.Leaves.{leaf_positions}
 use Rattle.vortex_table_chunk.specs.Chunk.{chunk_rows}
 use Rattle.vortex_stats_bind.specs.Bound.{Bound}
@@ -28,8 +28,8 @@ use Rattle.vortex_table_core.specs.Progress.{is_group_skipped}
 use Rattle.vortex_table_chunk.specs.Formed.{is_formed}
 use Rattle.vortex_table_core.specs.declared.group.Group.{Group}
 use Rattle.vortex_table_core.specs.declared.plan.Scan.{Scan}
-use Rattle.vortex_table_chunk.proofs.Formed.{valid_rows, led, as_long}
-use Rattle.vortex_table_chunk.proofs.TypedRows.{rows_said, all_said}
+use Rattle.vortex_table_chunk.proofs.Formed.{led, as_long}
+use Rattle.vortex_table_chunk.proofs.TypedRows.{all_said}
 
 is_more : (n : ℕ) → 1 < n → nat_lt 1 n ≡ true
 is_more n h = grind (arith, nat_tests, h)
@@ -45,9 +45,6 @@ module _ (plan : Scan) (is : IsPlan plan) (chunk : Chunk) (formed : IsTrue (is_f
   abbrev e : Expression
   e = predicate_in plan
 
-  of_type : AllByRecursion (IsContent t.kind) (chunk_rows chunk)
-  of_type = rows_said t.kind chunk.rows.items (valid_rows (bound_length t) t.kind chunk formed)
-
   led_so : chunk.leaves.value.items ≡ leaf_positions t.kind
   led_so = led (bound_length t) t.kind chunk formed
 
@@ -59,20 +56,20 @@ module _ (plan : Scan) (is : IsPlan plan) (chunk : Chunk) (formed : IsTrue (is_f
 
   -- what is proved by the chunk's bounds
   abbrev pub proved : Option Bound → Bool
-  proved proof = proved_in (zone_provided (leaf_positions t.kind) chunk.bounds.items (length chunk.rows.items)) proof
+  proved proof = proved_in (zone_provided (leaf_positions t.kind) chunk.bounds.items (len_of chunk.array)) proof
 
   of_table : (proof : Option Bound) → proved proof ≡ proved_in (chunk_provided chunk) proof
-  of_table proof = ap (λ leaves. proved_in (zone_provided leaves chunk.bounds.items (length chunk.rows.items)) proof) (sym led_so)
+  of_table proof = ap (λ leaves. proved_in (zone_provided leaves chunk.bounds.items (len_of chunk.array)) proof) (sym led_so)
 
   falsified_alike : proved plan.prepared.now.proofs.falsifier ≡ proves (chunk_zone t (chunk_rows chunk)) (length (chunk_rows chunk)) (falsifier t.kind e)
   falsified_alike =
       of_table plan.prepared.now.proofs.falsifier
-      ∙ chunk_falsified t chunk of_type led_so long_so e plan.prepared.now.proofs.falsifier is.falsifier no_fault
+      ∙ chunk_falsified t chunk led_so long_so e plan.prepared.now.proofs.falsifier is.falsifier no_fault
 
   satisfied_alike : proved plan.prepared.now.proofs.satisfier ≡ proves (chunk_zone t (chunk_rows chunk)) (length (chunk_rows chunk)) (satisfier t.kind e)
   satisfied_alike =
       of_table plan.prepared.now.proofs.satisfier
-      ∙ chunk_satisfied t chunk of_type led_so long_so e plan.prepared.now.proofs.satisfier is.satisfier no_fault
+      ∙ chunk_satisfied t chunk led_so long_so e plan.prepared.now.proofs.satisfier is.satisfier no_fault
 
   pub outcome_by : (b c : Bool) → b ≡ proved plan.prepared.now.proofs.falsifier → c ≡ proved plan.prepared.now.proofs.satisfier →
       (if b then skipped else (if c then whole else tested)) ≡ chunk_outcome t e (chunk_rows chunk)

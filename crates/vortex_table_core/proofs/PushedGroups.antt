@@ -1,11 +1,12 @@
 -- One more chunk in a group of its own.
 use Rattle.std.proofs.Common.{◌≡◌, refl, sym, ap, subst, ℕ, zero, suc, ◌+◌, ◌≤◌, List, [], ◌∷◌, ◌++◌, length, take, drop, None, option_map, arith}
-use Rattle.std.proofs.lemmas.List.{length-map, length-drop, length-take}
+use Rattle.std.proofs.lemmas.List.{length-drop, length-take}
 use Rattle.vortex_model.specs.LogicalType.{LogicalType}
 use Rattle.vortex_model.specs.Path.{Positions}
-use Rattle.vortex_table_schema.specs.Rows.{row_content}
+use Rattle.vortex_arrays_model.specs.Layout.{len_of}
 use Rattle.vortex_table_chunk.specs.Chunk.{chunk_rows}
 use Rattle.vortex_table_chunk.specs.declared.chunk.Chunk.{Chunk}
+use Rattle.vortex_table_chunk.proofs.TypedRows.{chunk_counted}
 use Rattle.vortex_table_core.specs.Group.{HasStatistics, IsGroup, AreGroups}
 use Rattle.vortex_table_core.specs.declared.group.Group.{Group}
 
@@ -19,14 +20,14 @@ drop_front zero xs ys h = refl
 drop_front (suc n) [] ys h = absurd (omega (arith, h))
 drop_front (suc n) (x ∷ xs) ys h = drop_front n xs ys (omega (arith, h))
 
-module _ (k : LogicalType) (L : Positions → ℕ) (g : Group) (c : Chunk) (one : g.chunks ≡ 1) (rows : g.rows ≡ length c.rows.items) (own : option_map (λ v. v.items) g.joined ≡ None) where
+module _ (k : LogicalType) (L : Positions → ℕ) (g : Group) (c : Chunk) (one : g.chunks ≡ 1) (rows : g.rows ≡ len_of c.array) (own : option_map (λ v. v.items) g.joined ≡ None) where
   alone : IsGroup k L g (take g.chunks (c ∷ []))
   alone =
       let front : take g.chunks (c ∷ []) ≡ c ∷ [] = ap (λ n. take n (c ∷ [])) one in
       subst (λ cs. IsGroup k L g cs) (sym front) (record {
         count = sym one;
         some = omega (arith, one);
-        rows = (let n : ℕ = length (chunk_rows c) in let same : n ≡ length c.rows.items = length-map c.rows.items row_content in let h : 0 + n ≡ g.rows = omega (arith, same, rows) in h);
+        rows = (let n : ℕ = length (chunk_rows c) in let same : n ≡ len_of c.array = chunk_counted c in let h : 0 + n ≡ g.rows = omega (arith, same, rows) in h);
         statistics = subst (λ o. HasStatistics k L o (c ∷ [])) (sym own) refl;
       })
 

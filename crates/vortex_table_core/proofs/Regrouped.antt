@@ -1,9 +1,11 @@
 -- The groups of a table whose chunks are converted.
-use Rattle.std.proofs.Common.{◌≡◌, refl, sym, ◌∙◌, ap, subst, ℕ, ◌+◌, ◌-◌, ◌<◌, nat_lt, List, [], ◌∷◌, ◌++◌, length, map, take, drop, get_or, true, Option, Some, None, option_map, arith}
+use Rattle.std.proofs.Common.{◌≡◌, refl, sym, ◌∙◌, ap, subst, ℕ, ◌+◌, ◌-◌, ◌<◌, ◌≤◌, nat_lt, List, [], ◌∷◌, ◌++◌, length, map, take, drop, get_or, true, Option, Some, None, option_map, arith}
 use Rattle.std.specs.Prelude.{is_some}
 use Rattle.std.proofs.Math.Logic.{∥∥₁_map}
 use Rattle.std.proofs.lemmas.Bool.Decides.{nat_tests}
-use Rattle.std.proofs.lemmas.List.{length-map, take_more}
+use Rattle.std.proofs.lemmas.List.{length-map, take_more, take-append-drop}
+use Rattle.std.proofs.lemmas.List.Sums.{sum_by-append}
+use Rattle.vortex_arrays_model.specs.Layout.{len_of}
 use Rattle.vortex_model.specs.LogicalType.{LogicalType}
 use Rattle.vortex_model.specs.Path.{Positions}
 use Rattle.vortex_table_chunk.specs.Chunk.{chunk_rows, row_count}
@@ -115,3 +117,13 @@ many_so n h = grind (arith, nat_tests, h)
 
 pub own_many : (g : Group) (chunks : List Chunk) → IsSizeOf g (map chunk_rows (chunks_of chunks g)) → is_some g.joined ≡ true → 1 < length (chunks_of chunks g)
 own_many g chunks size h = subst (λ n. 1 < n) (length-map (chunks_of chunks g) chunk_rows) (many_so (length (map chunk_rows (chunks_of chunks g))) (sym size.many ∙ h))
+
+-- ---- how many rows a part of the chunks has
+
+both_parts : (n : ℕ) (chunks : List Chunk) → row_count chunks ≡ row_count (take n chunks) + row_count (drop n chunks)
+both_parts n chunks = ap row_count (sym (take-append-drop n chunks)) ∙ sum_by-append (λ (c : Chunk). len_of c.array) (take n chunks) (drop n chunks)
+
+pub few_within : (n from : ℕ) (chunks : List Chunk) → row_count (take n (drop from chunks)) ≤ row_count chunks
+few_within n from chunks =
+    let whole = both_parts from chunks in let part = both_parts n (drop from chunks) in
+    omega (arith, whole, part)

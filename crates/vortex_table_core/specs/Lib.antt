@@ -1,5 +1,5 @@
 pub mod Append
-pub mod Described
+pub mod Arrays
 pub mod Group
 pub mod Outcome
 pub mod Plan
@@ -7,3 +7,5 @@ pub mod Progress
 pub mod Retyped
 pub mod Selected
 pub mod TableView
+pub mod Totals
+pub mod WithArrays

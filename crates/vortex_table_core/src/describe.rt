@@ -1,6 +1,5 @@
 //! Descriptions of columns of groups.
 
-use crate::description::description_of;
 use crate::table::Table;
 use std::alloc::Global;
 use vortex_dtype_path::path::FieldPath;
@@ -9,6 +8,7 @@ use vortex_table_check::error::TableError;
 use vortex_table_check::leaf::leaf_at;
 use vortex_table_chunk::chunk::bounds_at;
 use vortex_table_chunk::zones::bounds::ColumnBounds;
+use vortex_table_description::describe::description_of;
 use vortex_table_schema::description::Description;
 
 impl Table {

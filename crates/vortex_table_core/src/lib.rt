@@ -1,8 +1,8 @@
 //! Tables of rows in chunks, and scans that skip chunks.
 #![tactic(auto)]
 
+pub mod arrays;
 mod describe;
-mod description;
 mod group;
 pub mod join;
 mod make;

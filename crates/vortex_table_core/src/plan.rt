@@ -95,7 +95,7 @@ impl Scan<'_> {
             (predicate_in self.now) (chunk_rows chunk.now) }
     {
         let bounds = chunk.bounds.as_slice();
-        let rows = chunk.rows.len();
+        let rows = chunk.array.len();
         let falsified = self.proves(bounds, rows, &self.prepared.proofs.falsifier);
         if falsified {
             return Pruning::Skip;
@@ -144,7 +144,7 @@ impl Scan<'_> {
         match outcome {
             Pruning::Skip => Ok(()),
             Pruning::TakeAll => {
-                take_rows(alloc, &self.prepared.cut, &chunk.rows, found)?;
+                take_rows(alloc, &self.prepared.cut, &chunk.array, found)?;
                 Ok(())
             }
             Pruning::Filter => {
@@ -152,7 +152,7 @@ impl Scan<'_> {
                     alloc,
                     &self.prepared.cut,
                     &self.prepared.bound,
-                    &chunk.rows,
+                    &chunk.array,
                     found,
                 )?;
                 Ok(())
@@ -207,7 +207,7 @@ fn tested_rows(outcome: Pruning, chunk: &Chunk) -> u64
     ensures { result ≡ tested_rows (outcome_of outcome) (chunk_rows chunk.now) }
 {
     match outcome {
-        Pruning::Filter => chunk.rows.len() as u64,
+        Pruning::Filter => chunk.array.len() as u64,
         Pruning::Skip => 0,
         Pruning::TakeAll => 0,
     }

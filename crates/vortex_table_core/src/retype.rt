@@ -67,7 +67,7 @@ fn regroup(
 }
 
 impl Table {
-    ghost use Rattle.std.specs.Prelude.{◌≡◌, None, map, IfOk, OnOk, IfErr, OnErr, IsTrue};
+    ghost use Rattle.std.specs.Prelude.{◌≡◌, Some, None, map, IfOk, OnOk, IfErr, OnErr, IsErrOf, IsTrue};
     ghost use Rattle.std.specs.List.{list_all};
     ghost use Rattle.vortex_model.specs.Kept.{type_fault};
     ghost use Rattle.vortex_model.specs.Table.{rows_of};
@@ -76,11 +76,14 @@ impl Table {
     ghost use Rattle.vortex_table_schema.specs.Leaves.{leaf_positions};
     ghost use Rattle.vortex_table_check.specs.Error.{Explains};
     ghost use Rattle.vortex_table_check.specs.Lengths.{length_in};
+    ghost use Rattle.vortex_table_check.specs.declared.error.TableError.TheVariants.{Total};
     ghost use Rattle.vortex_table_chunk.specs.Chunk.{chunk_rows};
     ghost use Rattle.vortex_table_chunk.specs.Formed.{is_formed};
     ghost use Rattle.vortex_table_retype.specs.Retyping.{target_of, lengths_of};
     ghost use Rattle.vortex_table_core.specs.Retyped.{AreRegrouped};
+    ghost use Rattle.vortex_table_retype.specs.TooLarge.{AnyTooLarge};
     ghost use Rattle.vortex_table_core.specs.TableView.{table_of};
+    ghost use Rattle.vortex_table_core.specs.Totals.{PassesTotal};
 
     // The groups with the statistics of the converted chunks.
     fn regrouped(
@@ -124,8 +127,11 @@ impl Table {
             (length_in self.now.bound_lengths) parts.0.items self.now.groups.items parts.1.items) }
         ensures converts { OnOk result (first_unconvertible 0 (table_of self.now).kind
             (type_of dtype.now) (rows_of (table_of self.now)) ≡ None) }
-        ensures refused { IfErr result (λ e. Explains ⊥ (first_unconvertible 0
+        ensures refused { IfErr result (λ e. Explains
+            (AnyTooLarge (type_of dtype.now) (table_of self.now).chunks) (first_unconvertible 0
             (table_of self.now).kind (type_of dtype.now) (rows_of (table_of self.now))) e) }
+        ensures total { IsErrOf result Total → first_unconvertible 0 (table_of self.now).kind
+            (type_of dtype.now) (rows_of (table_of self.now)) ≡ None }
     {
         // Tells the proof that the rows can be counted.
         let _ = self.len();
@@ -148,14 +154,18 @@ impl Table {
     ///
     /// Refused, in this order: where a table can't hold the type, `NotARecord`, `RepeatedName`,
     /// `UnkeptType`; `NotConvertible` with the first row that the type can't hold, counted over the
-    /// whole table.
+    /// whole table; `Total` where a column of a chunk, laid out plain, has texts or bytes that are
+    /// too large for views and buffers.
     pub fn retype(&mut self, dtype: DType) -> Result<(), TableError>
         ensures retyped { OnOk result
             (table_of self.new ≡ after (table_of self.old) (retype (type_of dtype))) }
         ensures accepted { OnOk result
             (refusal (table_of self.old) (retype (type_of dtype)) ≡ None) }
         ensures refused { IfErr result
-            (λ e. Explains ⊥ (refusal (table_of self.old) (retype (type_of dtype))) e) }
+            (λ e. Explains (PassesTotal (Some (table_of self.old)) (retype (type_of dtype)))
+            (refusal (table_of self.old) (retype (type_of dtype))) e) }
+        ensures total { IsErrOf result Total
+            → refusal (table_of self.old) (retype (type_of dtype)) ≡ None }
         ensures unchanged { OnErr result (self.new ≡ self.old) }
         ensures equal { type_of dtype ≡ (table_of self.old).kind → self.new ≡ self.old }
     {

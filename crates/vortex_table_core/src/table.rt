@@ -13,6 +13,8 @@ use crate::group::Group;
 use std::alloc::Global;
 use std::borrow::CowSlice;
 use std::rc::Rc;
+use vortex_arrays_buffer::error::ArrayError;
+use vortex_arrays_core::array::ArrayRef;
 use vortex_dtype_core::dtype::DType;
 use vortex_dtype_path::path::FieldPath;
 use vortex_scalar_value::scalar_value::ScalarValue;
@@ -21,6 +23,7 @@ use vortex_table_check::check::check_type;
 use vortex_table_check::error::TableError;
 use vortex_table_check::lengths::{BoundLengths, check_lengths};
 use vortex_table_chunk::chunk::{Chunk, new_chunk};
+use vortex_table_layout::lay_out::lay_out;
 use vortex_table_schema::layout::Layout;
 use vortex_table_schema::leaves::{LeafPath, leaf_positions};
 
@@ -51,13 +54,17 @@ pub struct Table {
 impl Table {
     ghost use Rattle.std.specs.Prelude.{◌≡◌, ◌+◌, ◌^◌, ◌≤◌, [], None, length, map, IfOk, OnOk, IfErr, OnErr, IsTrue, ◌↔◌};
     ghost use Rattle.std.specs.Cow.{cow_slice_items};
-    ghost use Rattle.vortex_model.specs.Table.{rows_of};
+    ghost use Rattle.vortex_model.specs.Table.{rows_of as table_rows};
+    ghost use Rattle.vortex_arrays_model.specs.Layout.{len_of, array_type_of, rows_of};
     ghost use Rattle.vortex_model.specs.Valid.{valid};
     ghost use Rattle.vortex_model.specs.Command.{appended, create_fault, created};
     ghost use Rattle.vortex_dtype_core.specs.View.{type_of};
     ghost use Rattle.vortex_scalar_value.specs.View.{raw_of};
     ghost use Rattle.vortex_table_schema.specs.Rows.{row_content};
     ghost use Rattle.vortex_table_core.specs.Append.{Appends};
+    ghost use Rattle.vortex_table_core.specs.Arrays.{arrays_of, AddsArray};
+    ghost use Rattle.vortex_table_layout.specs.Hinted.{HasHintedColumns};
+    ghost use Rattle.vortex_table_layout.specs.TooLarge.{AreTooLarge};
     ghost use Rattle.vortex_table_check.specs.Error.{Explains};
     ghost use Rattle.vortex_table_check.specs.Lengths.{entries_in};
     ghost use Rattle.vortex_table_core.specs.TableView.{table_of};
@@ -100,20 +107,27 @@ impl Table {
     /// Converts the rows, each a value of the batch's type or null, to the table's type and keeps
     /// them as one new chunk. No rows make none. After an error the table is as before.
     ///
+    /// `layouts` has a hint for each column, in the order of the table's fields, of how it is to be
+    /// laid out: columns without one are plain, and hints behind the last column are ignored. So is
+    /// one that doesn't fit: a dictionary fits a column of truth values, integers, texts or bytes
+    /// with a value that is not null, a constant one whose rows are all equal.
+    ///
     /// Refused, in this order: where a table can't hold the batch's type; `InvalidValue` with the
     /// first row that isn't valid for it; `NotConvertible` with the first that the table's type
-    /// can't hold; `Total` where the rows would be more than `usize::MAX`.
+    /// can't hold; `Total` where the rows would be more than `usize::MAX`, or a column has texts or
+    /// bytes that are too large for views and buffers.
     pub fn append(
         &mut self,
         batch_dtype: &DType,
         values: &[Option<ScalarValue>],
         layouts: &[Layout],
     ) -> Result<(), TableError>
-        ensures { Appends (table_of self.old) (type_of batch_dtype.now) values.now result
+        ensures appends { Appends (table_of self.old) (type_of batch_dtype.now) values.now result
             (table_of self.new) }
+        ensures layout { OnOk result (AddsArray (HasHintedColumns layouts.now)
+            (arrays_of self.old) (arrays_of self.new)) }
     {
-        let _ = layouts;
-        self.append_rows(batch_dtype, CowSlice::Borrowed(values))
+        self.append_rows(batch_dtype, CowSlice::Borrowed(values), layouts)
     }
 
     /// As `append`, of rows that are handed over: each is freed once it is converted.
@@ -123,53 +137,83 @@ impl Table {
         values: Vec<Option<ScalarValue>>,
         layouts: &[Layout],
     ) -> Result<(), TableError>
-        ensures { Appends (table_of self.old) (type_of batch_dtype.now) values.items result
+        ensures appends { Appends (table_of self.old) (type_of batch_dtype.now) values.items result
             (table_of self.new) }
+        ensures layout { OnOk result (AddsArray (HasHintedColumns layouts.now)
+            (arrays_of self.old) (arrays_of self.new)) }
     {
-        let _ = layouts;
-        self.append_rows(batch_dtype, CowSlice::Owned(values))
+        self.append_rows(batch_dtype, CowSlice::Owned(values), layouts)
     }
 
     fn append_rows(
         &mut self,
         batch_dtype: &DType,
         values: CowSlice<'_, Option<ScalarValue>>,
+        layouts: &[Layout],
     ) -> Result<(), TableError>
-        ensures { Appends (table_of self.old) (type_of batch_dtype.now)
+        ensures appends { Appends (table_of self.old) (type_of batch_dtype.now)
             (cow_slice_items values.entry) result (table_of self.new) }
+        ensures layout { OnOk result (AddsArray (HasHintedColumns layouts.now)
+            (arrays_of self.old) (arrays_of self.new)) }
     {
         let alloc = *self.chunks.allocator();
         check_batch(alloc, batch_dtype, values.as_slice())?;
         let rows = convert_rows(alloc, batch_dtype, &self.dtype, values)?;
-        self.push_rows(alloc, rows)?;
+        let array = self.lay_out(alloc, &rows, layouts)?;
+        self.push_array(alloc, array)?;
         Ok(())
     }
 
-    // Keeps the rows, which are of the table's type, as one new chunk in a group of its own. No
-    // rows make none.
-    fn push_rows(&mut self, alloc: Global, rows: Vec<ScalarValue>) -> Result<(), TableError>
+    // The rows, which are of the table's type, as an array.
+    pub(crate) fn lay_out(
+        &self,
+        alloc: Global,
+        rows: &[ScalarValue],
+        layouts: &[Layout],
+    ) -> Result<ArrayRef, TableError>
         requires { IsTrue
-            (list_all (λ row. valid (type_of self.old.dtype) (raw_of row)) rows.items) }
+            (list_all (λ row. valid (type_of self.now.dtype) (raw_of row)) rows.now) }
+        ensures dtype { IfOk result (λ array. array_type_of array ≡ type_of self.now.dtype) }
+        ensures rows { IfOk result (λ array. rows_of array ≡ map row_content rows.now) }
+        ensures layout { IfOk result (λ array. HasHintedColumns layouts.now array) }
+        ensures refused { IfErr result (λ e. Explains
+            (AreTooLarge (type_of self.now.dtype) (map row_content rows.now)) None e) }
+    {
+        match lay_out(alloc, &self.dtype, rows, layouts) {
+            Ok(array) => Ok(array),
+            Err(ArrayError::Memory) => Err(TableError::Memory),
+            Err(ArrayError::Total) => Err(TableError::Total),
+            Err(_) => unreachable!(),
+        }
+    }
+
+    // Keeps the rows of the array, which is of the table's type, as one new chunk in a group of its
+    // own. No rows make none.
+    pub(crate) fn push_array(&mut self, alloc: Global, array: ArrayRef) -> Result<(), TableError>
+        requires { array_type_of array ≡ type_of self.old.dtype }
         ensures appended { OnOk result
-            (table_of self.new ≡ appended (table_of self.old) (map row_content rows.items)) }
+            (table_of self.new ≡ appended (table_of self.old) (rows_of array)) }
+        ensures array { OnOk result
+            (AddsArray (λ a. a ≡ array) (arrays_of self.old) (arrays_of self.new)) }
         ensures refused { IfErr result
-            (λ e. Explains (2 ^ 64 ≤ length (rows_of (table_of self.old)) + length rows.items) None
+            (λ e. Explains (2 ^ 64 ≤ length (table_rows (table_of self.old)) + len_of array) None
             e) }
         ensures unchanged { OnErr result (table_of self.new ≡ table_of self.old) }
     {
-        let Some(len) = self.len.checked_add(rows.len()) else {
+        let rows = array.len();
+        let Some(len) = self.len.checked_add(rows) else {
             return Err(TableError::Total);
         };
-        if rows.is_empty() {
+        if rows == 0 {
             return Ok(());
         }
         let group = Group {
             first: self.chunks.len(),
             chunks: 1,
-            rows: rows.len(),
+            rows,
             joined: None,
         };
-        let chunk = new_chunk(alloc, &self.dtype, &self.leaves, &self.lengths, rows)?;
+        let chunk = new_chunk(alloc, &self.leaves, &self.lengths, array)?;
         // Once there is room for its group, the chunk is the last that memory can be short of.
         self.groups.reserve(1)?;
         self.chunks.push(chunk)?;
@@ -187,14 +231,14 @@ impl Table {
 
     /// The number of rows.
     pub fn len(&self) -> usize
-        ensures { result ≡ length (rows_of (table_of self.now)) }
+        ensures { result ≡ length (table_rows (table_of self.now)) }
     {
         self.len
     }
 
     /// Whether there are no rows.
     pub fn is_empty(&self) -> bool
-        ensures { IsTrue result ↔ (rows_of (table_of self.now) ≡ []) }
+        ensures { IsTrue result ↔ (table_rows (table_of self.now) ≡ []) }
     {
         self.len == 0
     }

@@ -98,6 +98,19 @@ module _ {S : Type 0} {answers : Answers S (List ℕ)} where
     begins = join v w x rest g.texts (text ∷ []) g.written (e ∙ ap (λ (z : List ℕ). w ++ z) (one text));
   }
 
+  -- all was answered, and a part of what was gathered was written
+  pub FeedErr-gathered : {o m : S} {h p l v w x : List ℕ} (rest : List ℕ) → x ++ rest ≡ w → FeedOk answers o h p l v w m → FeedErr answers o h p v x
+  FeedErr-gathered {m = m} {l = l} rest e g = record {
+    done = g.done;
+    texts = g.texts;
+    final = m;
+    later = λ more. lines (l ++ more);
+    cut = g.cut;
+    replies = g.replies;
+    rest = rest;
+    begins = e ∙ g.written;
+  }
+
   -- one piece after another
   pub FeedOk-append : {o m n : S} {h p l q k u v w : List ℕ} → FeedOk answers o h p l u v m → FeedOk answers m l q k v w n → FeedOk answers o h (p ++ q) k u w n
   FeedOk-append {o} {m} {n} {h} {p} {l} {q} {k} {u} {v} {w} f g = record {

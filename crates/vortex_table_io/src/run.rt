@@ -13,6 +13,12 @@ use std::alloc::Global;
 // How much is read at a time, in bytes.
 const BLOCK_LENGTH: usize = 64 * 1024;
 
+// From so many bytes of gathered answers on, they are written before more is gathered.
+const GATHERED_LENGTH: usize = 64 * 1024;
+
+// From so many bytes on, an answer is written by itself.
+const LONG_LENGTH: usize = 16 * 1024;
+
 const DONE_LINE: &[u8] = b"{\"ok\":true}\n";
 
 const MEMORY_LINE: &[u8] = b"{\"error\":1,\"name\":\"Memory\"}\n";
@@ -111,12 +117,107 @@ fn answer_line<M: LineHandler, W: Sink>(
     write_all(writer, line_of(&response, out))
 }
 
-// Takes the next piece of the input, and answers each line that it completes.
+// Writes the gathered answers, which are none then, and an answer behind them.
+fn write_behind<W: Sink>(
+    gathered: &mut Vec<u8>,
+    writer: &mut W,
+    text: &[u8],
+) -> Result<(), RunError>
+    requires { W.has_failed writer.old ≡ false }
+    ensures ok { OnOk result (W.history writer.new ++ gathered.new.items
+        ≡ (W.history writer.old ++ gathered.old.items) ++ text.now) }
+    ensures fine { OnOk result (W.has_failed writer.new ≡ false) }
+    ensures part { OnErr result ((rest : List ℕ) × (W.history writer.new ++ rest
+        ≡ (W.history writer.old ++ gathered.old.items) ++ text.now)) }
+    ensures err { IfErr result (λ e. (e ≡ RunError.Write) × (W.has_failed writer.new ≡ true)) }
+{
+    write_all(writer, gathered)?;
+    gathered.clear();
+    write_all(writer, text)
+}
+
+// Adds an answer to the gathered ones. A long one is written at once, and so is one for which they
+// have no room; they go out before it.
+fn hand_out<W: Sink>(gathered: &mut Vec<u8>, writer: &mut W, text: &[u8]) -> Result<(), RunError>
+    requires { W.has_failed writer.old ≡ false }
+    ensures ok { OnOk result (W.history writer.new ++ gathered.new.items
+        ≡ (W.history writer.old ++ gathered.old.items) ++ text.now) }
+    ensures fine { OnOk result (W.has_failed writer.new ≡ false) }
+    ensures part { OnErr result ((rest : List ℕ) × (W.history writer.new ++ rest
+        ≡ (W.history writer.old ++ gathered.old.items) ++ text.now)) }
+    ensures err { IfErr result (λ e. (e ≡ RunError.Write) × (W.has_failed writer.new ≡ true)) }
+{
+    let is_short = text.len() < LONG_LENGTH && gathered.len() < GATHERED_LENGTH;
+    if is_short && gathered.extend_from_slice(text).is_ok() {
+        return Ok(());
+    }
+    write_behind(gathered, writer, text)
+}
+
+// Answers the line in the buffer, behind the gathered answers.
+fn gather_line<M: LineHandler, W: Sink>(
+    alloc: Global,
+    handler: &mut M,
+    buffer: &LineBuffer,
+    out: &mut Vec<u8>,
+    gathered: &mut Vec<u8>,
+    writer: &mut W,
+) -> Result<(), RunError>
+    requires { W.has_failed writer.old ≡ false }
+    ensures ok { OnOk result ((text : List ℕ)
+        × M.answers (M.view handler.old) buffer.now.line.bytes text (M.view handler.new)
+        × (W.history writer.new ++ gathered.new.items
+        ≡ (W.history writer.old ++ gathered.old.items) ++ with_lf text)) }
+    ensures fine { OnOk result (W.has_failed writer.new ≡ false) }
+    ensures part { OnErr result ((text rest : List ℕ)
+        × M.answers (M.view handler.old) buffer.now.line.bytes text (M.view handler.new)
+        × (W.history writer.new ++ rest
+        ≡ (W.history writer.old ++ gathered.old.items) ++ with_lf text)) }
+    ensures err { IfErr result (λ e. (e ≡ RunError.Write) × (W.has_failed writer.new ≡ true)) }
+{
+    let response = decide(alloc, handler, buffer, out);
+    hand_out(gathered, writer, line_of(&response, out))
+}
+
+// Takes the next piece of the input, and gathers the answers to the lines that it completes.
+fn gather<M: LineHandler, W: Sink>(
+    alloc: Global,
+    handler: &mut M,
+    buffer: &mut LineBuffer,
+    out: &mut Vec<u8>,
+    gathered: &mut Vec<u8>,
+    writer: &mut W,
+    piece: &[u8],
+) -> Result<(), RunError>
+    requires { W.has_failed writer.old ≡ false }
+    ensures ok { OnOk result (FeedOk M.answers (M.view handler.old) buffer.old.line.bytes piece.now
+        buffer.new.line.bytes (W.history writer.old ++ gathered.old.items)
+        (W.history writer.new ++ gathered.new.items) (M.view handler.new)) }
+    ensures fine { OnOk result (W.has_failed writer.new ≡ false) }
+    ensures part { OnErr result
+        (FeedErr M.answers (M.view handler.old) buffer.old.line.bytes piece.now
+        (W.history writer.old ++ gathered.old.items) (W.history writer.new)) }
+    ensures err { IfErr result (λ e. (e ≡ RunError.Write) × (W.has_failed writer.new ≡ true)) }
+{
+    let mut rest = piece;
+    while let Some((line, after)) = split_line(rest) {
+        buffer.add(alloc, line);
+        gather_line(alloc, handler, buffer, out, gathered, writer)?;
+        buffer.clear();
+        rest = after;
+    }
+    buffer.add(alloc, rest);
+    Ok(())
+}
+
+// Takes the next piece of the input, and answers each line that it completes, the short answers
+// together.
 fn feed<M: LineHandler, W: Sink>(
     alloc: Global,
     handler: &mut M,
     buffer: &mut LineBuffer,
     out: &mut Vec<u8>,
+    gathered: &mut Vec<u8>,
     writer: &mut W,
     piece: &[u8],
 ) -> Result<(), RunError>
@@ -129,15 +230,9 @@ fn feed<M: LineHandler, W: Sink>(
         (W.history writer.old) (W.history writer.new)) }
     ensures err { IfErr result (λ e. (e ≡ RunError.Write) × (W.has_failed writer.new ≡ true)) }
 {
-    let mut rest = piece;
-    while let Some((line, after)) = split_line(rest) {
-        buffer.add(alloc, line);
-        answer_line(alloc, handler, buffer, out, writer)?;
-        buffer.clear();
-        rest = after;
-    }
-    buffer.add(alloc, rest);
-    Ok(())
+    gathered.clear();
+    gather(alloc, handler, buffer, out, gathered, writer, piece)?;
+    write_all(writer, gathered)
 }
 
 // Answers the last line, where the input ended in one with no LF, and flushes the sink.
@@ -170,9 +265,9 @@ fn finish<M: LineHandler, W: Sink>(
 /// by an LF. It flushes once, at the end.
 ///
 /// An LF ends a line, and the last line may lack it. A line for which memory is refused is read to
-/// its end and answered by error 1, and the next line is served. An answer goes out as soon as it
-/// is made, in as few writes as the sink takes. Any failure of a read or write ends the run, and
-/// nothing is read or written after it.
+/// its end and answered by error 1, and the next line is served. The answers to the lines that one
+/// read brought go out before the next read, the short ones together, in as few writes as the sink
+/// takes. Any failure of a read or write ends the run, and nothing is read or written after it.
 pub fn run_lines<M: LineHandler, R: Source, W: Sink>(
     alloc: Global,
     handler: &mut M,
@@ -202,6 +297,7 @@ pub fn run_lines<M: LineHandler, R: Source, W: Sink>(
 {
     let mut buffer = LineBuffer::new(alloc);
     let mut out = Vec::new(alloc);
+    let mut gathered = Vec::new(alloc);
     let mut block = [0u8; BLOCK_LENGTH];
     for _ in 0..u64::MAX {
         match reader.read(&mut block) {
@@ -209,7 +305,15 @@ pub fn run_lines<M: LineHandler, R: Source, W: Sink>(
             Ok(0) => return finish(alloc, handler, &buffer, &mut out, writer),
             Ok(n) => {
                 let (piece, _) = block.split_at(n);
-                feed(alloc, handler, &mut buffer, &mut out, writer, piece)?;
+                feed(
+                    alloc,
+                    handler,
+                    &mut buffer,
+                    &mut out,
+                    &mut gathered,
+                    writer,
+                    piece,
+                )?;
             }
         }
     }

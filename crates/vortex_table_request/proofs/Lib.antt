@@ -1,4 +1,5 @@
 pub mod AtKinds
+pub mod FormedLiterals
 pub mod Meanings
 pub mod Operands
 pub mod Readings

@@ -5,13 +5,14 @@ use Rattle.serde_json.specs.Data.{Items, no_items}
 use Rattle.serde_json.specs.View.{view, items_view}
 use Rattle.serde_json.specs.declared.value.Value.{Value}
 use Rattle.vortex_model.specs.Content.{Raw}
+use Rattle.vortex_model.specs.LogicalType.{LogicalType}
 use Rattle.vortex_dtype_core.specs.View.{type_of, fields_of}
 use Rattle.vortex_dtype_core.specs.declared.struct_fields.StructField.{StructField}
 use Rattle.vortex_dtype_core.proofs.Sizes.{fields_size}
 use Rattle.vortex_dtype_core.proofs.Views.{field_of-parts}
 use Rattle.vortex_scalar_value.specs.View.{raw_in}
 use Rattle.vortex_scalar_value.specs.declared.scalar_value.ScalarValue.{ScalarValue}
-use Rattle.vortex_table_request.specs.Rows.{reading, readings}
+use Rattle.vortex_table_request.specs.Rows.{reading, readings, element_readings}
 
 pub too_few : (rs : List Raw) (fs : List StructField) (ds : Items) (b : Bool) (all : Option (List Raw)) → ds ≡ no_items → b ≡ (length fs == 0) → b ≡ false
     → option_map (λ (ks : List Raw). rs ++ ks) (readings (fields_of fs) ds) ≡ all → all ≡ None
@@ -48,4 +49,17 @@ one_read built new x fs gs f vs ws v all e g h r is =
     ∙ ap (λ (p : _). front_and (map raw_in built) (option_and_then (λ y. option_map (λ ys. y ∷ ys) left) (reading p.1 (view v)))) (sym (field_of-parts f))
     ∙ ap (λ (ys : List Value). front_and (map raw_in built) (readings (fields_of (f ∷ gs)) (items_view ys))) (sym h)
     ∙ ap (λ (ys : List StructField). front_and (map raw_in built) (readings (fields_of ys) (items_view vs))) (sym g)
+    ∙ is
+
+-- an item of a list is read
+pub item_read : (built new : List (Option ScalarValue)) (x : Option ScalarValue) (k : LogicalType) (vs ws : List Value) (v : Value) (all : Option (List Raw))
+    → new ≡ built ++ x ∷ [] → vs ≡ v ∷ ws → reading k (view v) ≡ Some (raw_in x)
+    → front_and (map raw_in built) (element_readings k (items_view vs)) ≡ all → front_and (map raw_in new) (element_readings k (items_view ws)) ≡ all
+item_read built new x k vs ws v all e h r is =
+    let left : Option (List Raw) = element_readings k (items_view ws) in
+    ap (λ (ys : List (Option ScalarValue)). front_and (map raw_in ys) left) e
+    ∙ ap (λ (ys : List Raw). front_and ys left) (map-append raw_in built (x ∷ []))
+    ∙ sym (shift (map raw_in built) (raw_in x) left)
+    ∙ ap (λ (o : Option Raw). front_and (map raw_in built) (option_and_then (λ y. option_map (λ ys. y ∷ ys) left) o)) (sym r)
+    ∙ ap (λ (ys : List Value). front_and (map raw_in built) (element_readings k (items_view ys))) (sym h)
     ∙ is

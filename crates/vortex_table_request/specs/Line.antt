@@ -6,13 +6,13 @@ use Rattle.serde_json.specs.Find.{get, at, as_array, as_str}
 use Rattle.vortex_model.specs.LogicalType.{LogicalType}
 use Rattle.vortex_model.specs.Content.{Raw}
 use Rattle.vortex_model.specs.Path.{Step}
-use Rattle.vortex_model.specs.Command.{Command, create, append, join, retype, scan, describe}
+use Rattle.vortex_model.specs.Command.{Command, create, append, join, retype, compact, scan, describe}
 use Rattle.vortex_table_request.specs.Parsed.{data_of, size_of, items_size, natural_of, keeps_whole}
 use Rattle.vortex_table_request.specs.Kinds.{type_in, one_if}
 use Rattle.vortex_table_request.specs.Rows.{rows_at}
 use Rattle.vortex_table_request.specs.Where.{path_in, paths_in, predicate_in}
 
--- how rows are laid out, which no answer shows
+-- how a column of an append is to be laid out, which no answer shows
 pub data LayoutName : Type 0 where
   plain dictionary constant : LayoutName
 
@@ -78,6 +78,10 @@ retype_in size d =
     then option_map retype (option_and_then type_in (get (codes "dtype") d))
     else None
 
+-- no key but `cmd`
+abbrev pub compact_in : ℕ → Option Command
+compact_in size = if size == 1 then Some compact else None
+
 abbrev pub scan_in : ℕ → Data → Option Command
 scan_in size d =
     if size == 3
@@ -104,7 +108,7 @@ describe_in size d =
 
 -- which command a line asks for
 pub data VerbName : Type 0 where
-  creates appends joins retypes scans describes : VerbName
+  creates appends joins retypes compacts scans describes : VerbName
 
 abbrev pub verb_named : List ℕ → Option VerbName
 verb_named name =
@@ -113,7 +117,8 @@ verb_named name =
     else (if bytes_eq name (codes "scan") then Some scans
     else (if bytes_eq name (codes "join") then Some joins
     else (if bytes_eq name (codes "retype") then Some retypes
-    else (if bytes_eq name (codes "describe") then Some describes else None)))))
+    else (if bytes_eq name (codes "compact") then Some compacts
+    else (if bytes_eq name (codes "describe") then Some describes else None))))))
 
 -- that command, in an object of this many members
 abbrev pub command_with : VerbName → ℕ → Data → Option Command
@@ -122,6 +127,7 @@ command_with appends size d = append_in size d
 command_with scans size d = scan_in size d
 command_with joins size d = join_in size d
 command_with retypes size d = retype_in size d
+command_with compacts size d = compact_in size
 command_with describes size d = describe_in size d
 
 -- an object with `cmd` and exactly the keys of that command

@@ -1,5 +1,7 @@
 -- What contracts see of a command, without where it lies in memory.
-use Rattle.std.specs.Prelude.{ℕ, List, map}
+use Rattle.std.specs.Prelude.{◌≡◌, ℕ, List, map, Some, codes, Option, Result, IfOk}
+use Rattle.serde_json.specs.Data.{Data}
+use Rattle.serde_json.specs.Find.{get}
 use Rattle.vortex_model.specs.Path.{Step}
 use Rattle.vortex_model.specs.Command as model
 use Rattle.vortex_dtype_core.specs.View.{type_of}
@@ -8,11 +10,13 @@ use Rattle.vortex_dtype_path.specs.declared.path.FieldPath.{FieldPath}
 use Rattle.vortex_scalar_value.specs.View.{raw_in}
 use Rattle.vortex_table_schema.specs.declared.layout.Layout as rows
 use Rattle.vortex_table_schema.specs.declared.layout.Layout.TheVariants as layout
-use Rattle.vortex_table_request.specs.Line.{LayoutName, plain, dictionary, constant, VerbName, creates, appends, joins, retypes, scans, describes}
+use Rattle.vortex_table_request.specs.Line.{LayoutName, plain, dictionary, constant, layouts_in, VerbName, creates, appends, joins, retypes, compacts, scans, describes}
+use Rattle.vortex_table_request.specs.Parsed.{Gives}
 use Rattle.vortex_table_request.specs.declared.command.Verb as verbs
 use Rattle.vortex_table_request.specs.declared.command.Verb.TheVariants as verb
 use Rattle.vortex_table_request.specs.declared.command.Command.{Command}
-use Rattle.vortex_table_request.specs.declared.command.Command.TheVariants.{Create, Append, Join, Retype, Scan, Describe}
+use Rattle.vortex_table_request.specs.declared.command.Command.TheVariants.{Create, Append, Join, Retype, Compact, Scan, Describe}
+use Rattle.vortex_table_request.specs.declared.parse_error.ParseError.{ParseError}
 
 abbrev pub layout_of : rows.Layout → LayoutName
 layout_of layout.Plain = plain
@@ -22,6 +26,7 @@ layout_of layout.Constant = constant
 abbrev pub verb_of : verbs.Verb → VerbName
 verb_of verb.Create = creates
 verb_of verb.Append = appends
+verb_of verb.Compact = compacts
 verb_of verb.Scan = scans
 verb_of verb.Join = joins
 verb_of verb.Retype = retypes
@@ -38,4 +43,15 @@ shown (Append dtype values layouts) = model.append (type_of dtype) (map raw_in v
 shown (Scan paths predicate) = model.scan (map steps_of paths.items) predicate
 shown (Join group) = model.join group
 shown (Retype dtype) = model.retype (type_of dtype)
+shown Compact = model.compact
 shown (Describe path group) = model.describe (steps_of path) group
+
+-- an append's hints are those that the object has
+abbrev pub HasHintsOf : Data → Command → Type 0
+HasHintsOf d (Append dtype values layouts) =
+    layouts_in (get (codes "layouts") d) ≡ Some (map layout_of layouts.items)
+HasHintsOf d c = Unit {0}
+
+-- what an object was read as is this command, and has the object's hints
+abbrev pub ReadsAs : Data → Result Command ParseError → Option model.Command → Type 0
+ReadsAs d result command = Gives shown result command × IfOk result (HasHintsOf d)

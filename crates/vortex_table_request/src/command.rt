@@ -1,9 +1,10 @@
 //! Commands from JSON.
-ghost use Rattle.std.specs.Prelude.{◌≡◌, map, option_map, Some, None, if◌then◌else◌};
+ghost use Rattle.std.specs.Prelude.{◌≡◌, map, option_map, Some, None, if◌then◌else◌, IfOk, IfSome};
+ghost use Rattle.serde_json.specs.Data.{Data};
 ghost use Rattle.serde_json.specs.View.{view, items_view};
-ghost use Rattle.vortex_table_request.specs.Parsed.{Gives};
-ghost use Rattle.vortex_table_request.specs.Line.{layout_named, layouts_of, layouts_in, entry_in, entries_of, lengths_in, create_in, rows_in, append_in, retype_in, scan_in, join_in, describe_in, verb_named, command_in, command_of};
-ghost use Rattle.vortex_table_request.specs.View.{layout_of, verb_of, entry_of, shown};
+ghost use Rattle.vortex_table_request.specs.Parsed.{Gives, data_of};
+ghost use Rattle.vortex_table_request.specs.Line.{layout_named, layouts_of, layouts_in, entry_in, entries_of, lengths_in, create_in, rows_in, append_in, retype_in, compact_in, scan_in, join_in, describe_in, verb_named, command_in, command_of};
+ghost use Rattle.vortex_table_request.specs.View.{layout_of, verb_of, entry_of, shown, HasHintsOf, ReadsAs};
 ghost use Rattle.vortex_dtype_core.specs.View.{type_of};
 ghost use Rattle.vortex_scalar_value.specs.View.{raw_in};
 
@@ -36,7 +37,7 @@ pub enum Command {
         dtype: DType,
         /// The rows. Null stands for one that couldn't be read.
         values: Vec<Option<ScalarValue>>,
-        /// How the rows are laid out.
+        /// How columns are to be laid out, one hint a column of the row's type.
         layouts: Vec<Layout>,
     },
     /// Which rows a predicate selects, cut by paths.
@@ -56,6 +57,8 @@ pub enum Command {
         /// The new type.
         dtype: DType,
     },
+    /// Lists of all chunks end to end.
+    Compact,
     /// What is known of a leaf column in a group of chunks.
     Describe {
         /// The column.
@@ -140,7 +143,7 @@ fn read_lengths(alloc: Global, list: Option<&Value>) -> Result<Vec<(FieldPath, u
 }
 
 fn read_create(alloc: Global, size: usize, value: &Value) -> Result<Command, ParseError>
-    ensures { Gives shown result (create_in size (view value.now)) }
+    ensures { ReadsAs (view value.now) result (create_in size (view value.now)) }
 {
     if size != 3 + present_members(value.get("lengths")) {
         return Err(ParseError::Malformed);
@@ -178,7 +181,7 @@ fn take_rows(
 }
 
 fn read_append(alloc: Global, size: usize, value: &mut Value) -> Result<Command, ParseError>
-    ensures { Gives shown result (append_in size (view value.old)) }
+    ensures { ReadsAs (view value.old) result (append_in size (view value.old)) }
 {
     if size != 3 + present_members(value.get("layouts")) {
         return Err(ParseError::Malformed);
@@ -194,7 +197,7 @@ fn read_append(alloc: Global, size: usize, value: &mut Value) -> Result<Command,
 }
 
 fn read_scan(alloc: Global, size: usize, value: &Value) -> Result<Command, ParseError>
-    ensures { Gives shown result (scan_in size (view value.now)) }
+    ensures { ReadsAs (view value.now) result (scan_in size (view value.now)) }
 {
     if size != 3 {
         return Err(ParseError::Malformed);
@@ -209,7 +212,7 @@ fn read_scan(alloc: Global, size: usize, value: &Value) -> Result<Command, Parse
 }
 
 fn read_join(size: usize, value: &Value) -> Result<Command, ParseError>
-    ensures { Gives shown result (join_in size (view value.now)) }
+    ensures { ReadsAs (view value.now) result (join_in size (view value.now)) }
 {
     if size != 2 {
         return Err(ParseError::Malformed);
@@ -224,7 +227,7 @@ fn read_join(size: usize, value: &Value) -> Result<Command, ParseError>
 }
 
 fn read_retype(alloc: Global, size: usize, value: &Value) -> Result<Command, ParseError>
-    ensures { Gives shown result (retype_in size (view value.now)) }
+    ensures { ReadsAs (view value.now) result (retype_in size (view value.now)) }
 {
     if size != 2 {
         return Err(ParseError::Malformed);
@@ -233,8 +236,18 @@ fn read_retype(alloc: Global, size: usize, value: &Value) -> Result<Command, Par
     Ok(Command::Retype { dtype })
 }
 
+fn read_compact(size: usize) -> Result<Command, ParseError>
+    ensures { (d : Data) → ReadsAs d result (compact_in size) }
+{
+    if size == 1 {
+        Ok(Command::Compact)
+    } else {
+        Err(ParseError::Malformed)
+    }
+}
+
 fn read_describe(alloc: Global, size: usize, value: &Value) -> Result<Command, ParseError>
-    ensures { Gives shown result (describe_in size (view value.now)) }
+    ensures { ReadsAs (view value.now) result (describe_in size (view value.now)) }
 {
     if size != 3 {
         return Err(ParseError::Malformed);
@@ -257,6 +270,7 @@ enum Verb {
     Append,
     Join,
     Retype,
+    Compact,
     Scan,
     Describe,
 }
@@ -270,6 +284,7 @@ fn read_verb(name: &str) -> Result<Verb, ParseError>
         "scan" => Ok(Verb::Scan),
         "join" => Ok(Verb::Join),
         "retype" => Ok(Verb::Retype),
+        "compact" => Ok(Verb::Compact),
         "describe" => Ok(Verb::Describe),
         _ => Err(ParseError::Malformed),
     }
@@ -277,7 +292,7 @@ fn read_verb(name: &str) -> Result<Verb, ParseError>
 
 /// The command that an object is, which is used up.
 fn read_value_command(alloc: Global, value: &mut Value) -> Result<Command, ParseError>
-    ensures { Gives shown result (command_in (view value.old)) }
+    ensures { ReadsAs (view value.old) result (command_in (view value.old)) }
 {
     let size = size(value).ok_or(ParseError::Malformed)?;
     let verb = read_verb(
@@ -292,6 +307,7 @@ fn read_value_command(alloc: Global, value: &mut Value) -> Result<Command, Parse
         Verb::Scan => read_scan(alloc, size, value),
         Verb::Join => read_join(size, value),
         Verb::Retype => read_retype(alloc, size, value),
+        Verb::Compact => read_compact(size),
         Verb::Describe => read_describe(alloc, size, value),
     }
 }
@@ -299,7 +315,10 @@ fn read_value_command(alloc: Global, value: &mut Value) -> Result<Command, Parse
 /// The command that a line is. The line is bad where it is no JSON, nests above 127, has a number
 /// that is no whole number of 64 bits, or is of another shape.
 pub fn read_command(alloc: Global, line: &[u8]) -> Result<Command, ParseError>
-    ensures { Gives shown result (command_of line.now) }
+    ensures command { Gives shown result (command_of line.now) }
+    // An append's hints are those of the line.
+    ensures hints { IfOk result (λ command.
+        IfSome (data_of line.now) (λ object. HasHintsOf object command)) }
 {
     let mut value = parse(alloc, line)?;
     if !is_whole(&value) {

@@ -1,10 +1,11 @@
 //! Rows from JSON, as values of a type.
-ghost use Rattle.std.specs.Prelude.{◌≡◌, map, IfOk, IfErr};
+ghost use Rattle.std.specs.Prelude.{◌≡◌, map, option_map, IfOk, IfErr};
+ghost use Rattle.serde_json.specs.Data.{array};
 ghost use Rattle.serde_json.specs.View.{view, items_view};
 ghost use Rattle.vortex_dtype_core.specs.View.{type_of, fields_of};
 ghost use Rattle.vortex_scalar_value.specs.View.{raw_in};
 ghost use Rattle.vortex_table_request.specs.Parsed.{Gives};
-ghost use Rattle.vortex_table_request.specs.Rows.{reading, readings, row_at, rows_at};
+ghost use Rattle.vortex_table_request.specs.Rows.{reading, readings, element_readings, item_type, row_at, rows_at};
 
 use crate::ParseError;
 use crate::leaves::{read_boolean, read_number, take_text};
@@ -16,8 +17,8 @@ use vortex_scalar_value::scalar_value::ScalarValue;
 
 /// The value of a type that a JSON value is, which is used up: null at any type, a truth value, an
 /// integer in range, a text, whose bytes aren't copied, bytes as a text of hexadecimal digits, two
-/// a byte and of either case, or an array by position of a record's fields. Anything else is
-/// `Malformed`.
+/// a byte and of either case, an array by position of a record's fields, or an array of a list's
+/// elements. Anything else is `Malformed`, also an array of another length than the type asks.
 #[cycle(row)]
 pub fn take_value(
     value: Value,
@@ -27,19 +28,71 @@ pub fn take_value(
     ensures { Gives raw_in result (reading (type_of dtype.now) (view value)) }
 {
     match value {
-        Value::Array(items) => match dtype.as_struct_fields_opt() {
-            Some(fields) => {
-                let values = take_fields(items, alloc, fields.as_slice())?;
-                Ok(Some(ScalarValue::Tuple(values)))
-            }
-            None => Err(ParseError::Malformed),
-        },
+        Value::Array(items) => take_array(items, alloc, dtype),
         Value::Null => Ok(None),
         Value::Number(number) => read_number(dtype, &number),
         Value::Bool(truth) => read_boolean(dtype, truth),
         Value::String(text) => take_text(alloc, dtype, text),
         Value::Object(_) => Err(ParseError::Malformed),
     }
+}
+
+/// The type of the items of an array of this many, where that is a list.
+#[tactic(auto, using(crate::proofs::AtKinds::item_types))]
+fn item_dtype(dtype: &DType, count: usize) -> Option<&DType>
+    ensures { option_map (λ item. type_of item.now) result ≡ item_type (type_of dtype.now) count }
+{
+    match dtype {
+        DType::List(element, _) => Some(element),
+        DType::FixedSizeList(element, size, _) => {
+            if *size as usize == count {
+                Some(element)
+            } else {
+                None
+            }
+        }
+        DType::Null | DType::Bool(_) | DType::Primitive(_, _) | DType::Decimal(_, _) => None,
+        DType::Utf8(_) | DType::Binary(_) | DType::Variant(_) => None,
+        DType::Map(_, _) | DType::Struct(_, _) => None,
+        DType::Union(_, _) | DType::Extension(_) => None,
+    }
+}
+
+/// The record or the list that an array is.
+#[cycle(row)]
+fn take_array(
+    items: Vec<Value>,
+    alloc: Global,
+    dtype: &DType,
+) -> Result<Option<ScalarValue>, ParseError>
+    ensures { Gives raw_in result (reading (type_of dtype.now) (array (items_view items.items))) }
+{
+    if let Some(fields) = dtype.as_struct_fields_opt() {
+        let values = take_fields(items, alloc, fields.as_slice())?;
+        return Ok(Some(ScalarValue::Tuple(values)));
+    }
+    let Some(element) = item_dtype(dtype, items.len()) else {
+        return Err(ParseError::Malformed);
+    };
+    let values = take_elements(items, alloc, element)?;
+    Ok(Some(ScalarValue::Tuple(values)))
+}
+
+/// A value of one type for each item.
+#[cycle(row)]
+fn take_elements(
+    items: Vec<Value>,
+    alloc: Global,
+    dtype: &DType,
+) -> Result<Vec<Option<ScalarValue>>, ParseError>
+    ensures { Gives (λ v. map raw_in v.items) result
+        (element_readings (type_of dtype.now) (items_view items.items)) }
+{
+    let mut values = Vec::with_capacity(alloc, items.len())?;
+    for item in items {
+        values.push(take_value(item, alloc, dtype)?)?;
+    }
+    Ok(values)
 }
 
 /// A value for each field, by position.

@@ -12,9 +12,7 @@ use Rattle.vortex_model.specs.Scan.{kind_at}
 use Rattle.vortex_model.specs.Valid.{IsContent}
 use Rattle.vortex_model.specs.ZoneMap.{ZoneMap, zone_of, values_at, joined, joined_from}
 use Rattle.vortex_model.proofs.ContentOrder.{true_left, true_right}
-use Rattle.vortex_scalar_value.specs.declared.scalar_value.ScalarValue.{ScalarValue}
 use Rattle.vortex_table_schema.specs.Leaves.{leaf_positions}
-use Rattle.vortex_table_schema.specs.Rows.{row_content}
 use Rattle.vortex_table_chunk.specs.Bounds.{AreBoundsOf, are_sums_of}
 use Rattle.vortex_table_chunk.specs.Chunk.{chunk_rows, row_count}
 use Rattle.vortex_table_chunk.specs.Formed.{is_formed}
@@ -23,15 +21,15 @@ use Rattle.vortex_table_chunk.specs.zones.Join.{zone_in, IsJoinOf, CanJoin, AreJ
 use Rattle.vortex_table_chunk.specs.zones.Sums.{int_kind_of, eq_sum_kind}
 use Rattle.vortex_table_chunk.specs.declared.chunk.Chunk.{Chunk}
 use Rattle.vortex_table_chunk.specs.declared.zones.bounds.ColumnBounds.{ColumnBounds}
-use Rattle.vortex_table_chunk.proofs.Formed.{led, as_long, summed, valid_rows}
+use Rattle.vortex_table_chunk.proofs.Formed.{led, as_long, summed}
 use Rattle.vortex_table_chunk.proofs.JoinedLemmas.{rows_append, one_zone, chunk_joined, same_sum_kind, neighbours, all_joined_up, groups_can_join}
-use Rattle.vortex_table_chunk.proofs.TypedRows.{rows_said, all_said, all_counted}
+use Rattle.vortex_table_chunk.proofs.TypedRows.{formed_said, all_said, all_counted}
 use Rattle.vortex_table_retype.specs.InOrder.{IsInOrder, AreInOrder, AreJoinedInOrder}
 
 -- ---- one chunk
 
-module _ (k : LogicalType) (L : Positions → ℕ) (rows : List ScalarValue) (typed : AllByRecursion (IsContent k) (map row_content rows)) where
-  one_in_order : (leaves : List Positions) (bounds : List ColumnBounds) → AreBoundsOf (map L leaves) leaves bounds rows → are_sums_of k leaves bounds ≡ true → AreInOrder k L leaves bounds (map row_content rows ∷ [])
+module _ (k : LogicalType) (L : Positions → ℕ) (rows : List Content) (typed : AllByRecursion (IsContent k) rows) where
+  one_in_order : (leaves : List Positions) (bounds : List ColumnBounds) → AreBoundsOf (map L leaves) leaves bounds rows → are_sums_of k leaves bounds ≡ true → AreInOrder k L leaves bounds (rows ∷ [])
   one_in_order [] [] h g = tt
   one_in_order [] (b ∷ bounds) h g = absurd h
   one_in_order (is ∷ leaves) [] h g = absurd h
@@ -44,19 +42,19 @@ module _ (k : LogicalType) (L : Positions → ℕ) (rows : List ScalarValue) (ty
 
 -- a formed chunk has its own statistics
 module _ (k : LogicalType) (L : Positions → ℕ) (c : Chunk) (formed : is_formed L k c ≡ true) where
-  honest : AreBoundsOf (map L (leaf_positions k)) (leaf_positions k) c.bounds.items c.rows.items
+  honest : AreBoundsOf (map L (leaf_positions k)) (leaf_positions k) c.bounds.items (chunk_rows c)
   honest =
-      subst (λ ns. AreBoundsOf ns (leaf_positions k) c.bounds.items c.rows.items) (as_long L k c formed)
-      (subst (λ ls. AreBoundsOf c.lengths.value.items ls c.bounds.items c.rows.items) (led L k c formed) c.honest)
+      subst (λ ns. AreBoundsOf ns (leaf_positions k) c.bounds.items (chunk_rows c)) (as_long L k c formed)
+      (subst (λ ls. AreBoundsOf c.lengths.value.items ls c.bounds.items (chunk_rows c)) (led L k c formed) c.honest)
 
   sums : are_sums_of k (leaf_positions k) c.bounds.items ≡ true
   sums = ap (λ ls. are_sums_of k ls c.bounds.items) (sym (led L k c formed)) ∙ summed L k c formed
 
   pub alone_in_order : AreJoinedInOrder k L (leaf_positions k) c.bounds.items (chunk_rows c ∷ [])
   alone_in_order =
-      let typed = rows_said k c.rows.items (valid_rows L k c formed) in (
-        chunk_joined k L c.rows.items typed (leaf_positions k) c.bounds.items honest sums,
-        one_in_order k L c.rows.items typed (leaf_positions k) c.bounds.items honest sums,
+      let typed = formed_said L k c formed in (
+        chunk_joined k L (chunk_rows c) typed (leaf_positions k) c.bounds.items honest sums,
+        one_in_order k L (chunk_rows c) typed (leaf_positions k) c.bounds.items honest sums,
       )
 
 -- ---- one chunk more

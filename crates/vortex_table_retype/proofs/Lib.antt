@@ -1,3 +1,3 @@
-pub mod Carried
 pub mod ConvertedRows
 pub mod InOrder
+pub mod LaidOut

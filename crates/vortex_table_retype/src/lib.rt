@@ -1,7 +1,6 @@
-//! Chunks as those of another type: their rows are converted, and their bounds are carried over.
+//! Chunks as those of another type: their rows are converted and laid out plain.
 #![tactic(auto)]
 
-pub mod bounds;
 pub mod groups;
 pub mod retyping;
 pub mod rows;

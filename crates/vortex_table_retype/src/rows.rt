@@ -1,45 +1,132 @@
-//! The rows of a chunk converted to another type.
-ghost use Rattle.std.specs.Prelude.{◌≡◌, ◌<◌, ◌+◌, ◌^◌, true, None, length, map, IfOk, OnOk, IfErr, IsTrue};
+//! The rows of an array converted to another type.
+ghost use Rattle.std.specs.Prelude.{◌≡◌, ◌<◌, ◌+◌, ◌^◌, true, None, Option, map, IfOk, OnOk, IfErr, IsTrue};
 ghost use Rattle.std.specs.List.{list_all};
+ghost use Rattle.vortex_model.specs.Convert.{converts};
+ghost use Rattle.vortex_model.specs.Refusal.{Refusal, not_convertible};
 ghost use Rattle.vortex_model.specs.Valid.{valid};
 ghost use Rattle.vortex_model.specs.Kept.{type_fault};
-ghost use Rattle.vortex_model.specs.Command.{first_unconvertible};
+ghost use Rattle.vortex_model.specs.Command.{unless, first_unconvertible};
+ghost use Rattle.vortex_arrays_model.specs.Layout.{len_of, array_type_of, content_at, rows_of};
 ghost use Rattle.vortex_dtype_core.specs.View.{type_of};
-ghost use Rattle.vortex_scalar_value.specs.View.{raw_of};
+ghost use Rattle.vortex_scalar_core.specs.Scalar.{scalar_type, scalar_content};
+ghost use Rattle.vortex_scalar_value.specs.View.{raw_of, raw_at};
 ghost use Rattle.vortex_table_schema.specs.Rows.{row_content};
 ghost use Rattle.vortex_table_check.specs.Error.{Explains};
+ghost use Rattle.vortex_table_retype.specs.TooLarge.{AreTooLarge};
 
-use std::alloc::Global;
+use std::alloc::{AllocError, Global};
+use vortex_arrays_buffer::error::ArrayError;
+use vortex_arrays_builder::laws::tables_hold_plain_types;
+use vortex_arrays_builder::plain::build_plain;
+use vortex_arrays_core::array::ArrayRef;
 use vortex_dtype_core::dtype::DType;
+use vortex_scalar_core::scalar::Scalar;
 use vortex_scalar_value::scalar_value::ScalarValue;
 use vortex_table_check::append::convert_row;
 use vortex_table_check::error::TableError;
 
-/// The rows cast from the source to the target type: `NotConvertible` with the index of the first
-/// that the target can't hold, where the first row has the index `first`.
-pub fn convert_rows(
+// The row at the index, as a value of the array's type.
+fn row_at(alloc: Global, array: &ArrayRef, index: usize) -> Result<Scalar, TableError>
+    requires { index < len_of array.now }
+    ensures dtype { IfOk result (λ row. scalar_type row ≡ array_type_of array.now) }
+    ensures content { IfOk result (λ row. scalar_content row ≡ content_at array.now index) }
+    ensures refused { IfErr result (λ e. (fault : Option Refusal) → Explains ⊥ fault e) }
+{
+    match array.execute_scalar(alloc, index) {
+        Ok(row) => Ok(row),
+        Err(ArrayError::Memory) => Err(TableError::Memory),
+        Err(_) => unreachable!(),
+    }
+}
+
+// The row at the index, cast to the target type.
+fn converted_row(
     alloc: Global,
-    source: &DType,
     target: &DType,
     first: usize,
-    rows: &[ScalarValue],
+    array: &ArrayRef,
+    index: usize,
+) -> Result<ScalarValue, TableError>
+    requires kept { type_fault (type_of target.now) ≡ None }
+    requires within { index < len_of array.now }
+    requires fits { first + len_of array.now < 2 ^ 64 }
+    ensures converts { OnOk result (converts (array_type_of array.now) (type_of target.now)
+        (content_at array.now index) ≡ true) }
+    ensures content { IfOk result (λ row. row_content row ≡ content_at array.now index) }
+    ensures valid { IfOk result (λ row. valid (type_of target.now) (raw_of row) ≡ true) }
+    ensures refused { IfErr result (λ e. Explains ⊥
+        (unless (converts (array_type_of array.now) (type_of target.now)
+        (content_at array.now index)) (not_convertible (first + index))) e) }
+{
+    let row = row_at(alloc, array, index)?;
+    let converted = convert_row(alloc, row.dtype(), target, first + index, row.value())?;
+    Ok(converted)
+}
+
+/// The rows cast to the target type: `NotConvertible` with the index of the first that the target
+/// can't hold, where the first row has the index `first`.
+pub fn convert_rows(
+    alloc: Global,
+    target: &DType,
+    first: usize,
+    array: &ArrayRef,
 ) -> Result<Vec<ScalarValue>, TableError>
     requires kept { type_fault (type_of target.now) ≡ None }
-    requires valid { IsTrue (list_all (λ row. valid (type_of source.now) (raw_of row)) rows.now) }
-    requires fits { first + length rows.now < 2 ^ 64 }
-    ensures converts { OnOk result (first_unconvertible first (type_of source.now)
-        (type_of target.now) (map row_content rows.now) ≡ None) }
-    ensures content { IfOk result
-        (λ new. map row_content new.items ≡ map row_content rows.now) }
+    requires fits { first + len_of array.now < 2 ^ 64 }
+    ensures converts { OnOk result (first_unconvertible first (array_type_of array.now)
+        (type_of target.now) (rows_of array.now) ≡ None) }
+    ensures content { IfOk result (λ new. map row_content new.items ≡ rows_of array.now) }
     ensures valid { IfOk result
         (λ new. IsTrue (list_all (λ row. valid (type_of target.now) (raw_of row)) new.items)) }
     ensures refused { IfErr result (λ e. Explains ⊥ (first_unconvertible first
-        (type_of source.now) (type_of target.now) (map row_content rows.now)) e) }
+        (array_type_of array.now) (type_of target.now) (rows_of array.now)) e) }
 {
-    let mut converted = Vec::with_capacity(alloc, rows.len())?;
-    for (index, row) in rows.iter().enumerate() {
-        let row = convert_row(alloc, source, target, first + index, Some(row))?;
+    let len = array.len();
+    let mut converted = Vec::with_capacity(alloc, len)?;
+    for index in 0..len {
+        let row = converted_row(alloc, target, first, array, index)?;
         converted.push(row)?;
     }
     Ok(converted)
+}
+
+// The rows, borrowed one by one.
+#[tactic(auto, using(crate::proofs::LaidOut::lent))]
+fn borrowed<'a>(
+    alloc: Global,
+    rows: &'a [ScalarValue],
+) -> Result<Vec<Option<&'a ScalarValue>>, AllocError>
+    ensures { IfOk result (λ values. map raw_at values.items ≡ map raw_of rows.now) }
+{
+    let mut values = Vec::with_capacity(alloc, rows.len())?;
+    for row in rows {
+        values.push(Some(row))?;
+    }
+    Ok(values)
+}
+
+/// The rows as an array of the type, laid out plain. `Total` where the texts or the bytes of a
+/// column can't be held by its views and buffers.
+#[tactic(auto, using(crate::proofs::LaidOut::plain))]
+pub fn lay_out_plain(
+    alloc: Global,
+    dtype: &DType,
+    rows: &[ScalarValue],
+) -> Result<ArrayRef, TableError>
+    requires kept { type_fault (type_of dtype.now) ≡ None }
+    requires valid { IsTrue (list_all (λ row. valid (type_of dtype.now) (raw_of row)) rows.now) }
+    ensures dtype { IfOk result (λ array. array_type_of array ≡ type_of dtype.now) }
+    ensures rows { IfOk result (λ array. rows_of array ≡ map row_content rows.now) }
+    ensures refused { IfErr result (λ e. (fault : Option Refusal)
+        → Explains (AreTooLarge (type_of dtype.now) (map row_content rows.now)) fault e) }
+{
+    let values = borrowed(alloc, rows)?;
+    // Tells the proof that a type that a table can hold has plain layouts.
+    tables_hold_plain_types();
+    match build_plain(alloc, dtype, values.as_slice()) {
+        Ok(array) => Ok(array),
+        Err(ArrayError::Memory) => Err(TableError::Memory),
+        Err(ArrayError::Total) => Err(TableError::Total),
+        Err(_) => unreachable!(),
+    }
 }

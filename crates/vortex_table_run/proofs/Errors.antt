@@ -4,7 +4,8 @@ use Rattle.std.specs.Prelude.{IfSome, option_and_then}
 use Rattle.vortex_model.specs.Table.{Table}
 use Rattle.vortex_model.specs.Command.{Command, refusal_in}
 use Rattle.vortex_model.specs.Refusal.{Refusal, number_of, index_of}
-use Rattle.vortex_model.specs.Reply.{RespondsTo, RowsPass}
+use Rattle.vortex_model.specs.Reply.{RespondsTo}
+use Rattle.vortex_table_core.specs.Totals.{PassesTotal}
 use Rattle.vortex_table_check.specs.Error.{refusal_of, Explains}
 use Rattle.vortex_table_check.specs.declared.error.TableError.{TableError}
 use Rattle.vortex_table_check.specs.declared.error.TableError.TheVariants as error
@@ -40,8 +41,8 @@ error_text (error.RepeatedPath i) n x memory f e total = same (Some i) n 21 x _ 
 
 -- an error is an answer that changes nothing
 pub explained : (P : Type 0) (old new : Option Table) (c : Command) (fault : Option Refusal) (e : TableError) → new ≡ old
-    → refusal_in old c ≡ fault → (P → RowsPass old c) → (e ≡ error.Total → fault ≡ None) → Explains P fault e
-    → RespondsTo RowsPass old c (error_answer e) new
+    → refusal_in old c ≡ fault → (P → PassesTotal old c) → (e ≡ error.Total → fault ≡ None) → Explains P fault e
+    → RespondsTo PassesTotal old c (error_answer e) new
 explained P old new c fault error.Memory eq_table r passes behind x = eq_table
 explained P old new c fault error.Total eq_table r passes behind x = (r ∙ behind refl, passes x, eq_table)
 explained P old new c fault error.NoSuchGroup eq_table r passes behind x = (r ∙ x, eq_table)

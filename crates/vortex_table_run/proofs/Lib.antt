@@ -1,2 +1,4 @@
 mod Errors
+mod Exact
 mod Responding
+mod WellFormed

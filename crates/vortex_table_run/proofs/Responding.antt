@@ -1,16 +1,18 @@
 -- Answers to the commands that sessions take.
-use Rattle.std.proofs.Common.{◌≡◌, ℕ, ◌+◌, ◌≤◌, ◌^◌, List, map, length, Option, Some, None, refl, ap, sym, subst, ◌∙◌}
-use Rattle.std.proofs.Math.ListN.{length-map}
+use Rattle.std.proofs.Common.{◌≡◌, ℕ, List, [], ◌∷◌, map, inl, inr, Option, Some, None, refl, ap, sym, subst, ◌∙◌}
 use Rattle.vortex_model.specs.LogicalType.{LogicalType}
-use Rattle.vortex_model.specs.Content.{Raw}
 use Rattle.vortex_model.specs.Path.{Step}
 use Rattle.vortex_model.specs.Expression.{Expression}
 use Rattle.vortex_model.specs.Refusal.{Refusal, no_table}
-use Rattle.vortex_model.specs.Table.{Table, rows_of}
+use Rattle.vortex_model.specs.Table.{Table}
 use Rattle.vortex_model.specs.Scan.{ScanAnswer, scanned}
-use Rattle.vortex_model.specs.Command.{Command, create, append, scan, describe, names_of, positions_of, refusal, refusal_in, create_fault}
-use Rattle.vortex_model.specs.Reply.{refused, found, described, Describes, RespondsTo, RowsPass}
+use Rattle.vortex_model.specs.Command.{Command, create, scan, describe, names_of, positions_of, refusal, refusal_in, create_fault}
+use Rattle.vortex_model.specs.Reply.{refused, found, described, Describes, RespondsTo}
 use Rattle.vortex_model.specs.ZoneMap.{ZoneMap}
+use Rattle.vortex_table_chunk.specs.Chunk.{chunk_rows}
+use Rattle.vortex_table_chunk.specs.declared.chunk.Chunk.{Chunk}
+use Rattle.vortex_table_core.specs.Arrays.{AnyHasTooManyItems}
+use Rattle.vortex_table_core.specs.Totals.{PassesTotal, AnyMayHaveTooManyItems}
 use Rattle.vortex_table_check.specs.Error.{Explains}
 use Rattle.vortex_table_check.specs.declared.error.TableError.{TableError}
 use Rattle.vortex_table_check.specs.declared.error.TableError.TheVariants as error
@@ -26,46 +28,43 @@ never : (fault : Option Refusal) (e : TableError) → Explains ⊥ fault e → e
 never fault e x is = absurd (subst (λ (d : TableError). Explains ⊥ fault d) is x)
 
 pub create_refused : (old : Option Table) (k : LogicalType) (n : ℕ) (lengths : List (List Step × ℕ)) (e : TableError) → Explains ⊥ (create_fault k lengths) e
-    → RespondsTo RowsPass old (create k n lengths) (error_answer e) old
+    → RespondsTo PassesTotal old (create k n lengths) (error_answer e) old
 create_refused old k n lengths e x =
     explained ⊥ old old (create k n lengths) (create_fault k lengths) e refl (create_refusal old k n lengths) (λ h. absurd h) (never (create_fault k lengths) e x) x
 
 pub without_table : (old : Option Table) (c : Command) → old ≡ None → refusal_in None c ≡ Some no_table
-    → RespondsTo RowsPass old c (refused no_table) old
+    → RespondsTo PassesTotal old c (refused no_table) old
 without_table old c none r = (ap (λ (o : Option Table). refusal_in o c) none ∙ r, refl)
 
--- as many rows are appended as there are values
-passes : {V : Type 0} (old : Option Table) (t : Table) (k : LogicalType) (view : V → Raw) (values : List V) → old ≡ Some t
-    → 2 ^ 64 ≤ length (rows_of t) + length values → RowsPass old (append k (map view values))
-passes {V} old t k view values there h =
-    subst (λ (o : Option Table). RowsPass o (append k (map view values))) (sym there)
-    (subst (λ (n : ℕ). 2 ^ 64 ≤ length (rows_of t) + n) (sym (length-map {A = V} {B = Raw} values view)) h)
+-- a command to a table, which is refused for a reason or since this makes it pass a total
+pub refused_for : (P : Type 0) (old new : Option Table) (t : Table) (c : Command) (e : TableError) → old ≡ Some t → new ≡ Some t
+    → (P → PassesTotal (Some t) c) → Explains P (refusal t c) e → (e ≡ error.Total → refusal t c ≡ None)
+    → RespondsTo PassesTotal old c (error_answer e) new
+refused_for P old new t c e there same passes x behind =
+    explained P old new c (refusal t c) e (same ∙ sym there)
+    (ap (λ (o : Option Table). refusal_in o c) there) (λ h. subst (λ (o : Option Table). PassesTotal o c) (sym there) (passes h)) behind x
 
-pub append_refused : {V : Type 0} (old new : Option Table) (t : Table) (k : LogicalType) (view : V → Raw) (values : List V) (e : TableError)
-    → old ≡ Some t → new ≡ Some t
-    → Explains (2 ^ 64 ≤ length (rows_of t) + length values) (refusal t (append k (map view values))) e
-    → (e ≡ error.Total → refusal t (append k (map view values)) ≡ None)
-    → RespondsTo RowsPass old (append k (map view values)) (error_answer e) new
-append_refused old new t k view values e there same x behind =
-    let c : Command = append k (map view values) in
-    explained (2 ^ 64 ≤ length (rows_of t) + length values) old new c (refusal t c) e (same ∙ sym there)
-    (ap (λ (o : Option Table). refusal_in o c) there) (passes old t k view values there) behind x
+-- lists with too many items
+pub too_many : (chunks : List Chunk) → AnyHasTooManyItems (map (λ c. c.array) chunks) → AnyMayHaveTooManyItems (map chunk_rows chunks)
+too_many [] h = absurd h
+too_many (c ∷ chunks) (inl h) = inl (record { array = c.array; are_rows = refl; too_many = h })
+too_many (c ∷ chunks) (inr h) = inr (too_many chunks h)
 
 -- a command to a table that passes no total
 pub refused_there : (old new : Option Table) (t : Table) (c : Command) (e : TableError) → old ≡ Some t → new ≡ Some t → Explains ⊥ (refusal t c) e
-    → RespondsTo RowsPass old c (error_answer e) new
+    → RespondsTo PassesTotal old c (error_answer e) new
 refused_there old new t c e there same x =
     explained ⊥ old new c (refusal t c) e (same ∙ sym there)
     (ap (λ (o : Option Table). refusal_in o c) there) (λ h. absurd h) (never (refusal t c) e x) x
 
 pub scan_found : (old : Option Table) (t : Table) (paths : List (List Step)) (p : Expression) (a : ScanAnswer)
     → old ≡ Some t → refusal t (scan paths p) ≡ None → a ≡ scanned t (map names_of paths) p
-    → RespondsTo RowsPass old (scan paths p) (found a) old
+    → RespondsTo PassesTotal old (scan paths p) (found a) old
 scan_found old t paths p a there accepted is =
-    subst (λ (o : Option Table). RespondsTo RowsPass o (scan paths p) (found a) o) (sym there) (accepted, ap found is, refl)
+    subst (λ (o : Option Table). RespondsTo PassesTotal o (scan paths p) (found a) o) (sym there) (accepted, ap found is, refl)
 
 pub describe_found : (old : Option Table) (t : Table) (path : List Step) (i : ℕ) (z : ZoneMap)
     → old ≡ Some t → refusal t (describe path i) ≡ None → Describes t (positions_of t.kind path) i z
-    → RespondsTo RowsPass old (describe path i) (described z) old
+    → RespondsTo PassesTotal old (describe path i) (described z) old
 describe_found old t path i z there accepted is =
-    subst (λ (o : Option Table). RespondsTo RowsPass o (describe path i) (described z) o) (sym there) (accepted, (z, is, refl), refl)
+    subst (λ (o : Option Table). RespondsTo PassesTotal o (describe path i) (described z) o) (sym there) (accepted, (z, is, refl), refl)

@@ -3,12 +3,13 @@ use Rattle.std.specs.Prelude.{◌≡◌, ℕ, List, [], Option, Some, None, code
 use Rattle.vortex_model.specs.Table.{Table}
 use Rattle.vortex_model.specs.Command.{Command}
 use Rattle.vortex_model.specs.Refusal.{total_passed}
-use Rattle.vortex_model.specs.Reply.{Answer, accepted, out_of_memory, refused, RowsPass, RespondsTo}
+use Rattle.vortex_model.specs.Reply.{Answer, accepted, out_of_memory, refused, RespondsTo}
 use Rattle.vortex_table_check.specs.Error.{refusal_of}
 use Rattle.vortex_table_check.specs.declared.error.TableError.{TableError}
 use Rattle.vortex_table_check.specs.declared.error.TableError.TheVariants as error
 use Rattle.vortex_table_response.specs.Text.{name_of}
 use Rattle.vortex_table_response.specs.Answers.{text_of}
+use Rattle.vortex_table_core.specs.Totals.{PassesTotal}
 use Rattle.vortex_table_io.specs.Lines.{with_lf}
 use Rattle.vortex_table_io.specs.declared.line_handler.Response.{Response}
 use Rattle.vortex_table_io.specs.declared.line_handler.Response.TheVariants.{Written, Short, Done, NoMemory}
@@ -22,7 +23,8 @@ IsWrittenAs a NoMemory out = a ≡ out_of_memory
 
 -- an answer to the command was said
 abbrev pub Responds : Option Table → Command → Response → List ℕ → Option Table → Type 0
-Responds old c response out new = (a : Answer) × RespondsTo RowsPass old c a new × IsWrittenAs a response out
+Responds old c response out new =
+    (a : Answer) × RespondsTo PassesTotal old c a new × IsWrittenAs a response out
 
 -- the answer that an error is
 abbrev pub error_answer : TableError → Answer

@@ -1,3 +1,4 @@
 pub mod LineAnswers
 pub mod CommandAnswers
+pub mod Exact
 pub mod State

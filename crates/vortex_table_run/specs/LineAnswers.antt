@@ -2,11 +2,12 @@
 use Rattle.std.specs.Prelude.{◌≡◌, ℕ, List, ◌⊎◌, Option, Some, None}
 use Rattle.vortex_model.specs.Table.{Table}
 use Rattle.vortex_model.specs.Command.{Command}
-use Rattle.vortex_model.specs.Reply.{Answer, RowsPass, RespondsTo}
+use Rattle.vortex_model.specs.Reply.{Answer, RespondsTo}
 use Rattle.vortex_table_io.specs.Replies.{memory_text}
 use Rattle.vortex_table_request.specs.Line.{command_of}
 use Rattle.vortex_table_response.specs.Text.{bad_line_text}
 use Rattle.vortex_table_response.specs.Answers.{text_of}
+use Rattle.vortex_table_core.specs.Totals.{PassesTotal}
 
 -- error 1, and nothing changes
 abbrev pub LacksMemory : Option Table → List ℕ → Option Table → Type 0
@@ -16,7 +17,8 @@ LacksMemory old text new = (text ≡ memory_text) × (new ≡ old)
 -- BadLine, and nothing changes.
 abbrev pub AnswersTo : Option Command → Option Table → List ℕ → Option Table → Type 0
 AnswersTo None old text new = (text ≡ bad_line_text) × (new ≡ old)
-AnswersTo (Some c) old text new = (a : Answer) × RespondsTo RowsPass old c a new × (text ≡ text_of a)
+AnswersTo (Some c) old text new =
+    (a : Answer) × RespondsTo PassesTotal old c a new × (text ≡ text_of a)
 
 -- From the table, or none, this text may be the answer to this line, and then this table is left.
 -- Want of memory may be the answer to any line.

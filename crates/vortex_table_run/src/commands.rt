@@ -1,19 +1,27 @@
 //! A run of commands over a source and a sink.
-ghost use Rattle.std.specs.Prelude.{◌≡◌, ◌≤◌, ◌+◌, ◌-◌, ◌^◌, Option, None, false, true, length, OnOk, OnErr, IsErrOf};
-ghost use Rattle.vortex_model.specs.Table.{Table};
+ghost use Rattle.std.specs.Prelude.{◌≡◌, ◌≤◌, ◌+◌, ◌-◌, ◌^◌, false, true, length, OnOk, OnErr, IsErrOf};
 ghost use Rattle.vortex_table_io.specs.Replies.{AnswersAll, AnswersPart};
-ghost use Rattle.vortex_table_run.specs.LineAnswers.{LineAnswers};
+ghost use Rattle.vortex_table_run.specs.Exact.{State, start, ExactAnswers};
 
 use crate::session::Session;
 use std::alloc::Global;
+use vortex_model::laws::steps_keep_tables;
+use vortex_model_laws::laws::exactly_the_hopeless_are_skipped;
 use vortex_table_io::{RunError, Sink, Source, run_lines};
 
 /// Runs the commands of a source of lines, and writes the answer to each into a sink, ended by an
 /// LF. There is no table at first.
 ///
+/// After any list of creates, appends, joins, compactions and retypings, in whatever layouts, cuts
+/// and bound lengths, each accepted scan answers exactly the plain converted rows that satisfy its
+/// predicate, in order, cut to what its paths cover; each command is accepted exactly where
+/// defined, else changes nothing; and for single-use comparison trees a chunk with all bounds is
+/// skipped exactly when no values between them satisfy the tree.
+///
 /// An LF ends a line, and the last line may lack it. A line is a command as a JSON object:
-/// `create`, `append`, `join`, `retype`, `scan` or `describe`. It is answered as soon as it was
-/// read, and the sink is flushed once, after the last answer.
+/// `create`, `append`, `join`, `retype`, `compact`, `scan` or `describe`. The answers to the lines
+/// that one read brought go out before the next read, and the sink is flushed once, after the last
+/// answer.
 ///
 /// A line that is no command is answered by error 18, `BadLine`, and a command that is refused by
 /// its error. Neither changes the table, and the next line is served. Want of memory is error 1,
@@ -31,8 +39,8 @@ pub fn run<R: Source, W: Sink>(
     requires reads { R.has_failed reader.old ≡ false }
     requires writes { W.has_failed writer.old ≡ false }
 
-    // Each line that was read is answered, and all of the source was read.
-    ensures ok { OnOk result ((last : Option Table) × AnswersAll LineAnswers None
+    // Each line that was read is answered exactly, and all of the source was read.
+    ensures ok { OnOk result ((last : State) × AnswersAll ExactAnswers start
         (R.history reader.old) (R.history reader.new)
         (W.history writer.old) (W.history writer.new) last) }
     ensures all_read { OnOk result ((R.has_ended reader.new ≡ true)
@@ -40,8 +48,8 @@ pub fn run<R: Source, W: Sink>(
         × (W.has_failed writer.new ≡ false)) }
     ensures flushed { OnOk result (W.flushed writer.new ≡ W.history writer.new) }
 
-    // At a fault, what was written is a beginning of the answers.
-    ensures part { OnErr result (AnswersPart LineAnswers None
+    // At a fault, what was written is a beginning of such answers.
+    ensures part { OnErr result (AnswersPart ExactAnswers start
         (R.history reader.old) (R.history reader.new)
         (W.history writer.old) (W.history writer.new)) }
     ensures read { IsErrOf result RunError.Read → R.has_failed reader.new ≡ true }
@@ -49,6 +57,9 @@ pub fn run<R: Source, W: Sink>(
     ensures limit { IsErrOf result RunError.Limit
         → length (R.history reader.old) + (2 ^ 64 - 1) ≤ length (R.history reader.new) }
 {
+    // Both tell the proof what holds behind any list of commands.
+    steps_keep_tables();
+    exactly_the_hopeless_are_skipped();
     let mut session = Session::new();
     run_lines(alloc, &mut session, reader, writer)
 }

@@ -1,6 +1,6 @@
-//! What is said to commands on groups of chunks.
+//! What is said to commands on groups of chunks, and on all chunks at once.
 ghost use Rattle.std.specs.Prelude.{◌≡◌, ℕ, List, OnOk};
-ghost use Rattle.vortex_model.specs.Command.{join, describe};
+ghost use Rattle.vortex_model.specs.Command.{join, compact, describe};
 ghost use Rattle.vortex_model.specs.ZoneMap.{ZoneMap};
 ghost use Rattle.vortex_dtype_path.specs.View.{steps_of};
 ghost use Rattle.vortex_table_schema.specs.Description.{IsDescription};
@@ -39,6 +39,21 @@ impl Session {
             return Response::Short(without_table());
         };
         match table.join(group) {
+            Ok(()) => Response::Done,
+            Err(error) => fault(error),
+        }
+    }
+
+    /// Lays the lists of all chunks end to end. Once the table has changed, the answer takes no
+    /// memory.
+    pub(crate) fn answer_compact(&mut self) -> Response
+        ensures { (out : List ℕ)
+            → Responds (table_in self.old) compact result out (table_in self.new) }
+    {
+        let Some(table) = &mut self.table else {
+            return Response::Short(without_table());
+        };
+        match table.compact() {
             Ok(()) => Response::Done,
             Err(error) => fault(error),
         }

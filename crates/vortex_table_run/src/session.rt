@@ -152,6 +152,7 @@ impl Session {
             Command::Scan { paths, predicate } => self.answer_scan(alloc, &paths, &predicate, out),
             Command::Join { group } => self.answer_join(group),
             Command::Retype { dtype } => self.answer_retype(dtype),
+            Command::Compact => self.answer_compact(),
             Command::Describe { path, group } => self.answer_describe(alloc, &path, group, out),
         }
     }

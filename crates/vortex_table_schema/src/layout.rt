@@ -1,6 +1,6 @@
 //! The layout of a column of a batch, as whoever appends it may tell.
 
-/// A hint of how a column of an appended batch was laid out. Tables ignore it so far.
+/// A hint of how a column of an appended batch is to be laid out. One that does not fit is ignored.
 #[derive(Clone, Copy, Debug, PartialEq, Eq)]
 pub enum Layout {
     /// One value for each row.

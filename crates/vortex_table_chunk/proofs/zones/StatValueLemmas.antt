@@ -1,16 +1,12 @@
 -- Bounds of a leaf say what its zone map does.
-use Rattle.std.proofs.Common.{◌≡◌, sym, ◌∙◌, ap, ℕ, pos, List, true, ◌==◌, Option, Some}
-use Rattle.std.specs.List.{AllByRecursion}
+use Rattle.std.proofs.Common.{◌≡◌, sym, ◌∙◌, ap, ℕ, pos, List, ◌==◌, Option, Some}
 use Rattle.vortex_model.specs.LogicalType.{LogicalType}
 use Rattle.vortex_model.specs.Content.{Content, boolean, integer}
-use Rattle.vortex_model.specs.Valid.{IsContent}
 use Rattle.vortex_model.specs.Path.{Names}
-use Rattle.vortex_model.specs.Kept.{is_leaf}
 use Rattle.vortex_model.specs.Expression.{column, Aggregate, min, max, null_count, all_null, all_non_null}
 use Rattle.vortex_model.specs.Statistics.{shown}
 use Rattle.vortex_model.specs.ZoneMap.{ZoneMap, zone_of}
 use Rattle.vortex_model.specs.Scan.{known, told}
-use Rattle.vortex_model.proofs.LeafOrder.{leaves_compare}
 use Rattle.vortex_table_chunk.specs.declared.zones.bounds.ColumnBounds.{ColumnBounds}
 use Rattle.vortex_table_chunk.specs.zones.Bounds.{bound_in, IsBoundsOf}
 use Rattle.vortex_table_chunk.specs.zones.StatValue.{stat_value}
@@ -30,8 +26,6 @@ module _ (b : ColumnBounds) (rows : ℕ) (z : ZoneMap) (low : bound_in b.low ≡
   stat_values_alike a = ap (as_told a) (sym is)
 
 -- so do those of a leaf's column
-module _ (b : ColumnBounds) (k : LogicalType) (L rows : ℕ) (cs : List Content) (leaf : is_leaf k ≡ true) (of_type : AllByRecursion (IsContent k) cs) (honest : IsBoundsOf L b cs)
-    (xs : Names) (zones : Names → Option ZoneMap) (is : zones xs ≡ Some (zone_of k L cs)) where
+module _ (b : ColumnBounds) (k : LogicalType) (L rows : ℕ) (cs : List Content) (honest : IsBoundsOf L b cs) (xs : Names) (zones : Names → Option ZoneMap) (is : zones xs ≡ Some (zone_of k L cs)) where
   pub stat_values_are_right : (a : Aggregate) → stat_value b rows a ≡ known zones rows (column xs) a
-  stat_values_are_right =
-      stat_values_alike b rows (zone_of k L cs) (honest.low (leaves_compare k cs leaf of_type)) (honest.high (leaves_compare k cs leaf of_type)) honest.nulls xs zones is
+  stat_values_are_right = stat_values_alike b rows (zone_of k L cs) honest.low honest.high honest.nulls xs zones is

@@ -1,16 +1,9 @@
--- Sums with one more value in front.
-use Rattle.std.proofs.Common.{◌≡◌, refl, sym, ap, ◌∙◌, ℕ, ℤ, pos, neg_ℤ, ◌+ℤ◌, ◌-ℤ◌, ◌≤ℤ◌, ◌+◌, ◌^◌, ◌≤◌, List, [], ◌∷◌, length, true, false, Option, Some, None, if◌then◌else◌, arith}
+-- Numbers that are added.
+use Rattle.std.proofs.Common.{◌≡◌, ℤ, pos, neg_ℤ, ◌≤ℤ◌, ◌^◌, true, arith}
 use Rattle.std.proofs.lemmas.Int.{ints}
 use Rattle.vortex_model.specs.LogicalType.{IntKind, u8, u16, u32, u64, i8, i16, i32, i64}
-use Rattle.vortex_model.specs.Content.{Content}
-use Rattle.vortex_model.specs.Statistics.{exact, absent, number_in}
 use Rattle.vortex_model.specs.Valid.{in_range}
-use Rattle.vortex_model.specs.ZoneMap.{sum_in}
-use Rattle.vortex_dtype_ptype.specs.Numbers.{NumberKind, integral, floating, int_kind_in}
-use Rattle.vortex_scalar_value.specs.Numbers.{holds_number}
 use Rattle.vortex_scalar_value.proofs.Views as values
-use Rattle.vortex_table_chunk.specs.declared.zones.sum.RunningSum.{RunningSum}
-use Rattle.vortex_table_chunk.specs.zones.Sums.{sum_in_parts, IsSumOf}
 
 pub not_below : (i : IntKind) (z : ℤ) → in_range i z ≡ true → neg_ℤ (pos (2 ^ 64)) ≤ℤ z
 not_below u8 z h = grind (arith, ints, h)
@@ -33,32 +26,3 @@ not_above i32 z h = grind (arith, ints, h)
 not_above i64 z h = grind (arith, ints, h)
 
 pub ruleset numbers = (values.one_level, not_below, not_above)
-
--- the sum of a kind, as far as that holds it
-pub held_sum : (k : NumberKind) (z : ℤ) → sum_in (int_kind_in k) z ≡ (if holds_number k z then exact z else absent)
-held_sum (integral i) z = refl
-held_sum (floating f) z = refl
-
--- one more value in front
-pub with_front : (old new : RunningSum) (c : Content) (z : ℤ) → z ≡ number_in c → sum_in_parts new ≡ z +ℤ sum_in_parts old → new.above ≤ old.above + 2 ^ 64 → new.below ≤ old.below + 2 ^ 64 →
-    (cs : List Content) → IsSumOf old cs → IsSumOf new (c ∷ cs)
-with_front old new c z is sum above below cs h =
-    let a : ℕ = new.above in let b : ℕ = new.below in let n : ℕ = length cs in
-    let ha = h.above in let hb = h.below in
-    record {
-      total = sum ∙ (λ i. is i +ℤ h.total i);
-      above = omega (arith, above, ha);
-      below = omega (arith, below, hb);
-    }
-
-pub nothing_added : (s : RunningSum) → s.above ≡ 0 → s.below ≡ 0 → IsSumOf s []
-nothing_added s a b = record {
-  total = (λ i. pos (a i) -ℤ pos (b i));
-  above = omega (arith, a);
-  below = omega (arith, b);
-}
-
--- a sum that no kind holds
-pub not_held : (o : Option IntKind) (z : ℤ) → ((i : IntKind) → in_range i z ≡ false) → absent ≡ sum_in o z
-not_held None z h = refl
-not_held (Some i) z h = sym (ap (λ b. if b then exact z else absent) (h i))

@@ -1,12 +1,6 @@
 -- Whether all values of a leaf are one.
-use Rattle.std.specs.Prelude.{ℕ, Bool, true, ◌&&◌, ◌==◌, Option, Some, None}
-use Rattle.vortex_model.specs.Content.{Content}
-use Rattle.vortex_model.specs.Statistics.{Precision, exact, absent, is_at_most}
-
--- Without a value all are null. Else none is, and the greatest is not above the least.
-abbrev pub constant_by : Option Content → Option Content → ℕ → Bool
-constant_by (Some least) (Some greatest) nulls = (nulls == 0) && is_at_most greatest least
-constant_by least greatest nulls = true
+use Rattle.std.specs.Prelude.{Bool, Option, Some, None}
+use Rattle.vortex_model.specs.Statistics.{Precision, exact, absent}
 
 -- what is known of it
 abbrev pub known_constancy : Option Bool → Precision Bool

@@ -1,18 +1,20 @@
 //! The statistics of a leaf column that a chunk keeps.
-ghost use Rattle.std.specs.Prelude.{◌≡◌, List, IfOk, option_map};
+ghost use Rattle.std.specs.Prelude.{◌≡◌, ℕ, List};
 ghost use Rattle.vortex_model.specs.Content.{Content};
-ghost use Rattle.vortex_table_chunk.specs.zones.Bounds.{borrowed_content, bound_in, low_at, high_at, IsMinMaxOf, IsBoundsOf};
-ghost use Rattle.vortex_table_chunk.specs.zones.Constancy.{constant_by};
-ghost use Rattle.vortex_table_chunk.specs.zones.Sums.{IsSumOf};
+ghost use Rattle.vortex_model.specs.Typing.{sum_kind};
+ghost use Rattle.vortex_model.specs.ZoneMap.{zone_of};
+ghost use Rattle.vortex_dtype_core.specs.View.{type_of};
+ghost use Rattle.vortex_stats_array.specs.Zones.{zone_in, bound_content as known_bound};
+ghost use Rattle.vortex_table_chunk.specs.zones.Bounds.{bound_in, IsBoundsOf};
+ghost use Rattle.vortex_table_chunk.specs.zones.Sums.{int_kind_of};
 
-use crate::zones::min_max::MinMax;
-use crate::zones::order::is_at_most;
-use crate::zones::shortened::{lower_bound_of, upper_bound_of};
-use crate::zones::sum::RunningSum;
-use std::alloc::{AllocError, Global};
+use crate::zones::sum_type::sum_type;
+use vortex_dtype_core::dtype::DType;
 use vortex_dtype_ptype::ptype::PType;
 use vortex_scalar_value::pvalue::PValue;
 use vortex_scalar_value::scalar_value::ScalarValue;
+use vortex_stats_array::array_stats::ArrayStats;
+use vortex_stats_bound::precision::Precision;
 
 /// A bound of the values of a column.
 #[derive(Drop)]
@@ -44,74 +46,31 @@ pub struct ColumnBounds {
     pub constant: Option<bool>,
 }
 
-fn lower_bound(least: Option<&ScalarValue>, max_length: usize) -> Result<Option<Bound>, AllocError>
-    ensures { IfOk result
-        (λ low. bound_in low ≡ low_at max_length (option_map borrowed_content least.entry)) }
+fn bound_of(known: Precision<ScalarValue>) -> Option<Bound>
+    ensures { bound_in result ≡ known_bound known }
 {
-    match least {
-        Some(least) => {
-            let low = lower_bound_of(least, max_length)?;
-            Ok(Some(low))
-        }
-        None => Ok(None),
-    }
+    let (value, shortened) = match known {
+        Precision::Exact(value) => (value, false),
+        Precision::Inexact(value) => (value, true),
+        Precision::Absent => return None,
+    };
+    Some(Bound { value, shortened })
 }
 
-fn upper_bound(
-    alloc: Global,
-    greatest: Option<&ScalarValue>,
-    max_length: usize,
-) -> Result<Option<Bound>, AllocError>
-    ensures { IfOk result
-        (λ high. bound_in high ≡ high_at max_length (option_map borrowed_content greatest.entry)) }
-{
-    match greatest {
-        Some(greatest) => {
-            let high = upper_bound_of(alloc, greatest, max_length)?;
-            Ok(high)
-        }
-        None => Ok(None),
-    }
-}
-
-impl MinMax<'_> {
-    /// Whether all values are one, null too. The least and the greatest are then the same.
-    pub fn is_constant(&self) -> bool
-        ensures { result ≡ constant_by (option_map borrowed_content self.now.least)
-            (option_map borrowed_content self.now.greatest) self.now.null_count }
+impl ColumnBounds {
+    /// The statistics to keep of a column of the type.
+    pub fn of_stats(dtype: &DType, stats: ArrayStats) -> ColumnBounds
+        ensures statistics { (L : ℕ) (values : List Content)
+            → zone_in stats ≡ zone_of (type_of dtype.now) L values → IsBoundsOf L result values }
+        ensures sum_type { int_kind_of result.sum_type ≡ sum_kind (type_of dtype.now) }
     {
-        match (self.least, self.greatest) {
-            (Some(least), Some(greatest)) => self.null_count == 0 && is_at_most(greatest, least),
-            (Some(_), None) => true,
-            (None, Some(_)) => true,
-            (None, None) => true,
+        ColumnBounds {
+            low: bound_of(stats.min),
+            high: bound_of(stats.max),
+            null_count: stats.null_count,
+            sum_type: sum_type(dtype),
+            sum: stats.sum,
+            constant: Some(stats.is_constant),
         }
-    }
-
-    /// The statistics to keep of values of this sum, whose type is `sum_type`. A bound that is a
-    /// text or bytes of more than `max_length` bytes is shortened. Only the two bounds are copied.
-    pub fn bounds(
-        self,
-        alloc: Global,
-        sum: RunningSum,
-        sum_type: Option<PType>,
-        max_length: usize,
-    ) -> Result<ColumnBounds, AllocError>
-        ensures statistics { IfOk result (λ bounds. (values : List Content)
-            → IsMinMaxOf self.entry values → IsSumOf sum values
-            → IsBoundsOf max_length bounds values) }
-        ensures sum_type { IfOk result (λ bounds. bounds.sum_type ≡ sum_type) }
-    {
-        let constant = Some(self.is_constant());
-        let low = lower_bound(self.least, max_length)?;
-        let high = upper_bound(alloc, self.greatest, max_length)?;
-        Ok(ColumnBounds {
-            low,
-            high,
-            null_count: self.null_count,
-            sum_type,
-            sum: sum.of_type(sum_type),
-            constant,
-        })
     }
 }

@@ -12,7 +12,6 @@ ghost use Rattle.vortex_table_chunk.specs.zones.Sums.{int_kind_of, known_sum};
 
 use crate::zones::bounds::{Bound, ColumnBounds};
 use crate::zones::order::is_at_most;
-use crate::zones::sum::of_kind;
 use std::alloc::AllocError;
 use vortex_dtype_ptype::ptype::PType;
 use vortex_scalar_value::pvalue::PValue;
@@ -102,6 +101,13 @@ fn sum_of(left: PValue, right: PValue) -> i128
     ensures { result ≡ integer_of left +ℤ integer_of right }
 {
     left.get() + right.get()
+}
+
+// The number as one of a kind of integers that holds it.
+fn of_kind(ptype: PType, number: i128) -> Option<PValue>
+    ensures { known_sum result ≡ sum_in (int_kind_in (number_kind_of ptype)) number }
+{
+    PValue::of(ptype, number)
 }
 
 // The sum as a number of the type, where that holds it.

@@ -1,4 +1,4 @@
-use Rattle.std.proofs.Common.{◌≡◌, sym, ap, subst, map, true}
+use Rattle.std.proofs.Common.{◌≡◌, ◌+◌, ◌-◌, sym, ap, subst, map, true, arith}
 use Rattle.std.specs.Prelude.{is_some}
 use Rattle.std.specs.List.{list_all}
 use Rattle.vortex_table_schema.specs.Leaves.{leaf_positions}
@@ -7,7 +7,7 @@ use Rattle.vortex_table_chunk.specs.Formed.{is_formed}
 use Rattle.vortex_table_retype.specs.InOrder.{AreJoinedInOrder}
 use Rattle.vortex_table_retype.specs.Retyping.{target_of, lengths_of}
 use Rattle.vortex_table_core.proofs.Groups.{formed_in}
-use Rattle.vortex_table_core.proofs.Regrouped.{sliced, own_many}
+use Rattle.vortex_table_core.proofs.Regrouped.{sliced, own_many, few_within}
 use Rattle.vortex_table_core.proofs.retype.joined_again.Goals as goal
 
 pub join_chunks-requires-clause-formed : goal.join_chunks-requires-clause-formed
@@ -23,3 +23,9 @@ returns-in_ok-joined-in-Some c =
       own_many g chunks c.requires.size (ap is_some c.in-Some.is),
       subst (λ cs. ∥ AreJoinedInOrder k (lengths_of r) (leaf_positions k) c.in_ok-joined-in-Some.joined.items (map chunk_rows cs) ∥₁) (sliced g chunks) c.in_ok-joined-in-Some.ensures,
     )
+
+pub join_chunks-requires-clause-fits : goal.join_chunks-requires-clause-fits
+join_chunks-requires-clause-fits c =
+    let g = c.args.group.now in
+    let few = few_within (g.first + g.chunks - g.first) g.first c.args.chunks.now in
+    omega (arith, few, c.requires.fits)

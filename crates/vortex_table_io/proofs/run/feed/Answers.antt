@@ -1,36 +1,15 @@
-use Rattle.std.proofs.Common.{◌≡◌, List, ℕ, [], ◌∷◌, ◌++◌, refl, sym, ap, ◌∙◌, append_assoc}
-use Rattle.std.proofs.lemmas.Result.{err_from_is_err_and}
-use Rattle.vortex_table_io.proofs.ReplyLemmas.{FeedOk-none, FeedOk-more, FeedOk-line, FeedErr-line}
+use Rattle.std.proofs.Common.{◌≡◌, List, ℕ, ◌++◌, ap, ◌∙◌, subst, append-nil}
+use Rattle.std.proofs.lemmas.Result.{on_err_weaker}
+use Rattle.vortex_table_io.specs.Replies.{FeedOk}
+use Rattle.vortex_table_io.proofs.ReplyLemmas.{FeedErr-gathered}
 use Rattle.vortex_table_io.proofs.run.feed.Goals as goal
 
--- a front, a line and the rest
-seam : (front line after rest piece : List ℕ) → rest ≡ line ++ 10 ∷ after → front ++ rest ≡ piece → (front ++ line) ++ 10 ∷ after ≡ piece
-seam front line after rest piece e h = append_assoc front line (10 ∷ after) ∙ ap (λ (x : List ℕ). front ++ x) (sym e) ∙ h
-
-pub loop-line-init : goal.loop-line-init
-loop-line-init g c = record { front = []; parts = refl; goes = FeedOk-none refl; fine = c.requires }
-
-pub returns-in_err-answer_line-clause-part : goal.returns-in_err-answer_line-clause-part
-returns-in_err-answer_line-clause-part g c =
-    let failed = err_from_is_err_and c.from_residual.result c.from_residual.ensures.1 in
-    let before = c.loop-line.invariant in
-    let line = c.in-Some.line.now in
-    let after = c.in-Some.after.now in
-    let answer = c.in_err-answer_line.ensures.part in
-    rw (failed.1) (FeedErr-line {x = g.W.Sink.history c.answer_line.new.writer} _ answer.0 answer.1 after
-    (seam before.front line after c.loop-line.rest.now c.args.piece.now c.in-Some.ensures.1 before.parts)
-    c.add.new.self.one_line answer.2 answer.3 (FeedOk-more line c.add.ensures before.goes))
-
-pub loop-line-preserved : goal.loop-line-preserved
-loop-line-preserved g c =
-    let before = c.loop-line.invariant in
-    let line = c.in-Some.line.now in
-    let after = c.in-Some.after.now in
-    let answer = c.in_ok-answer_line.ensures.ok in
-    record {
-      front = (before.front ++ line) ++ 10 ∷ [];
-      parts = append_assoc (before.front ++ line) (10 ∷ []) after
-          ∙ seam before.front line after c.loop-line.rest.now c.args.piece.now c.in-Some.ensures.1 before.parts;
-      goes = FeedOk-line answer.0 c.add.new.self.one_line c.clear.ensures answer.1 answer.2 (FeedOk-more line c.add.ensures before.goes);
-      fine = c.in_ok-answer_line.ensures.fine;
-    }
+pub returns-clause-part : goal.returns-clause-part
+returns-clause-part g c =
+    let old = g.W.Sink.history c.args.writer.now in
+    let none : old ++ c.clear.new.self.items ≡ old = ap (λ (x : List ℕ). old ++ x) c.clear.ensures.items ∙ append-nil old in
+    let written = g.W.Sink.history c.gather.new.writer ++ c.gather.new.gathered.items in
+    let goes = subst (λ (v : List ℕ). FeedOk g.M.LineHandler.answers (g.M.LineHandler.view c.args.handler.now) c.args.buffer.now.line.bytes c.args.piece.now
+    c.gather.new.buffer.line.bytes v written (g.M.LineHandler.view c.gather.new.handler)) none c.in_ok-gather.ensures.ok in
+    on_err_weaker c.write_all.result (λ part. FeedErr-gathered part.0
+    (part.1 ∙ ap (λ (x : List ℕ). g.W.Sink.history c.gather.new.writer ++ x) c.deref.ensures.value) goes) c.write_all.ensures.part

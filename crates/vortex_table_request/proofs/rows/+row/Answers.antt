@@ -1,16 +1,15 @@
 use Rattle.std.below.core.proofs.iter.Serving.{as_err}
 use Rattle.std.proofs.lemmas.Grind.{common_steps, elements}
-use Rattle.std.proofs.Common.{List, Some, map, option_map, sym, ap, ◌∙◌, arith}
-use Rattle.serde_json.specs.Data.{Data}
-use Rattle.serde_json.specs.View.{view, items_view}
-use Rattle.serde_json.proofs.Views.{view-Array}
-use Rattle.vortex_model.specs.Content.{Raw, raw_tuple}
+use Rattle.std.proofs.Common.{Option, Some, map, sym, ap, ◌∙◌, arith, rules}
+use Rattle.serde_json.specs.Events.{items_len}
+use Rattle.serde_json.specs.View.{items_view}
+use Rattle.vortex_model.specs.LogicalType.{LogicalType, Fields}
 use Rattle.vortex_dtype_core.specs.View.{type_of}
-use Rattle.vortex_scalar_value.specs.View.{raw_in, raws_from}
+use Rattle.vortex_scalar_value.specs.View.{raw_in}
 use Rattle.vortex_scalar_value.proofs.Views.{raw_of-Tuple}
 use Rattle.vortex_dtype_core.proofs.Loops.{none_left}
-use Rattle.vortex_table_request.specs.Rows.{reading}
-use Rattle.vortex_table_request.proofs.AtKinds.{tuple_in, reading-array}
+use Rattle.vortex_table_request.specs.Rows.{item_type}
+use Rattle.vortex_table_request.proofs.AtKinds.{tuple_of, list_in, tuple_in, reading-array, reading-items}
 use Rattle.vortex_table_request.proofs.RowLemmas.{too_few, rest_fits, one_read}
 use Rattle.vortex_table_request.proofs.rows.+row.Goals as goal
 
@@ -25,13 +24,28 @@ pub take_fields-returns-else-is_empty : goal.take_fields-returns-else-is_empty
 take_fields-returns-else-is_empty t c =
     too_few (map raw_in c.loop-item.values.items) c.loop-item.rest.now _ _ _ (ap items_view (none_left _ (omega (arith, c.loop-item.item-iterator.rest.ok.0, c.in-None.ensures.steps.0)))) c.is_empty.ensures c.if-is_empty.false c.loop-item.invariant.1
 
-pub take_value-returns-in-Some : goal.take_value-returns-in-Some
-take_value-returns-in-Some t c =
-    ap (λ (d : Data). reading (type_of c.args.dtype.now) d) (ap view c.in-Array.is ∙ view-Array c.in-Array.items)
-    ∙ reading-array (type_of c.args.dtype.now) (items_view c.in-Array.items.items)
-    ∙ ap (λ o. tuple_in o (items_view c.in-Array.items.items)) (sym c.in-Some.ensures ∙ ap Some (sym c.as_slice.ensures.fields))
-    ∙ ap (option_map (λ (rs : List Raw). raw_tuple (raws_from rs))) c.in_ok-values-in-Some.ensures
-    ∙ ap Some (sym (raw_of-Tuple c.in_ok-values-in-Some.values))
+pub take_array-returns-in-Some : goal.take_array-returns-in-Some
+take_array-returns-in-Some t c =
+    let ds = items_view c.args.items.items in
+    let item = item_type (type_of c.args.dtype.now) (items_len ds) in
+    reading-array (type_of c.args.dtype.now) ds
+    ∙ ap (λ (o : Option Fields). tuple_in o item ds) (sym c.in-Some.ensures ∙ ap Some (sym c.as_slice.ensures.fields))
+    ∙ ap tuple_of c.in_ok-values.ensures
+    ∙ ap Some (sym (raw_of-Tuple c.in_ok-values.values))
+
+pub take_array-returns-in_default-item_dtype : goal.take_array-returns-in_default-item_dtype
+take_array-returns-in_default-item_dtype t c =
+    let ds = items_view c.args.items.items in
+    reading-items (type_of c.args.dtype.now) c.args.items.items c.len.result c.in_default.ensures (search rules)
+    ∙ ap (λ (o : Option LogicalType). list_in o ds) (sym c.in_default-item_dtype.ensures)
+
+pub take_array-returns : goal.take_array-returns
+take_array-returns t c =
+    let ds = items_view c.args.items.items in
+    reading-items (type_of c.args.dtype.now) c.args.items.items c.len.result c.in_default.ensures (search rules)
+    ∙ ap (λ (o : Option LogicalType). list_in o ds) (sym c.in-Some-item_dtype.ensures)
+    ∙ ap tuple_of c.in_ok-values-2.ensures
+    ∙ ap Some (sym (raw_of-Tuple c.in_ok-values-2.values))
 
 pub take_fields-returns-in_err-values : goal.take_fields-returns-in_err-values
 take_fields-returns-in_err-values t c = grind (arith, (as_err c.from_residual.ensures.0).1)

@@ -10,18 +10,18 @@ pub returns-then-falsified : goal.returns-then-falsified
 returns-then-falsified c =
     let plan = c.args.self.now in let k = (table_in plan).kind in
     outcome_skipped plan c.requires.plan c.args.chunk.now c.requires.formed c.proves-falsified.result
-    (c.proves-falsified.ensures ∙ (λ i. proved_in (zone_provided (leaf_positions k) (c.as_slice-bounds.ensures.value i) ((c.len-rows.ensures ∙ c.args.chunk.now.rows.ok.0) i)) plan.prepared.now.proofs.falsifier)) c.if-falsified.true
+    (c.proves-falsified.ensures ∙ (λ i. proved_in (zone_provided (leaf_positions k) (c.as_slice-bounds.ensures.value i) (c.len-rows.ensures.count i)) plan.prepared.now.proofs.falsifier)) c.if-falsified.true
 
 pub returns-then-satisfied : goal.returns-then-satisfied
 returns-then-satisfied c =
     let plan = c.args.self.now in let k = (table_in plan).kind in
     outcome_whole plan c.requires.plan c.args.chunk.now c.requires.formed c.proves-falsified.result c.proves-satisfied.result
-    (c.proves-falsified.ensures ∙ (λ i. proved_in (zone_provided (leaf_positions k) (c.as_slice-bounds.ensures.value i) ((c.len-rows.ensures ∙ c.args.chunk.now.rows.ok.0) i)) plan.prepared.now.proofs.falsifier))
-    (c.proves-satisfied.ensures ∙ (λ i. proved_in (zone_provided (leaf_positions k) (c.as_slice-bounds.ensures.value i) ((c.len-rows.ensures ∙ c.args.chunk.now.rows.ok.0) i)) plan.prepared.now.proofs.satisfier)) c.if-falsified.false c.if-satisfied.true
+    (c.proves-falsified.ensures ∙ (λ i. proved_in (zone_provided (leaf_positions k) (c.as_slice-bounds.ensures.value i) (c.len-rows.ensures.count i)) plan.prepared.now.proofs.falsifier))
+    (c.proves-satisfied.ensures ∙ (λ i. proved_in (zone_provided (leaf_positions k) (c.as_slice-bounds.ensures.value i) (c.len-rows.ensures.count i)) plan.prepared.now.proofs.satisfier)) c.if-falsified.false c.if-satisfied.true
 
 pub returns : goal.returns
 returns c =
     let plan = c.args.self.now in let k = (table_in plan).kind in
     outcome_tested plan c.requires.plan c.args.chunk.now c.requires.formed c.proves-falsified.result c.proves-satisfied.result
-    (c.proves-falsified.ensures ∙ (λ i. proved_in (zone_provided (leaf_positions k) (c.as_slice-bounds.ensures.value i) ((c.len-rows.ensures ∙ c.args.chunk.now.rows.ok.0) i)) plan.prepared.now.proofs.falsifier))
-    (c.proves-satisfied.ensures ∙ (λ i. proved_in (zone_provided (leaf_positions k) (c.as_slice-bounds.ensures.value i) ((c.len-rows.ensures ∙ c.args.chunk.now.rows.ok.0) i)) plan.prepared.now.proofs.satisfier)) c.if-falsified.false c.if-satisfied.false
+    (c.proves-falsified.ensures ∙ (λ i. proved_in (zone_provided (leaf_positions k) (c.as_slice-bounds.ensures.value i) (c.len-rows.ensures.count i)) plan.prepared.now.proofs.falsifier))
+    (c.proves-satisfied.ensures ∙ (λ i. proved_in (zone_provided (leaf_positions k) (c.as_slice-bounds.ensures.value i) (c.len-rows.ensures.count i)) plan.prepared.now.proofs.satisfier)) c.if-falsified.false c.if-satisfied.false

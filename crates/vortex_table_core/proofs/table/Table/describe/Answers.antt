@@ -8,7 +8,7 @@ use Rattle.vortex_table_chunk.specs.zones.Join.{zone_in}
 use Rattle.vortex_table_core.specs.Group.{chunks_of}
 use Rattle.vortex_table_core.specs.TableView.{table_of}
 use Rattle.vortex_table_core.proofs.Described.{chunks_typed, column_described}
-use Rattle.vortex_table_core.proofs.DescribedBounds.{leaf_bounds}
+use Rattle.vortex_table_description.proofs.DescribedBounds.{leaf_bounds}
 use Rattle.vortex_table_core.proofs.JoinedGroups.{same_at}
 use Rattle.vortex_table_check.proofs.LeafPlaces.{leaf_part, one_of}
 use Rattle.vortex_table_check.specs.Lengths.{length_in}

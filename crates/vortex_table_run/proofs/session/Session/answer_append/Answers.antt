@@ -8,7 +8,7 @@ use Rattle.vortex_scalar_value.specs.View.{raw_in}
 use Rattle.vortex_table_core.specs.TableView.{table_of}
 use Rattle.vortex_table_run.specs.CommandAnswers.{error_answer}
 use Rattle.vortex_table_run.specs.State.{table_in}
-use Rattle.vortex_table_run.proofs.Responding.{without_table, append_refused}
+use Rattle.vortex_table_run.proofs.Responding.{without_table, refused_for}
 use Rattle.vortex_table_run.proofs.session.Session.answer_append.Goals as goal
 
 pub returns-in_default : goal.returns-in_default
@@ -21,10 +21,10 @@ pub returns-in-Err : goal.returns-in-Err
 returns-in-Err c = λ out.
     let e = c.in-Err.error in
     let there = ap (option_map table_of) c.in-Some.is in
-    let same = ap Some c.in-Err.ensures.unchanged in (
+    let same = ap Some c.in-Err.ensures.appends.unchanged in (
       error_answer e,
-      append_refused (table_in c.args.self.now) (Some (table_of c.append_owned.new.self)) (table_of c.in-Some.table) (type_of c.args.dtype.now) raw_in
-          c.args.values.items e there same c.in-Err.ensures.refused
-          (λ h. c.in-Err.ensures.total (ap Err h)),
+      refused_for _ (table_in c.args.self.now) (Some (table_of c.append_owned.new.self)) (table_of c.in-Some.table)
+          (append (type_of c.args.dtype.now) (map raw_in c.args.values.items)) e there same (λ h. h) c.in-Err.ensures.appends.refused
+          (λ h. c.in-Err.ensures.appends.total (ap Err h)),
       c.fault.ensures out,
     )

@@ -11,3 +11,6 @@ returns-in-Append c = rw c.in-Append.is (c.answer_append.ensures c.args.out.now.
 
 pub returns-in-Retype : goal.returns-in-Retype
 returns-in-Retype c = rw c.in-Retype.is (c.answer_retype.ensures c.args.out.now.items)
+
+pub returns-in-Compact : goal.returns-in-Compact
+returns-in-Compact c = rw c.in-Compact.is (c.answer_compact.ensures c.args.out.now.items)

@@ -1,4 +1,4 @@
-use Rattle.std.proofs.Common.{Some, refl, ap}
+use Rattle.std.proofs.Common.{Some, Err, refl, ap}
 use Rattle.std.specs.Prelude.{option_map}
 use Rattle.vortex_model.specs.Command.{retype}
 use Rattle.vortex_model.specs.Refusal.{no_table}
@@ -7,7 +7,7 @@ use Rattle.vortex_dtype_core.specs.View.{type_of}
 use Rattle.vortex_table_core.specs.TableView.{table_of}
 use Rattle.vortex_table_run.specs.CommandAnswers.{error_answer}
 use Rattle.vortex_table_run.specs.State.{table_in}
-use Rattle.vortex_table_run.proofs.Responding.{without_table, refused_there}
+use Rattle.vortex_table_run.proofs.Responding.{without_table, refused_for}
 use Rattle.vortex_table_run.proofs.session.Session.answer_retype.Goals as goal
 
 pub returns-in_default : goal.returns-in_default
@@ -21,6 +21,7 @@ returns-in-Err c = λ out.
     let there = ap (option_map table_of) c.in-Some.is in
     let same = ap (λ t. Some (table_of t)) c.in-Err.ensures.unchanged in (
       error_answer e,
-      refused_there (table_in c.args.self.now) (Some (table_of c.retype.new.self)) (table_of c.in-Some.table) (retype (type_of c.args.dtype)) e there same c.in-Err.ensures.refused,
+      refused_for _ (table_in c.args.self.now) (Some (table_of c.retype.new.self)) (table_of c.in-Some.table) (retype (type_of c.args.dtype)) e there same
+          (λ h. h) c.in-Err.ensures.refused (λ h. c.in-Err.ensures.total (ap Err h)),
       c.fault.ensures out,
     )

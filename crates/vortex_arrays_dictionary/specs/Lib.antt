@@ -1,0 +1,4 @@
+pub mod Codes
+pub mod Dictionary
+pub mod Distinct
+pub mod Numbering

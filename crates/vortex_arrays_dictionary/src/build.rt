@@ -1,0 +1,47 @@
+//! Arrays of values, laid out as a dictionary.
+ghost use Rattle.std.specs.Prelude.{◌≡◌, true, map, IfOk, IfErr, All};
+ghost use Rattle.vortex_model.specs.Kept.{is_leaf};
+ghost use Rattle.vortex_model.specs.Valid.{valid};
+ghost use Rattle.vortex_dtype_core.specs.View.{type_of};
+ghost use Rattle.vortex_scalar_value.specs.View.{raw_at, content_at};
+ghost use Rattle.vortex_arrays_model.specs.Layout.{array_type_of, rows_of};
+ghost use Rattle.vortex_arrays_dictionary.specs.Dictionary.{IsDictionaryOf, IsDictionaryFault};
+
+use crate::codes::codes_of;
+use crate::number::number_values;
+use std::alloc::Global;
+use vortex_arrays_buffer::error::ArrayError;
+use vortex_arrays_builder::leaves::nulls_of;
+use vortex_arrays_builder::plain::build_plain;
+use vortex_arrays_core::array::ArrayRef;
+use vortex_dtype_core::dtype::DType;
+use vortex_scalar_value::scalar_value::ScalarValue;
+
+/// The array of these values, which are truth values, integers, texts or bytes, laid out as a
+/// dictionary: each value once, by first occurrence, and for each row the code of its value, in as
+/// few bytes as count them. `None` is null, and has a null code. It takes time linear in the values
+/// but for the look-ups, each of which costs the logarithm of the distinct values.
+///
+/// `Total` as for `build_plain`, here of the distinct values.
+#[tactic(auto, using(crate::proofs::BuildLemmas::built))]
+pub fn build_dictionary(
+    alloc: Global,
+    dtype: &DType,
+    values: &[Option<&ScalarValue>],
+) -> Result<ArrayRef, ArrayError>
+    requires kind { is_leaf (type_of dtype.now) ≡ true }
+    requires valid { All (λ value. valid (type_of dtype.now) (raw_at value) ≡ true) values.now }
+    ensures dtype { IfOk result (λ array. array_type_of array ≡ type_of dtype.now) }
+    ensures rows { IfOk result (λ array. rows_of array ≡ map content_at values.now) }
+    ensures layout { IfOk result (λ array. IsDictionaryOf (map content_at values.now) array) }
+    ensures refused { IfErr result
+        (λ e. IsDictionaryFault e (type_of dtype.now) (map raw_at values.now)) }
+{
+    let numbering = number_values(alloc, values)?;
+    let distinct = build_plain(alloc, dtype, numbering.values.as_slice())?;
+    let nulls = nulls_of(alloc, dtype.nullability(), values)?;
+    let numbers = numbering.numbers.as_slice();
+    let codes = codes_of(alloc, numbers, numbering.values.len(), nulls)?;
+    let array = ArrayRef::of_dict(alloc, codes, distinct, false)?;
+    Ok(array)
+}

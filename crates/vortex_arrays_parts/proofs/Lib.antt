@@ -1,0 +1,4 @@
+pub mod NullLemmas
+pub mod SlotLemmas
+pub mod TypeLemmas
+pub mod TypedLemmas

@@ -1,0 +1,17 @@
+-- Which rows of an array are null.
+use Rattle.std.specs.Prelude.{◌≡◌, ◌<◌, ℕ, not}
+use Rattle.vortex_model.specs.LogicalType.{nullability_of}
+use Rattle.vortex_model.specs.Content.{is_null}
+use Rattle.vortex_arrays_model.specs.Layout.{Layout, constant, dictionary, Valid, len_of, array_type_of, nullability_by, content_at, is_valid, HasLength}
+
+-- the layout says of its own which rows are null
+abbrev pub HasValidity : Layout → Type 0
+HasValidity (constant k r n) = ⊥
+HasValidity (dictionary c v f) = ⊥
+HasValidity a = Unit {0}
+
+-- v says of each row of the array whether it is null, and of its type whether one can be
+pub record TellsNullsOf (a : Layout) (v : Valid) : Type 0 where
+  pub fits : HasLength v (len_of a)
+  pub nullability : nullability_by v ≡ nullability_of (array_type_of a)
+  pub rows : (i : ℕ) → i < len_of a → is_valid v i ≡ not (is_null (content_at a i))

@@ -1,0 +1,35 @@
+//! The calls of lists of one size beside those that they are made and read by.
+ghost use Rattle.std.specs.Prelude.{◌≡◌};
+ghost use Rattle.vortex_model.specs.LogicalType.{fixed_list};
+ghost use Rattle.vortex_dtype_ptype.specs.View.{nullability_of_flag};
+ghost use Rattle.vortex_dtype_core.specs.View.{type_of};
+ghost use Rattle.vortex_arrays_model.specs.Layout.{Layout, array_type_of};
+
+use vortex_arrays_nested::fixed_size_list::FixedSizeListArray;
+use vortex_dtype_core::dtype::DType;
+use vortex_dtype_ptype::nullability::Nullability;
+
+/// The call of Vortex's `FixedSizeListArrayExt` that the array's own calls leave open.
+pub trait FixedSizeListArrayExt {
+    // The lists of a value.
+    ghost layout: { Self → Layout };
+
+    /// The type of the elements, how many a list has, and whether a list can be null.
+    fn dtype_parts(&self) -> (&DType, u32, Nullability)
+        ensures { array_type_of (layout self.now)
+            ≡ fixed_list (type_of result.0.now) result.1 (nullability_of_flag result.2) };
+}
+
+impl FixedSizeListArrayExt for FixedSizeListArray {
+    ghost layout = { λ a. a };
+
+    #[tactic(auto, using(crate::proofs::TypeLemmas::of_fixed_lists))]
+    fn dtype_parts(&self) -> (&DType, u32, Nullability) {
+        let slots = self.slots();
+        (
+            slots.elements.dtype(),
+            slots.list_size,
+            slots.validity.nullability(),
+        )
+    }
+}

@@ -1,6 +1,0 @@
-use Rattle.vortex_table_chunk.specs.zones.Sums.{sum_in_parts, int_kind_of}
-use Rattle.vortex_table_chunk.proofs.zones.SumLemmas.{not_held}
-use Rattle.vortex_table_chunk.proofs.zones.sum.RunningSum.of_type.Goals as goal
-
-pub returns-in-None : goal.returns-in-None
-returns-in-None c = not_held (int_kind_of c.args.sum_type) (sum_in_parts c.args.self) c.in-None.ensures.none

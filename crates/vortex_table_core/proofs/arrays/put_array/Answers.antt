@@ -1,0 +1,13 @@
+use Rattle.std.proofs.Common.{sym, subst}
+use Rattle.vortex_table_chunk.specs.Bounds.{AreBoundsOf}
+use Rattle.vortex_table_chunk.proofs.TypedRows.{rows_pass}
+use Rattle.vortex_table_core.proofs.arrays.put_array.Goals as goal
+
+pub invariant_of-chunk : goal.invariant_of-chunk
+invariant_of-chunk c =
+    let chunk = c.args.chunk.now in
+    record {
+      sound = ∣ c.len-rows.ensures.sound ∣₁;
+      typed = rows_pass c.args.array c.tests_of_validity_are_right.ensures c.len-rows.ensures.sound;
+      honest = subst (λ rows. AreBoundsOf chunk.lengths.value.items chunk.leaves.value.items chunk.bounds.items rows) (sym c.requires) chunk.honest;
+    }

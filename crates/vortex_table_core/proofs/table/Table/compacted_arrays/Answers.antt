@@ -1,0 +1,10 @@
+use Rattle.std.proofs.Common.{◌≡◌, ◌<◌, subst, length, get_or}
+use Rattle.vortex_table_core.proofs.Rearrayed.{first_more}
+use Rattle.vortex_table_core.proofs.table.Table.compacted_arrays.Goals as goal
+
+pub loop-chunk-preserved : goal.loop-chunk-preserved
+loop-chunk-preserved c =
+    let same = c.deref-chunk-items.ensures.value in let i = c.loop-chunk.chunk-index in let x = c.chunk-item.result in
+    first_more c.args.self.now.chunks.items i c.loop-chunk.arrays.items c.push.new.self.items x c.in_ok-array.array c.loop-chunk.invariant
+    (subst (λ xs. i < length xs) same c.loop-chunk-test.true) (subst (λ xs. x ≡ get_or xs i x) same c.chunk-item.is)
+    c.in_ok-array.ensures.compacted c.in_ok-array.ensures.rows c.in_ok-array.ensures.dtype c.in_ok-push.ensures.items

@@ -1,0 +1,5 @@
+pub mod CompactLemmas
+mod ConstantLemmas
+mod KeepLemmas
+mod LaidLemmas
+mod RowLemmas

@@ -1,0 +1,58 @@
+-- Columns that are laid out as hints tell.
+use Rattle.std.specs.Prelude.{◌≡◌, ℕ, suc, List, Bool, true, false, map, slice_index_or}
+use Rattle.vortex_model.specs.LogicalType.{LogicalType, Fields, no_fields, field}
+use Rattle.vortex_model.specs.Content.{Content, content_of, Raw}
+use Rattle.vortex_arrays_model.specs.Layout.{Layout, constant, records, Columns, no_columns, column, array_type_of, rows_of, IsSound}
+use Rattle.vortex_arrays_builder.specs.Fits.{fits_constant}
+use Rattle.vortex_arrays_builder.specs.Plain.{parts_at}
+use Rattle.vortex_arrays_builder.specs.Types.{IsPlainLayout}
+use Rattle.vortex_table_schema.specs.declared.layout.Layout as hint
+use Rattle.vortex_table_schema.specs.declared.layout.Layout.TheVariants.{Plain, Dictionary, Constant}
+
+abbrev pub IsConstant : Layout → Type 0
+IsConstant (constant k r n) = Unit {0}
+IsConstant a = ⊥
+
+-- a constant where one fits, and else plain
+abbrev pub IsConstantWhere : Bool → Layout → Type 0
+IsConstantWhere true a = IsConstant a
+IsConstantWhere false a = IsPlainLayout a
+
+-- A column with these rows is laid out by the hint where that fits, and else plain. Dictionaries are
+-- not made yet.
+abbrev pub IsLaidOutBy : hint.Layout → List Content → Layout → Type 0
+IsLaidOutBy Plain rows a = IsPlainLayout a
+IsLaidOutBy Dictionary rows a = IsPlainLayout a
+IsLaidOutBy Constant rows a = IsConstantWhere (fits_constant rows) a
+
+-- the hint of a column: without one it is plain
+abbrev pub hint_at : List hint.Layout → ℕ → hint.Layout
+hint_at hints i = slice_index_or hints i Plain
+
+-- Each column, of which the first has this index, is laid out by its hint.
+abbrev pub AreLaidOutBy : List hint.Layout → ℕ → Columns → Type 0
+AreLaidOutBy hints i no_columns = Unit {0}
+AreLaidOutBy hints i (column x a cs) =
+    IsLaidOutBy (hint_at hints i) (rows_of a) a × AreLaidOutBy hints (suc i) cs
+
+-- the records have a column for each field, laid out by its hint
+abbrev pub HasHintedColumns : List hint.Layout → Layout → Type 0
+HasHintedColumns hints (records cs n v) = AreLaidOutBy hints 0 cs
+HasHintedColumns hints a = ⊥
+
+-- ---- on the way
+
+-- a is a column of the type with the values as rows, laid out by the hint
+pub record IsColumnBy (h : hint.Layout) (k : LogicalType) (rs : List Raw) (a : Layout) : Type 0 where
+  pub sound : IsSound a
+  pub kind : array_type_of a ≡ k
+  pub rows : rows_of a ≡ map content_of rs
+  pub layout : IsLaidOutBy h (map content_of rs) a
+
+-- the same of a column for each field, of what the records have there
+abbrev pub AreColumnsBy : List hint.Layout → Fields → ℕ → List Raw → Columns → Type 0
+AreColumnsBy hints no_fields i rs no_columns = Unit {0}
+AreColumnsBy hints (field x k fs) i rs (column y a cs) =
+    (y ≡ x) × IsColumnBy (hint_at hints i) k (parts_at i rs) a
+    × AreColumnsBy hints fs (suc i) rs cs
+AreColumnsBy hints fs i rs cs = ⊥

@@ -1,0 +1,4 @@
+pub mod Compacted
+pub mod Hinted
+pub mod Kept
+pub mod TooLarge

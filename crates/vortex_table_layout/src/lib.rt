@@ -1,0 +1,7 @@
+//! Arrays of the rows of tables: laid out anew, kept as they are laid out, and compacted.
+#![tactic(auto)]
+
+pub mod compact;
+pub mod keep;
+pub mod lay_out;
+pub mod rows;

@@ -1,0 +1,326 @@
+#!/usr/bin/env python3
+"""Compares what `colscan` skips with boxes that are searched by force.
+
+boxes.py [--boxes N] [--seed S] [PROGRAM]    PROGRAM is crates/colscan/out/colscan where none is given
+
+The box of a chunk has a low and a high for each column of a predicate, and under a null test the
+null count and the number of rows. It is hopeless where no choice of one value a column, from its
+low to its high, makes the predicate true. A chunk that has all bounds has to be skipped exactly
+where its box is hopeless, if no column stands twice in the predicate and its tests are
+comparisons, BETWEENs with their ends, null tests, LIKEs of a text or of a beginning and truth
+values, joined by AND and OR. So each session makes a table of small types in many small chunks,
+joins some groups and retypes now and then, and asks for many predicates; what a box admits is
+tried value by value here.
+
+Of truth values and integers all values of a box are tried. Of texts and bytes, of which a box
+holds no end, all short ones over a small alphabet are, with the bounds and the literals.
+The last line is 'N passed, M failed', counted in sessions; the status is 0 if none failed.
+"""
+import argparse
+import importlib.util
+import itertools
+import json
+import os
+import random
+import subprocess
+import sys
+
+sys.dont_write_bytecode = True
+HERE = os.path.dirname(os.path.abspath(__file__))
+CHUNKS, SCANS = 40, 25
+LETTERS = ("a", "b", "\x7f", "é", "\U0010ffff")
+BYTES = (b"\x00", b"\x01", b"\xfe", b"\xff")
+COMPARISONS = {
+    "=": lambda x, y: x == y,
+    "!=": lambda x, y: x != y,
+    "<": lambda x, y: x < y,
+    "<=": lambda x, y: x <= y,
+    ">": lambda x, y: x > y,
+    ">=": lambda x, y: x >= y,
+}
+
+
+def reference():
+    """The plain program beside this one, for its shortened bounds."""
+    spec = importlib.util.spec_from_file_location("reference", os.path.join(HERE, "reference.py"))
+    made = importlib.util.module_from_spec(spec)
+    spec.loader.exec_module(made)
+    return made
+
+
+PLAIN = reference()
+
+
+def strings(items):
+    """All strings of up to two of the items."""
+    found = [items[0][:0]]
+    for size in (1, 2):
+        found += [items[0][:0].join(it) for it in itertools.product(items, repeat=size)]
+    return found
+
+
+ALL = {"utf8": strings(LETTERS), "binary": strings(BYTES)}
+
+
+# What values of one kind are compared by: texts by their bytes.
+order = PLAIN.in_order
+
+
+class Column:
+    """A column: its kind, whether null may stand in it, and the most bytes of a bound."""
+
+    def __init__(self, draw, name):
+        self.name = name
+        self.kind = draw.choice(("bool", "i8", "u8", "i64", "utf8", "binary"))
+        self.nullable = draw.random() < 0.5
+        self.length = draw.choice((0, 1, 2, 3, 16))
+
+    def dtype(self):
+        return {"kind": self.kind, "nullable": self.nullable}
+
+    def value(self, draw):
+        if self.kind == "bool":
+            return draw.random() < 0.5
+        if self.kind in ALL:
+            return draw.choice(ALL[self.kind]) + draw.choice(ALL[self.kind])[:1]
+        low = 0 if self.kind == "u8" else -2
+        return draw.randint(low, 3)
+
+    def cell(self, draw):
+        return None if self.nullable and draw.random() < 0.3 else self.value(draw)
+
+    def bounds(self, cells):
+        """The low and the high of a chunk, or None where one is missing."""
+        values = sorted((it for it in cells if it is not None), key=order)
+        if not values:
+            return None
+        low, high = values[0], values[-1]
+        if self.kind in ALL:
+            low, high = PLAIN.low(low, self.length), PLAIN.high(high, self.length)
+        return None if high is None else (low, high)
+
+    def choices(self, bounds, near):
+        """The values from the low to the high; of texts and bytes enough of them."""
+        low, high = bounds
+        if self.kind == "bool":
+            return [it for it in (False, True) if low <= it <= high]
+        if self.kind not in ALL:
+            return list(range(low, high + 1))
+        values = {*ALL[self.kind], *near}
+        return [it for it in values if order(low) <= order(it) <= order(high)]
+
+
+def null_choices(cells):
+    """What a null test may meet: a null, some value, or both."""
+    nulls = cells.count(None)
+    return [None] * (nulls != 0) + [0] * (nulls < len(cells))
+
+
+def written(value):
+    return value.hex() if isinstance(value, bytes) else value
+
+
+class Leaf:
+    """A test of one or two columns: its JSON, its columns, its literals, and what it says of
+    chosen values. A null test is told apart, since its box has counts."""
+
+    def __init__(self, form, columns, literals, holds, null_test=False):
+        self.form, self.columns, self.literals = form, columns, literals
+        self.holds, self.null_test = holds, null_test
+
+
+def col(column):
+    return ["col", column.name]
+
+
+def lit(column, value):
+    return ["lit", column.dtype(), written(value)]
+
+
+def compare_leaf(draw, column, others):
+    name = draw.choice(list(COMPARISONS))
+    test = COMPARISONS[name]
+    alike = [it for it in others if it.kind == column.kind]
+    if alike and draw.random() < 0.5:
+        other = alike[0]
+        holds = lambda at: test(order(at[column.name]), order(at[other.name]))
+        return Leaf([name, col(column), col(other)], [column, other], [], holds)
+    value = column.value(draw)
+    if draw.random() < 0.5:
+        holds = lambda at: test(order(at[column.name]), order(value))
+        return Leaf([name, col(column), lit(column, value)], [column], [value], holds)
+    holds = lambda at: test(order(value), order(at[column.name]))
+    return Leaf([name, lit(column, value), col(column)], [column], [value], holds)
+
+
+def between_leaf(draw, column):
+    low, high = sorted((column.value(draw), column.value(draw)), key=order)
+    form = ["between", col(column), lit(column, low), lit(column, high), False, False]
+    holds = lambda at: order(low) <= order(at[column.name]) <= order(high)
+    return Leaf(form, [column], [low, high], holds)
+
+
+def null_leaf(draw, column):
+    name = draw.choice(("is_null", "is_not_null"))
+    holds = lambda at: (at[column.name] is None) == (name == "is_null")
+    return Leaf([name, col(column)], [column], [], holds, null_test=True)
+
+
+def like_leaf(draw, column):
+    text = draw.choice([it for it in ALL["utf8"] if it])
+    # The last character of a beginning has to have a higher one of as many bytes.
+    if draw.random() < 0.5 and text[-1] in ("a", "b", "é"):
+        pattern, holds = text + "%", lambda at: at[column.name].startswith(text)
+    else:
+        pattern, holds = text, lambda at: at[column.name] == text
+    form = ["like", col(column), ["lit", {"kind": "utf8"}, pattern], False, False]
+    return Leaf(form, [column], [text], holds)
+
+
+def truth_leaf(draw):
+    truth = draw.random() < 0.5
+    return Leaf(["lit", {"kind": "bool"}, truth], [], [], lambda at: truth)
+
+
+def random_leaf(draw, free):
+    """A leaf over one or two of the free columns, which it takes away."""
+    if not free or draw.random() < 0.08:
+        return truth_leaf(draw)
+    column = free.pop()
+    kind = draw.random()
+    if kind < 0.15:
+        return null_leaf(draw, column)
+    if kind < 0.3 and column.kind == "utf8":
+        return like_leaf(draw, column)
+    if kind < 0.4:
+        return between_leaf(draw, column)
+    leaf = compare_leaf(draw, column, free)
+    free[:] = [it for it in free if it not in leaf.columns]
+    return leaf
+
+
+class Tree:
+    """Leaves under AND and OR, in which no column stands twice."""
+
+    def __init__(self, draw, columns):
+        free = draw.sample(columns, len(columns))
+        parts = [random_leaf(draw, free) for _ in range(draw.randint(1, 3))]
+        self.leaves = parts
+        made = [(it.form, it.holds) for it in parts]
+        while len(made) > 1:
+            left, right, name = made.pop(), made.pop(), draw.choice(("and", "or"))
+            pair = (left[1], right[1])
+            if name == "and":
+                holds = lambda at, pair=pair: pair[0](at) and pair[1](at)
+            else:
+                holds = lambda at, pair=pair: pair[0](at) or pair[1](at)
+            made.append(([name, left[0], right[0]], holds))
+        self.form, self.holds = made[0]
+
+    def box(self, rows, columns):
+        """The values to choose from, by column, or None where a bound is missing."""
+        found = {}
+        for leaf in self.leaves:
+            cells = {it: [row[columns.index(it)] for row in rows] for it in leaf.columns}
+            if leaf.null_test:
+                found.update((it.name, null_choices(cells[it])) for it in leaf.columns)
+                continue
+            bounds = {it: it.bounds(cells[it]) for it in leaf.columns}
+            if None in bounds.values():
+                return None
+            # Two columns that are compared can be equal at a bound of the other one.
+            near = [*leaf.literals, *itertools.chain(*bounds.values())]
+            found.update((it.name, it.choices(bounds[it], near)) for it in leaf.columns)
+        return found
+
+    def is_hopeless(self, box):
+        names = list(box)
+        return not any(
+            self.holds(dict(zip(names, chosen))) for chosen in itertools.product(*box.values())
+        )
+
+
+class Session:
+    """A table in many small chunks, and predicates on it."""
+
+    def __init__(self, seed):
+        draw = random.Random(seed)
+        self.columns = [Column(draw, name) for name in "abcd"]
+        dtype = self.dtype()
+        lengths = [[[it.name], it.length] for it in self.columns]
+        self.lines = [{"cmd": "create", "dtype": dtype, "length": 16, "lengths": lengths}]
+        self.chunks = [
+            [[it.cell(draw) for it in self.columns] for _ in range(draw.randint(1, 3))]
+            for _ in range(CHUNKS)
+        ]
+        for rows in self.chunks:
+            cells = [[written(it) for it in row] for row in rows]
+            self.lines.append({"cmd": "append", "dtype": dtype, "rows": cells})
+        groups = CHUNKS
+        for _ in range(draw.randint(0, CHUNKS)):
+            if groups > 1:
+                self.lines.append({"cmd": "join", "group": draw.randrange(groups - 1)})
+                groups -= 1
+        if draw.random() < 0.5:
+            for column in self.columns:
+                column.name += "x"
+            self.lines.append({"cmd": "retype", "dtype": self.dtype()})
+        self.trees = [Tree(draw, self.columns) for _ in range(SCANS)]
+        for tree in self.trees:
+            self.lines.append({"cmd": "scan", "paths": [], "where": tree.form})
+
+    def dtype(self):
+        names = [it.name for it in self.columns]
+        children = [it.dtype() for it in self.columns]
+        return {"kind": "struct", "names": names, "children": children}
+
+    def text(self):
+        return "".join(json.dumps(it) + "\n" for it in self.lines).encode()
+
+    def check(self, output):
+        """How many boxes were compared, and what is wrong, if anything is."""
+        answers = [json.loads(it) for it in output.decode().splitlines()]
+        if len(answers) != len(self.lines):
+            return 0, "%d answers to %d lines" % (len(answers), len(self.lines))
+        for line, answer in zip(self.lines, answers):
+            if not answer.get("ok"):
+                return 0, "%s is answered by %s" % (json.dumps(line), json.dumps(answer))
+        boxes = 0
+        for tree, answer in zip(self.trees, answers[-SCANS:]):
+            for number, rows in enumerate(self.chunks):
+                box = tree.box(rows, self.columns)
+                if box is None:
+                    continue
+                boxes += 1
+                if tree.is_hopeless(box) != (number in answer["skipped"]):
+                    return boxes, "chunk %d, %s" % (number, json.dumps(tree.form))
+        return boxes, None
+
+
+def main():
+    words = argparse.ArgumentParser(description=__doc__.split("\n")[0])
+    words.add_argument("program", nargs="?")
+    words.add_argument("--boxes", type=int, default=100_000)
+    words.add_argument("--seed", type=int, default=0)
+    given = words.parse_args()
+    top = os.path.dirname(HERE)
+    program = given.program or os.path.join(top, "crates", "colscan", "out", "colscan")
+    passed, failed, boxes, seed = 0, 0, 0, given.seed
+    while boxes < given.boxes and not failed:
+        session = Session(seed)
+        ran = subprocess.run([program], input=session.text(), capture_output=True)
+        more, wrong = session.check(ran.stdout)
+        boxes += more
+        if wrong or ran.returncode:
+            failed += 1
+            print("session %d: %s" % (seed, wrong or "status %d" % ran.returncode))
+        else:
+            passed += 1
+        seed += 1
+    print("boxes: %d boxes of chunks and predicates were searched" % boxes)
+    print("%d passed, %d failed" % (passed, failed))
+    return 1 if failed else 0
+
+
+if __name__ == "__main__":
+    sys.exit(main())
