@@ -22,8 +22,8 @@ pub struct ConstantDataParts {
     pub len: usize,
 }
 
-/// The calls of a constant in the form that all layouts have them. A scalar has a value of its type,
-/// so that nothing but want of memory refuses one.
+/// The calls of a constant in the form that all layouts have them. A scalar has a value of its
+/// type, so that nothing but want of memory refuses one.
 pub trait ConstantArrayExt: Sized {
     // The value of a constant, and how often it stands.
     ghost layout: { Self → Layout };

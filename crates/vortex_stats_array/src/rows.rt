@@ -38,7 +38,8 @@ pub(crate) fn seen_numbers<T: NativePType>(items: &[T], validity: &Validity) -> 
 fn bool_at(bits: &BitBuffer, validity: &Validity, i: usize) -> Option<bool>
     requires within { i < length bits.now }
     requires sound { IsSound (bools bits.now (valid_of validity.now)) }
-    ensures { content_or_null boolean result ≡ content_at (bools bits.now (valid_of validity.now)) i }
+    ensures { content_or_null boolean result
+        ≡ content_at (bools bits.now (valid_of validity.now)) i }
 {
     if validity.is_valid(i, bits.len()) {
         Some(bits.value(i))

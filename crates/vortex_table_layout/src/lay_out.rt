@@ -38,8 +38,8 @@ use vortex_table_schema::layout::Layout;
 
 /// The rows, of a type that a table can hold, as an array of records with a column for each field.
 /// `hints` has the layout of each column in the order of the fields: one that it has none for is
-/// plain, and more hints than columns are ignored. A hint that doesn't fit its column gives plain: a
-/// constant fits rows that are all equal. Dictionaries are not made yet, and give plain too.
+/// plain, and more hints than columns are ignored. A hint that doesn't fit its column gives plain:
+/// a constant fits rows that are all equal. Dictionaries are not made yet, and give plain too.
 ///
 /// `Total` where the texts or the bytes of a column, at whatever depth, are too large for views and
 /// buffers.

@@ -118,8 +118,8 @@ impl Retyping<'_> {
 
     /// The chunks, one for each, with their rows converted and the statistics of the target's leaf
     /// columns. `NotConvertible` has the index of the first row that the target can't hold, counted
-    /// over all chunks. `Total` where the texts or the bytes of a column of a chunk can't be held by
-    /// its views and buffers.
+    /// over all chunks. `Total` where the texts or the bytes of a column of a chunk can't be held
+    /// by its views and buffers.
     pub fn retype_chunks(&self, alloc: Global, chunks: &[Chunk]) -> Result<Vec<Chunk>, TableError>
         requires retyping { IsRetyping self.now }
         requires formed { IsTrue
@@ -140,7 +140,8 @@ impl Retyping<'_> {
     {
         match self.convert_chunks(alloc, chunks) {
             Ok(converted) => Ok(converted),
-            // A row that can't be converted is named, also where it stands behind what is too large.
+            // A row that can't be converted is named, also where it stands behind what is too
+            // large.
             Err(TableError::Total) => {
                 self.test_chunks(alloc, chunks)?;
                 Err(TableError::Total)
