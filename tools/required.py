@@ -39,7 +39,9 @@ def faults(text):
     """What is missing, or there though it is called owed."""
     doors = {}
     for member, names, calls in lines_of(text):
-        there = doors.setdefault(member, exported(member))
+        if member not in doors:
+            doors[member] = exported(member)
+        there = doors[member]
         plain = [it.lstrip("~") for it in names]
         has = set().union(*[there.get(it, set()) for it in plain])
         for name in names:

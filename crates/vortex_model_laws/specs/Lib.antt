@@ -1,7 +1,9 @@
 pub mod Binding
+pub mod Described
 pub mod Exact
 pub mod Joined
 pub mod Laws
+pub mod Regrouped
 pub mod Runs
 pub mod Tighter
 pub mod Values

@@ -5,6 +5,7 @@ ghost use Rattle.vortex_model_laws.specs.Laws.{
   ScansAreCountedWithin,
 };
 ghost use Rattle.vortex_model_laws.specs.Binding.{BoundFalsifiersAreSound, BoundSatisfiersAreSound};
+ghost use Rattle.vortex_model_laws.specs.Described.{DescriptionsAreHonest};
 ghost use Rattle.vortex_model_laws.specs.Exact.{
   FalsifiersAreComplete,
   ExactlyTheHopelessAreSkipped,
@@ -14,6 +15,7 @@ ghost use Rattle.vortex_model_laws.specs.Joined.{
   JoinsGiveTheConstancy,
   SingleUseTreesAreWide,
 };
+ghost use Rattle.vortex_model_laws.specs.Regrouped.{GroupsDoNotShow, JoinsChangeNoScan};
 ghost use Rattle.vortex_model_laws.specs.Runs.{RunsKeepWhatIsHandedIn, RunsAreScannedExactly};
 ghost use Rattle.vortex_model_laws.specs.Tighter.{ProofsStayTrue, GroupsChangeNothing};
 ghost use Rattle.vortex_model_laws.specs.Values.{BoundsAreOfTheValues, ConstantsHaveTheirZoneMap};
@@ -50,6 +52,19 @@ pub fn proofs_stay_true()
 pub fn groups_change_nothing()
     ensures { GroupsChangeNothing }
 {}
+
+/// Tables of the same chunks in other groups answer each scan alike, and skip, take whole and test
+/// the same chunks; only how many proofs they try may differ.
+pub fn groups_do_not_show()
+    ensures { GroupsDoNotShow }
+{}
+
+/// So an accepted join changes no scan.
+pub fn joins_change_no_scan()
+    ensures { JoinsChangeNoScan }
+{
+    steps_keep_tables();
+}
 
 /// A sound falsifier, bound by an honest binder, is true only where no row satisfies the predicate.
 pub fn bound_falsifiers_are_sound()
@@ -90,6 +105,12 @@ pub fn joins_give_the_total()
 /// there for one chunk, where some chunk is not constant, and where each has an exact low.
 pub fn joins_give_the_constancy()
     ensures { JoinsGiveTheConstancy }
+{}
+
+/// Whatever is described of a leaf column of a group, its bounds, its sum and its constancy where
+/// they are known, and its count of nulls, is true of the rows of all its chunks.
+pub fn descriptions_are_honest()
+    ensures { DescriptionsAreHonest }
 {}
 
 /// Whatever the commands, accepted and refused, a run leaves a table whose rows are those that its

@@ -8,7 +8,7 @@ pub mod laws;
 
 pub use vortex_stats_array::array_stats::ArrayStats;
 pub use vortex_stats_array::of_array::array_stats;
-pub use vortex_stats_bind::bind::{PredicateError, bind, bind_proof};
+pub use vortex_stats_bind::bind::bind_proof;
 pub use vortex_stats_bind::bound::{BoundExpression, Operands, bound_literal};
 pub use vortex_stats_bind::stats::{StatBinder, bind_stats, prove};
 pub use vortex_stats_bind::value::Value;
@@ -37,9 +37,15 @@ pub use vortex_stats_provider::markers::{
 };
 pub use vortex_stats_provider::provider::StatsProvider;
 pub use vortex_stats_provider::provider_ext::StatsProviderExt;
+pub use vortex_stats_provider::stat_fn::{StatFn, StatOptions};
 pub use vortex_stats_provider::stat_scalar::stat_scalar;
 pub use vortex_stats_provider::stats_set_ext::StatsSetExt;
-pub use vortex_stats_rewrite::rewrite::{falsify, satisfy};
+pub use vortex_stats_rules::bind::bind;
+pub use vortex_stats_rules::laws::{falsifiers_are_sound, satisfiers_are_sound};
+pub use vortex_stats_rules::meter::Meter;
+pub use vortex_stats_rules::negation::{Never, NotLiteral};
+pub use vortex_stats_rules::rewrite::{falsify, satisfy};
+pub use vortex_stats_rules::rule::{StatsRewriteRule, StatsRewriteRuleRef};
 pub use vortex_stats_set::stats_set::{StatsArray, StatsSet, StatsSetIntoIter};
 pub use vortex_stats_set::typed::{MutTypedStatsSetRef, TypedStatsSetRef};
 pub use vortex_stats_stat::aggregate::AggregateFn;

@@ -1,11 +1,10 @@
 -- Bound trees have the values of their expressions.
-use Rattle.std.proofs.Common.{◌≡◌, Option, Some, None, true, false, not, refl, ap, ◌∙◌}
+use Rattle.std.proofs.Common.{◌≡◌, true, false, not, refl, ap, ◌∙◌}
 use Rattle.vortex_model.specs.LogicalType.{LogicalType}
-use Rattle.vortex_model.specs.Content.{Content, null, boolean, is_null as is_null_content}
-use Rattle.vortex_model.specs.Path.{Positions, at, positions}
+use Rattle.vortex_model.specs.Content.{boolean, is_null as is_null_content}
 use Rattle.vortex_model.specs.Expression.{Expression, literal, column, compare, both, either, negation, is_null, is_not_null, is_nan, between, like, row_count, statistic}
-use Rattle.vortex_model.specs.Truth.{evaluate, of_row, compared, kleene_and, kleene_or, kleene_not, value_at, liked, end_of}
-use Rattle.vortex_stats_bind.specs.Bound.{Bound, Provided, evaluate_bound, in_row, bound_value, bound_of, bound_column, by_names}
+use Rattle.vortex_model.specs.Truth.{evaluate, compared, kleene_and, kleene_or, kleene_not, liked, end_of}
+use Rattle.vortex_stats_bind.specs.Bound.{Bound, Provided, evaluate_bound, bound_of, by_names}
 
 -- A bound tree has the value of its expression, where names stand for what their positions do.
 pub bound_alike : (k : LogicalType) (p : Provided) (e : Expression) → evaluate_bound p (bound_of k e) ≡ evaluate (by_names k p) e
@@ -26,20 +25,7 @@ bound_alike k p (like x form n false) = λ i. liked (bound_alike k p x i) (bound
 bound_alike k p row_count = refl
 bound_alike k p (statistic x a) = refl
 
-column_in_row : (k : LogicalType) (o : Option Positions) (row : Content) →
-    evaluate_bound (in_row row) (bound_column o) ≡ elim o [ None ↦ null | Some is ↦ at row is ]
-column_in_row k None row = refl
-column_in_row k (Some is) row = refl
-
--- what names stand for at a row
-row_given : (k : LogicalType) (row : Content) → by_names k (in_row row) ≡ of_row k row
-row_given k row = λ i. record { columns = λ xs. column_in_row k (positions k xs) row i; placeholders = λ x a. null; rows = 1 }
-
--- a bound predicate has the value of the predicate
-pub bound_says : (k : LogicalType) (e : Expression) (b : Bound) (row : Content) → b ≡ bound_of k e → bound_value b row ≡ value_at k e row
-bound_says k e b row is = ap (λ b. bound_value b row) is ∙ bound_alike k (in_row row) e ∙ ap (λ g. evaluate g e) (row_given k row)
-
--- and a bound proof that of the proof
+-- a bound proof has the value of the proof
 pub proof_says : (k : LogicalType) (e : Expression) (b : Bound) (p : Provided) → b ≡ bound_of k e → evaluate_bound p b ≡ evaluate (by_names k p) e
 proof_says k e b p is = ap (evaluate_bound p) is ∙ bound_alike k p e
 

@@ -2,6 +2,5 @@ pub mod Bound
 pub mod BoundCode
 pub mod BoundFalls
 pub mod BoundTree
-pub mod Faults
 pub mod OperandValue
 pub mod Stats

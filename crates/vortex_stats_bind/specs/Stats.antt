@@ -5,11 +5,11 @@ use Rattle.vortex_model.specs.Path.{Positions}
 use Rattle.vortex_model.specs.Expression.{Aggregate}
 use Rattle.vortex_stats_bind.specs.Bound.{Bound, Provided, fixed, reads_places, evaluate_bound}
 
--- A binder's answer: a literal of the value, or none for null.
-abbrev pub IsAnswer : Option Bound → Content → Type 0
-IsAnswer None c = c ≡ null
-IsAnswer (Some (fixed d)) c = d ≡ c
-IsAnswer (Some b) c = ⊥
+-- A binder's answer: a literal of the value, or none for what stands for missing statistics.
+abbrev pub IsAnswer : Content → Option Bound → Content → Type 0
+IsAnswer missing None c = c ≡ missing
+IsAnswer missing (Some (fixed d)) c = d ≡ c
+IsAnswer missing (Some b) c = ⊥
 
 -- Whatever the columns are, and however many rows, the bound proof has the value that the proof has
 -- where placeholders stand for these. It has none left.

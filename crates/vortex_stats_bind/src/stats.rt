@@ -24,12 +24,16 @@ use vortex_scalar_value::scalar_value::ScalarValue;
 use vortex_stats_expr::options::BetweenOptions;
 use vortex_stats_stat::aggregate::AggregateFn;
 
-/// A source of statistics of some rows, as Vortex's `StatBinder`.
+/// A source of statistics of some rows, as Vortex's `StatBinder`. Literals carry no type here, so
+/// it is told none.
 pub trait StatBinder {
-    /// The value of a statistic of an expression, null where it is not known.
+    /// The value of a statistic of an expression, that of `missing` where it is not known.
     ghost meaning: { Self → Bound → Aggregate → Content };
 
-    /// A literal of the statistic's value. `None` where it isn't known, which counts as null.
+    /// What stands for statistics that are not known.
+    ghost missing: { Self → Content };
+
+    /// A literal of the statistic's value, and `None` where it isn't known.
     fn bind_aggregate(
         &self,
         alloc: Global,
@@ -37,11 +41,18 @@ pub trait StatBinder {
         aggregate: AggregateFn,
     ) -> Result<Option<BoundExpression>, AllocError>
         ensures { IfOk result
-            (λ found. IsAnswer found (meaning self.now input.now (aggregate_of aggregate))) };
+            (λ found. IsAnswer (missing self.now) found
+            (meaning self.now input.now (aggregate_of aggregate))) };
+
+    /// A literal that stands for each statistic that isn't known. A source that has nothing better
+    /// answers null.
+    fn missing_stat(&self, alloc: Global) -> Result<BoundExpression, AllocError>
+        ensures { IfOk result (λ literal. literal ≡ fixed (missing self.now)) };
 }
 
-/// The proof with each placeholder replaced by the binder's literal, or by null where there is
-/// none, as Vortex's `bind_stats`. It asks the binder once for each placeholder.
+/// The proof with each placeholder replaced by the binder's literal, or by its `missing_stat` where
+/// there is none, as Vortex's `bind_stats`. It asks the binder once for each placeholder, and looks
+/// for none in what it answers.
 #[cycle(bind)]
 pub fn bind_stats<B: StatBinder>(
     alloc: Global,
@@ -141,7 +152,7 @@ fn bind_stat<B: StatBinder>(
 {
     match binder.bind_aggregate(alloc, input, aggregate)? {
         Some(found) => Ok(found),
-        None => Ok(bound_literal(None)),
+        None => binder.missing_stat(alloc),
     }
 }
 

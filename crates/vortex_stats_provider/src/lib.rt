@@ -7,5 +7,6 @@ pub mod markers;
 pub mod provider;
 pub mod provider_ext;
 mod reading;
+pub mod stat_fn;
 pub mod stat_scalar;
 pub mod stats_set_ext;

@@ -2,6 +2,7 @@
 use Rattle.std.proofs.Common.{◌≡◌, Option, Some, None, option_map, option_and_then, Bool, true, false, if◌then◌else◌, refl, sym, subst}
 use Rattle.std.specs.Option.{option_map_or}
 use Rattle.vortex_model.specs.LogicalType.{LogicalType, boolean_type, integer_type, float, decimal, utf8, binary, Nullability, nullable, with_nullability, IntKind, u8, u16, u32, u64, i8, i16, i32, i64}
+use Rattle.vortex_model.specs.Command.{is_boolean}
 use Rattle.vortex_model.specs.Typing.{type_of_aggregate, type_of_sum, type_of_bound, bounds_record, count_type, has_bounds, is_float}
 use Rattle.vortex_dtype_ptype.specs.Numbers.{integral}
 use Rattle.vortex_dtype_ptype.specs.View.{number_kind_of}
@@ -155,5 +156,28 @@ pub float_by_class : (c : Option TypeClass) (o : Option LogicalType) → IsClass
 float_by_class None None h = refl
 float_by_class (Some c) (Some k) h = float_of c k h
 float_by_class c o h = absurd h
+
+abbrev pub is_truth_class : Option TypeClass → Bool
+is_truth_class (Some (class.Leaf leaf.Bool)) = true
+is_truth_class c = false
+
+no_truths : (k : LogicalType) → has_bounds k ≡ false → is_boolean (Some k) ≡ false
+no_truths (boolean_type n) h = cc
+no_truths k h = refl
+
+truth_of : (c : TypeClass) (k : LogicalType) → IsOfClass c k → is_boolean (Some k) ≡ is_truth_class (Some c)
+truth_of (class.Leaf leaf.Bool) (boolean_type n) h = refl
+truth_of (class.Leaf (leaf.Primitive p)) (integer_type i n) h = refl
+truth_of (class.Leaf leaf.Utf8) (utf8 n) h = refl
+truth_of (class.Leaf leaf.Binary) (binary n) h = refl
+truth_of class.Float (float f n) h = refl
+truth_of class.Decimal (decimal p s n) h = refl
+truth_of class.Other k h = no_truths k h
+truth_of c k h = absurd h
+
+pub truth_by_class : (c : Option TypeClass) (o : Option LogicalType) → IsClass c o → is_boolean o ≡ is_truth_class c
+truth_by_class None None h = refl
+truth_by_class (Some c) (Some k) h = truth_of c k h
+truth_by_class c o h = absurd h
 
 pub ruleset classes = (placeholder_class, no_placeholder)

@@ -6,7 +6,7 @@ use std::alloc::{AllocError, Global};
 use vortex_stats_expr::expression::{Expression, and, or};
 
 /// The proof by one of the two, as far as they are there.
-pub(crate) fn either_proof(
+pub fn either_proof(
     alloc: Global,
     left: Option<Expression>,
     right: Option<Expression>,
@@ -24,7 +24,7 @@ pub(crate) fn either_proof(
 }
 
 /// The proof by both. There is none unless both are there.
-pub(crate) fn both_proofs(
+pub fn both_proofs(
     alloc: Global,
     left: Option<Expression>,
     right: Option<Expression>,
@@ -43,10 +43,7 @@ pub(crate) fn both_proofs(
 /// The proof by one of them: neighbours are joined by OR in rounds, and an odd last one passes to
 /// the next round, as Vortex's `try_reduce_balanced`. `None` where there is none.
 #[tactic(auto, using(crate::proofs::Rounds::joined))]
-pub(crate) fn join_proofs(
-    alloc: Global,
-    proofs: Vec<Expression>,
-) -> Result<Option<Expression>, AllocError>
+pub fn join_proofs(alloc: Global, proofs: Vec<Expression>) -> Result<Option<Expression>, AllocError>
     ensures { IfOk result (λ proof. proof ≡ joined_proofs proofs.items) }
 {
     let mut left = proofs;
@@ -105,10 +102,8 @@ pub(crate) fn two(
     Ok(proofs)
 }
 
-pub(crate) fn as_list(
-    alloc: Global,
-    proof: Option<Expression>,
-) -> Result<Vec<Expression>, AllocError>
+/// The proof, where there is one, as a list.
+pub fn as_list(alloc: Global, proof: Option<Expression>) -> Result<Vec<Expression>, AllocError>
     ensures { IfOk result (λ proofs. proofs.items ≡ as_list proof) }
 {
     match proof {

@@ -2,10 +2,10 @@
 #![tactic(auto)]
 
 mod comparison;
-mod joined;
+pub mod joined;
 mod like;
 mod like_variant;
 mod nulls;
 pub mod rewrite;
 mod stats;
-mod typing;
+pub mod typing;

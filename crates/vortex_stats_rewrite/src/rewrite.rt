@@ -119,10 +119,14 @@ pub fn satisfy(
     join_proofs(alloc, proofs)
 }
 
-// The proofs that the rules give at a node, in their order. Those of AND, OR and BETWEEN come from
-// their parts.
+/// The proofs that no row satisfies a predicate which the rules give at its root, in their order.
+/// AND, OR and BETWEEN have none there: their proofs come from their parts.
 #[tactic(auto, using(crate::proofs::Falsifiers::of_literal))]
-fn falsifiers(alloc: Global, dtype: &DType, e: &Expression) -> Result<Vec<Expression>, AllocError>
+pub fn falsifiers(
+    alloc: Global,
+    dtype: &DType,
+    e: &Expression,
+) -> Result<Vec<Expression>, AllocError>
     ensures { IfOk result (λ proofs. proofs.items ≡ falsifiers (type_of dtype.now) e.now) }
 {
     match &e.node {
@@ -145,9 +149,13 @@ fn falsifiers(alloc: Global, dtype: &DType, e: &Expression) -> Result<Vec<Expres
     }
 }
 
-// The proofs that the rules give, in their order.
+/// The proofs that every row satisfies a predicate, in the order of the rules.
 #[tactic(auto, using(crate::proofs::Falsifiers::of_literal))]
-fn satisfiers(alloc: Global, dtype: &DType, e: &Expression) -> Result<Vec<Expression>, AllocError>
+pub fn satisfiers(
+    alloc: Global,
+    dtype: &DType,
+    e: &Expression,
+) -> Result<Vec<Expression>, AllocError>
     ensures { IfOk result (λ proofs. proofs.items ≡ satisfiers (type_of dtype.now) e.now) }
 {
     match &e.node {

@@ -1,6 +1,7 @@
 //! Classes of expressions' types: whether bounds and counts of NaN can be asked for.
 ghost use Rattle.std.specs.Prelude.{◌≡◌, false};
 ghost use Rattle.std.specs.Option.{option_map_or};
+ghost use Rattle.vortex_model.specs.Command.{is_boolean};
 ghost use Rattle.vortex_model.specs.Typing.{expression_type, has_bounds, is_of_floats};
 ghost use Rattle.vortex_dtype_core.specs.View.{type_of};
 ghost use Rattle.vortex_stats_expr.specs.Types.{IsClass};
@@ -34,6 +35,23 @@ pub(crate) fn is_of_floats(dtype: &DType, e: &Expression) -> bool
     match type_class(dtype, e) {
         Some(TypeClass::Leaf(_)) => false,
         Some(TypeClass::Float) => true,
+        Some(TypeClass::Decimal) => false,
+        Some(TypeClass::Other) => false,
+        None => false,
+    }
+}
+
+/// Whether an expression's values are truth values. One without a type has none.
+#[tactic(auto, using(crate::proofs::Placeholders::truth_by_class))]
+pub fn is_truth(dtype: &DType, e: &Expression) -> bool
+    ensures { result ≡ is_boolean (expression_type (type_of dtype.now) e.now) }
+{
+    match type_class(dtype, e) {
+        Some(TypeClass::Leaf(Leaf::Bool)) => true,
+        Some(TypeClass::Leaf(Leaf::Primitive(_))) => false,
+        Some(TypeClass::Leaf(Leaf::Utf8)) => false,
+        Some(TypeClass::Leaf(Leaf::Binary)) => false,
+        Some(TypeClass::Float) => false,
         Some(TypeClass::Decimal) => false,
         Some(TypeClass::Other) => false,
         None => false,

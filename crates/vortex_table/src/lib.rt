@@ -109,7 +109,7 @@ pub mod scalar {
 
 /// Predicates over rows, and the proofs over statistics that are made of them.
 pub mod expr {
-    pub use vortex_stats_bind::bind::{PredicateError, bind, bind_proof};
+    pub use vortex_stats_bind::bind::bind_proof;
     pub use vortex_stats_bind::bound::{BoundExpression, Operands, bound_literal};
     pub use vortex_stats_bind::stats::{StatBinder, bind_stats, prove};
     pub use vortex_stats_bind::value::Value;

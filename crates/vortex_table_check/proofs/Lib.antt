@@ -4,3 +4,4 @@ pub mod Copied
 pub mod Explained
 pub mod LeafPlaces
 pub mod NamedParts
+pub mod OwnType

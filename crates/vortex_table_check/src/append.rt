@@ -15,10 +15,10 @@ ghost use Rattle.vortex_table_check.specs.Error.{Explains};
 
 use crate::check::check_type;
 use crate::error::TableError;
-use std::alloc::Global;
+use std::alloc::{AllocError, Global};
 use std::borrow::CowSlice;
 use vortex_dtype_core::dtype::DType;
-use vortex_scalar_ops::cast::cast_value;
+use vortex_scalar_ops::cast::convert_value;
 use vortex_scalar_ops::validate::validate;
 use vortex_scalar_value::error::ScalarError;
 use vortex_scalar_value::scalar_value::ScalarValue;
@@ -76,7 +76,7 @@ pub fn convert_row(
         (unless (converts (type_of source.now) (type_of target.now) (content_at value.entry))
         (not_convertible index)) e) }
 {
-    match cast_value(alloc, source, target, value) {
+    match convert_value(alloc, source, target, value) {
         Ok(Some(row)) => Ok(row),
         Ok(None) => Err(TableError::NotConvertible(index)),
         Err(ScalarError::Memory) => Err(TableError::Memory),
@@ -124,10 +124,10 @@ fn free_row(values: &mut CowSlice<'_, Option<ScalarValue>>, index: usize)
     }
 }
 
-/// The rows cast from the source to the target type: `NotConvertible` with the index of the first
-/// that the target can't hold. None behind it is read. Rows that are handed over are freed one by
-/// one as they are cast, so that the two lists are never both in memory in full.
-pub fn convert_rows(
+// The rows cast from the source to the target type: `NotConvertible` with the index of the first
+// that the target can't hold. None behind it is read. Rows that are handed over are freed one by
+// one as they are cast, so that the two lists are never both in memory in full.
+fn cast_rows(
     alloc: Global,
     source: &DType,
     target: &DType,
@@ -159,4 +159,62 @@ pub fn convert_rows(
         free_row(&mut values, index);
     }
     Ok(rows)
+}
+
+// The rows themselves, none of which is null, since a table's type has no null row.
+fn keep_rows(
+    alloc: Global,
+    dtype: &DType,
+    values: Vec<Option<ScalarValue>>,
+) -> Result<Vec<ScalarValue>, AllocError>
+    requires kept { type_fault (type_of dtype.now) ≡ None }
+    requires valid { first_invalid 0 (type_of dtype.now) (map raw_in values.items) ≡ None }
+    ensures content { IfOk result
+        (λ rows. map row_content rows.items ≡ map content_of (map raw_in values.items)) }
+    ensures valid { IfOk result
+        (λ rows. IsTrue (list_all (λ row. valid (type_of dtype.now) (raw_of row)) rows.items)) }
+{
+    let mut rows = Vec::with_capacity(alloc, values.len())?;
+    for value in values {
+        let Some(row) = value else { unreachable!() };
+        rows.push(row)?;
+    }
+    Ok(rows)
+}
+
+/// The rows cast from the source to the target type: `NotConvertible` with the index of the first
+/// that the target can't hold. None behind it is read. Rows that are handed over are kept as they
+/// are where the types are the same, and else freed one by one as they are cast, so that the two
+/// lists are never both in memory in full.
+pub fn convert_rows(
+    alloc: Global,
+    source: &DType,
+    target: &DType,
+    values: CowSlice<'_, Option<ScalarValue>>,
+) -> Result<Vec<ScalarValue>, TableError>
+    requires kept { type_fault (type_of target.now) ≡ None }
+    requires valid { first_invalid 0 (type_of source.now) (map raw_in (cow_slice_items values))
+        ≡ None }
+    ensures converts { OnOk result (first_unconvertible 0 (type_of source.now) (type_of target.now)
+        (map content_of (map raw_in (cow_slice_items values.entry))) ≡ None) }
+    ensures content { IfOk result (λ rows. map row_content rows.items
+        ≡ map content_of (map raw_in (cow_slice_items values.entry))) }
+    ensures valid { IfOk result
+        (λ rows. IsTrue (list_all (λ row. valid (type_of target.now) (raw_of row)) rows.items)) }
+    ensures refused { IfErr result
+        (λ e. Explains ⊥ (first_unconvertible 0 (type_of source.now) (type_of target.now)
+        (map content_of (map raw_in (cow_slice_items values.entry)))) e) }
+{
+    match values {
+        CowSlice::Owned(values) => {
+            if *source == *target {
+                let rows = keep_rows(alloc, target, values)?;
+                return Ok(rows);
+            }
+            cast_rows(alloc, source, target, CowSlice::Owned(values))
+        }
+        CowSlice::Borrowed(values) => {
+            cast_rows(alloc, source, target, CowSlice::Borrowed(values))
+        }
+    }
 }

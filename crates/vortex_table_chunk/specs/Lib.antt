@@ -6,5 +6,4 @@ pub mod Formed
 pub mod Joined
 pub mod Proved
 pub mod Rows
-pub mod Zone
 pub mod zones

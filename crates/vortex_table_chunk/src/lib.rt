@@ -1,7 +1,6 @@
-//! Chunks: arrays of rows with statistics of their leaf columns, and the proofs that these decide.
+//! Chunks: arrays of rows with statistics of their leaf columns.
 #![tactic(auto)]
 
-pub mod binder;
 pub mod bounds;
 pub mod chunk;
 pub mod part;

@@ -141,12 +141,12 @@ module _ (k : LogicalType) (L : Positions → ℕ) (chunks : List Chunk) where
       ∙ chunks_at (first + x.chunks) groups (subst (λ cs. AreGroups k L (first + x.chunks) groups cs) (drop_on first x.chunks chunks) h.2) j g (omega (arith, inside))
 
 -- of a table, those of the group at the index
-pub group_chunks : (t : Table) (i : ℕ) (g : Group) → i < length t.groups.items → chunks_of_group (table_of t) i ≡ map chunk_rows (chunks_of t.chunks.items (get_or t.groups.items i g))
-group_chunks t i g inside = chunks_at (type_of t.dtype) (length_in t.bound_lengths) t.chunks.items 0 t.groups.items t.grouped i g inside
+pub group_chunks : (t : Table) (i : ℕ) (g : Group) → i < length t.groups → chunks_of_group (table_of t) i ≡ map chunk_rows (chunks_of t.chunks.items (get_or t.groups i g))
+group_chunks t i g inside = chunks_at (type_of t.dtype) (length_in t.bound_lengths) t.chunks.items 0 t.groups t.grouped i g inside
 
 -- ---- the group at an index of a table
 
-module _ (t : Table) (i : ℕ) (g : Group) (inside : i < length t.groups.items) (at_i : g ≡ get_or t.groups.items i g) where
+module _ (t : Table) (i : ℕ) (g : Group) (inside : i < length t.groups) (at_i : g ≡ get_or t.groups i g) where
   abbrev k : LogicalType
   k = type_of t.dtype
 
@@ -157,7 +157,7 @@ module _ (t : Table) (i : ℕ) (g : Group) (inside : i < length t.groups.items) 
   chunks_there = group_chunks t i g inside ∙ ap (λ x. map chunk_rows (chunks_of t.chunks.items x)) (sym at_i)
 
   pub group_there : IsGroup k (length_in t.bound_lengths) g own
-  group_there = group_at k (length_in t.bound_lengths) t.chunks.items 0 t.groups.items t.grouped i g inside at_i
+  group_there = group_at k (length_in t.bound_lengths) t.chunks.items 0 t.groups t.grouped i g inside at_i
 
   pub chunks_formed : list_all (is_formed (length_in t.bound_lengths) k) own ≡ true
   chunks_formed = formed_in (is_formed (length_in t.bound_lengths) k) g t.chunks.items t.formed

@@ -24,7 +24,7 @@ use Rattle.vortex_table_chunk.specs.Rows.{are_rows_valid}
 use Rattle.vortex_table_schema.specs.Cut.{content_cut, kept_by, raw_cut}
 use Rattle.vortex_table_core.specs.Plan.{IsPlan, table_in, paths_in, predicate_in}
 use Rattle.vortex_table_core.specs.Progress.{found_rows}
-use Rattle.vortex_table_core.specs.Selected.{is_selected, cut_rows, selected_rows, CanBeCut}
+use Rattle.vortex_table_select.specs.Selected.{is_selected, cut_rows, selected_rows, CanBeCut}
 use Rattle.vortex_table_chunk.specs.Formed.{is_formed}
 use Rattle.vortex_table_chunk.specs.declared.chunk.Chunk.{Chunk}
 use Rattle.vortex_table_core.specs.declared.plan.Scan.{Scan}
@@ -37,7 +37,7 @@ use Rattle.vortex_table_core.proofs.Rows.{IsCut, kept_each, kept_all}
 -- the falsifier of the predicate may be believed
 pub sound_of : (plan : Scan) → IsPlan plan → FalsifiesRightly (table_in plan).kind (predicate_in plan)
 sound_of plan is = λ proof made.
-    sound_falsifier (table_in plan).kind (predicate_in plan) proof (accepted_truth (table_in plan).kind (predicate_in plan) is.faultless) is.formed made
+    sound_falsifier (table_in plan).kind (predicate_in plan) proof (accepted_truth (table_in plan).kind (predicate_in plan) is.prepared.faultless) is.prepared.formed made
 
 no_null : (k : LogicalType) → type_fault k ≡ None → valid k raw_null ≡ false
 no_null (struct fs non_nullable) h = refl
@@ -66,7 +66,7 @@ module _ (plan : Scan) (is : IsPlan plan) (chunk : Chunk) (formed : IsTrue (is_f
 
   pub can_be_cut : CanBeCut plan.prepared.now.cut (array_type_of chunk.array)
   can_be_cut r h =
-      (λ j. valid (is.cut_kind j) (raw_cut (is.cut_values j) r))
+      (λ j. valid (is.prepared.cut_kind j) (raw_cut (is.prepared.cut_values j) r))
       ∙ cut_is_valid (paths_in plan) k r (ap (λ t. valid t r) (sym same_type) ∙ h)
 
   -- the rows are records, and so never null
@@ -87,13 +87,13 @@ module _ (plan : Scan) (is : IsPlan plan) (chunk : Chunk) (formed : IsTrue (is_f
 
   pub all_found : whole ≡ chunk_outcome (table_in plan) (predicate_in plan) (chunk_rows chunk) →
       cut_rows plan.prepared.now.cut (chunk_rows chunk) ≡ found_rows k (paths_in plan) (predicate_in plan) (chunk_rows chunk)
-  all_found e = ap (λ t. map (content_cut t) (chunk_rows chunk)) is.cut_values ∙ kept_all k (paths_in plan) (chunk_rows chunk) all_cut ∙ sym (found_by whole e)
+  all_found e = ap (λ t. map (content_cut t) (chunk_rows chunk)) is.prepared.cut_values ∙ kept_all k (paths_in plan) (chunk_rows chunk) all_cut ∙ sym (found_by whole e)
 
   eq_test : (row : Content) → is_selected plan.prepared.now.bound row ≡ selects k (predicate_in plan) row
-  eq_test row = ap is_true (is.bound row)
+  eq_test row = ap is_true (is.prepared.bound row)
 
   pub some_found : cut_rows plan.prepared.now.cut (selected_rows plan.prepared.now.bound (chunk_rows chunk)) ≡ found_rows k (paths_in plan) (predicate_in plan) (chunk_rows chunk)
   some_found =
-      ap (λ t. map (content_cut t) (selected_rows plan.prepared.now.bound (chunk_rows chunk))) is.cut_values
+      ap (λ t. map (content_cut t) (selected_rows plan.prepared.now.bound (chunk_rows chunk))) is.prepared.cut_values
       ∙ (λ j. map (content_cut (kept_by (paths_in plan) k)) (filter (λ row. eq_test row j) (chunk_rows chunk)))
       ∙ kept_each k (paths_in plan) (selects k (predicate_in plan)) (chunk_rows chunk) all_cut

@@ -249,14 +249,14 @@ sizes_sum k L i (g ∷ groups) chunks h =
 -- the groups up to here are looked at, and this is the answer so far
 pub record Reached (plan : Scan) (j : ℕ) (a : ScanAnswer) : Type 0 where
   pub start : ℕ
-  pub left : with_groups (t plan) (paths plan) (e plan) start (grouped (map (λ g. g.chunks) (drop j plan.table.now.groups.items)) (map chunk_rows (drop start plan.table.now.chunks.items))) a
+  pub left : with_groups (t plan) (paths plan) (e plan) start (grouped (map (λ g. g.chunks) (drop j plan.table.now.groups)) (map chunk_rows (drop start plan.table.now.chunks.items))) a
       ≡ scanned (t plan) (paths plan) (e plan)
   pub counted : saturated a.rows_tested ≡ a.rows_tested
-  pub groups : AreGroups (k plan) (bound_length (t plan)) start (drop j plan.table.now.groups.items) (drop start plan.table.now.chunks.items)
+  pub groups : AreGroups (k plan) (bound_length (t plan)) start (drop j plan.table.now.groups) (drop start plan.table.now.chunks.items)
 
 module _ (plan : Scan) where
   abbrev groups : List Group
-  groups = plan.table.now.groups.items
+  groups = plan.table.now.groups
 
   abbrev chunks : List Chunk
   chunks = plan.table.now.chunks.items

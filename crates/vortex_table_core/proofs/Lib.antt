@@ -11,5 +11,5 @@ pub mod Groups
 pub mod OwnType
 pub mod Rearrayed
 pub mod Regrouped
-pub mod Taken
 pub mod Described
+pub mod Walked

@@ -52,7 +52,7 @@ module _ (plan : Scan) (is : IsPlan plan) (chunk : Chunk) (formed : IsTrue (is_f
   long_so = as_long (bound_length t) t.kind chunk formed ∙ ap (map (bound_length t)) (sym led_so)
 
   no_fault : expression_fault t.kind e ≡ None
-  no_fault = no_fault_first (expression_fault t.kind e) (unless (is_boolean (expression_type t.kind e)) not_boolean) is.faultless
+  no_fault = no_fault_first (expression_fault t.kind e) (unless (is_boolean (expression_type t.kind e)) not_boolean) is.prepared.faultless
 
   -- what is proved by the chunk's bounds
   abbrev pub proved : Option Bound → Bool
@@ -64,12 +64,12 @@ module _ (plan : Scan) (is : IsPlan plan) (chunk : Chunk) (formed : IsTrue (is_f
   falsified_alike : proved plan.prepared.now.proofs.falsifier ≡ proves (chunk_zone t (chunk_rows chunk)) (length (chunk_rows chunk)) (falsifier t.kind e)
   falsified_alike =
       of_table plan.prepared.now.proofs.falsifier
-      ∙ chunk_falsified t chunk led_so long_so e plan.prepared.now.proofs.falsifier is.falsifier no_fault
+      ∙ chunk_falsified t chunk led_so long_so e plan.prepared.now.proofs.falsifier is.prepared.falsifier no_fault
 
   satisfied_alike : proved plan.prepared.now.proofs.satisfier ≡ proves (chunk_zone t (chunk_rows chunk)) (length (chunk_rows chunk)) (satisfier t.kind e)
   satisfied_alike =
       of_table plan.prepared.now.proofs.satisfier
-      ∙ chunk_satisfied t chunk led_so long_so e plan.prepared.now.proofs.satisfier is.satisfier no_fault
+      ∙ chunk_satisfied t chunk led_so long_so e plan.prepared.now.proofs.satisfier is.prepared.satisfier no_fault
 
   pub outcome_by : (b c : Bool) → b ≡ proved plan.prepared.now.proofs.falsifier → c ≡ proved plan.prepared.now.proofs.satisfier →
       (if b then skipped else (if c then whole else tested)) ≡ chunk_outcome t e (chunk_rows chunk)
@@ -99,7 +99,7 @@ module _ (plan : Scan) (is : IsPlan plan) (group : Group) (chunks : List Chunk) 
   rows = map chunk_rows chunks
 
   faultless : expression_fault table.kind asked ≡ None
-  faultless = no_fault_first (expression_fault table.kind asked) (unless (is_boolean (expression_type table.kind asked)) not_boolean) is.faultless
+  faultless = no_fault_first (expression_fault table.kind asked) (unless (is_boolean (expression_type table.kind asked)) not_boolean) is.prepared.faultless
 
   as_many : length rows ≡ length chunks
   as_many = length-map chunks chunk_rows
@@ -115,7 +115,7 @@ module _ (plan : Scan) (is : IsPlan plan) (group : Group) (chunks : List Chunk) 
       let own = subst (λ p. HasStatistics table.kind (bound_length table) p chunks) e h in
       let many : nat_lt 1 (length rows) ≡ true = is_more (length rows) (let here = own.0 in let same = as_many in omega (arith, here, same)) in
       p ∙ ap (λ n. proved_in (zone_provided (leaf_positions table.kind) bounds n) plan.prepared.now.proofs.falsifier) (sym grouped.rows)
-      ∙ group_falsified table bounds rows (all_said (bound_length table) table.kind chunks formed) own.1 asked plan.prepared.now.proofs.falsifier is.falsifier faultless
+      ∙ group_falsified table bounds rows (all_said (bound_length table) table.kind chunks formed) own.1 asked plan.prepared.now.proofs.falsifier is.prepared.falsifier faultless
       ∙ ap (λ b. b && proves (group_zone table rows) (rows_in rows) (falsifier table.kind asked)) (sym many)
 
   pub many_if : (o : Option (List ColumnBounds)) → HasStatistics table.kind (bound_length table) o chunks → is_some o ≡ is_many rows

@@ -5,7 +5,6 @@ pub mod Outcome
 pub mod Plan
 pub mod Progress
 pub mod Retyped
-pub mod Selected
 pub mod TableView
 pub mod Totals
 pub mod WithArrays

@@ -12,7 +12,9 @@ use Rattle.vortex_model.specs.Table as model
 use Rattle.vortex_dtype_core.specs.View.{type_of}
 use Rattle.vortex_stats_bind.specs.Bound.{bound_value}
 use Rattle.vortex_table_chunk.specs.Proved.{IsBoundProof}
+use Rattle.vortex_table_schema.specs.Leaves.{leaf_positions}
 use Rattle.vortex_table_schema.specs.Cut.{paths_of, tree_of, kept_by}
+use Rattle.vortex_table_zones.specs.Zone.{IsResolved}
 use Rattle.vortex_table_core.specs.TableView.{table_of}
 use Rattle.vortex_table_core.specs.declared.plan.Scan.{Scan}
 use Rattle.vortex_table_core.specs.declared.plan.ScanPlan.{ScanPlan}
@@ -38,7 +40,11 @@ pub record IsPreparedFor (k : LogicalType) (paths : List Names) (e : Expression)
   pub cut_kind : type_of made.cut.dtype ≡ cut_type paths k
   pub cut_values : tree_of made.cut.projection ≡ kept_by paths k
 
--- the plan has what is prepared for its scan
-abbrev pub IsPlan : Scan → Type 0
-IsPlan plan =
-    IsPreparedFor (table_in plan).kind (paths_in plan) (predicate_in plan) plan.prepared.now
+-- the plan has what is prepared for its scan, with its proofs resolved to the table's leaves
+pub record IsPlan (plan : Scan) : Type 0 where
+  pub prepared :
+      IsPreparedFor (table_in plan).kind (paths_in plan) (predicate_in plan) plan.prepared.now
+  pub falsifier : IsResolved (leaf_positions (table_in plan).kind)
+      plan.prepared.now.proofs.falsifier plan.falsifier
+  pub satisfier : IsResolved (leaf_positions (table_in plan).kind)
+      plan.prepared.now.proofs.satisfier plan.satisfier

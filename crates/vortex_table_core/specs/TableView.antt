@@ -11,5 +11,5 @@ table_of t = record {
   default = t.bound_lengths.default;
   lengths = t.bound_lengths.entries.items;
   chunks = map chunk_rows t.chunks.items;
-  groups = map (λ g. g.chunks) t.groups.items;
+  groups = map (λ g. g.chunks) t.groups;
 }

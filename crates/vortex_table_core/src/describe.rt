@@ -61,14 +61,14 @@ impl Table {
 
     // The statistics of the leaf column at these positions in the rows of a group.
     fn leaf_statistics<'a>(&'a self, group: usize, place: &[usize]) -> &'a ColumnBounds
-        requires group { group < length self.now.groups.items }
+        requires group { group < length self.now.groups }
         requires leaf { is_leaf_at (type_of self.now.dtype) place.now ≡ true }
         ensures { (g : Group) → ∥ IsJoined (type_of self.now.dtype)
             (length_in self.now.bound_lengths) place.now result.now
             (map chunk_rows (chunks_of self.now.chunks.items
-            (slice_index_or self.now.groups.items group g))) ∥₁ }
+            (slice_index_or self.now.groups group g))) ∥₁ }
     {
-        let group = &self.groups[group];
+        let group = self.groups.item(group);
         let Some(bounds) = bounds_at(&self.leaves, self.statistics(group), place) else {
             unreachable!()
         };

@@ -1,5 +1,4 @@
 //! Groups of neighbouring chunks.
-ghost use Rattle.std.specs.Prelude.{◌≡◌, ◌<◌, length, slice_set};
 
 use vortex_table_chunk::zones::bounds::ColumnBounds;
 
@@ -15,12 +14,4 @@ pub struct Group {
     /// The statistics of each leaf column in the rows of all its chunks. `None` for a group of one
     /// chunk, which has its own.
     pub joined: Option<Vec<ColumnBounds>>,
-}
-
-/// Puts the group in the place of the one at the index.
-pub fn replace_group(groups: &mut Vec<Group>, index: usize, group: Group)
-    requires { index < length groups.old.items }
-    ensures { groups.new.items ≡ slice_set groups.old.items index group }
-{
-    groups[index] = group;
 }

@@ -1,6 +1,6 @@
 //! Joins of neighbouring groups.
 
-use crate::group::{Group, replace_group};
+use crate::group::Group;
 use crate::table::Table;
 use std::alloc::{AllocError, Global};
 use vortex_table_check::error::TableError;
@@ -36,13 +36,13 @@ impl Table {
 
     // The group at the index and the one behind it, as one.
     fn joined_group(&self, alloc: Global, index: usize) -> Result<Group, AllocError>
-        requires { index + 1 < length self.now.groups.items }
+        requires { index + 1 < length self.now.groups }
         ensures { IfOk result (λ group. IsOneGroup (type_of self.now.dtype)
-            (length_in self.now.bound_lengths) self.now.groups.items index
+            (length_in self.now.bound_lengths) self.now.groups index
             self.now.chunks.items group) }
     {
-        let left = &self.groups[index];
-        let right = &self.groups[index + 1];
+        let left = self.groups.item(index);
+        let right = self.groups.item(index + 1);
         let joined = join_bounds(alloc, self.statistics(left), self.statistics(right))?;
         Ok(Group {
             first: left.first,
@@ -68,7 +68,7 @@ impl Table {
             return Err(TableError::NoSuchGroup);
         }
         let joined = self.joined_group(alloc, index)?;
-        replace_group(&mut self.groups, index, joined);
+        self.groups.replace(index, joined);
         self.groups.remove(index + 1);
         Ok(())
     }

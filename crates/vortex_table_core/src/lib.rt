@@ -10,5 +10,4 @@ mod plan;
 pub mod retype;
 mod run;
 pub mod scan;
-mod select;
 pub mod table;

@@ -10,7 +10,6 @@ ghost use Rattle.vortex_model.specs.Command.{paths_fault, predicate_fault};
 ghost use Rattle.vortex_dtype_core.specs.View.{type_of};
 ghost use Rattle.vortex_dtype_path.specs.View.{steps_of};
 ghost use Rattle.vortex_table_schema.specs.Cut.{paths_of};
-ghost use Rattle.vortex_stats_bind.specs.Faults.{IsReason};
 ghost use Rattle.vortex_table_chunk.specs.Proved.{IsBoundProof};
 ghost use Rattle.vortex_table_check.specs.Error.{Explains};
 ghost use Rattle.vortex_table_core.specs.Plan.{IsPreparedFor};
@@ -19,47 +18,14 @@ use crate::plan::{Proofs, ScanPlan};
 use std::alloc::{AllocError, Global};
 use vortex_dtype_core::dtype::DType;
 use vortex_dtype_path::path::FieldPath;
-use vortex_stats_bind::bind::{PredicateError, bind, bind_proof};
+use vortex_stats_bind::bind::bind_proof;
 use vortex_stats_bind::bound::BoundExpression;
 use vortex_stats_expr::expression::Expression;
 use vortex_stats_rewrite::rewrite::{falsify, satisfy};
 use vortex_table_check::check::check_paths;
 use vortex_table_check::error::TableError;
+use vortex_table_predicate::bind::bind;
 use vortex_table_schema::cut::make_cut;
-
-fn predicate_error(error: PredicateError) -> TableError
-    ensures { (fault : Option Refusal) → IsReason error fault → Explains ⊥ fault result }
-{
-    match error {
-        PredicateError::Memory => TableError::Memory,
-        PredicateError::Placeholder => TableError::Placeholder,
-        PredicateError::UnknownColumn => TableError::UnknownColumn,
-        PredicateError::NotALeaf => TableError::NotALeaf,
-        PredicateError::UnequalTypes => TableError::UnequalTypes,
-        PredicateError::NotBoolean => TableError::NotBoolean,
-        PredicateError::UnsupportedLike => TableError::UnsupportedLike,
-        PredicateError::UnsupportedPredicate => TableError::UnsupportedPredicate,
-    }
-}
-
-// As `bind`, with the fault as one of tables.
-fn bind_predicate(
-    alloc: Global,
-    predicate: &Expression,
-    dtype: &DType,
-) -> Result<BoundExpression, TableError>
-    ensures faultless { OnOk result (predicate_fault (type_of dtype.now) predicate.now ≡ None) }
-    ensures refused { IfErr result
-        (λ e. Explains ⊥ (predicate_fault (type_of dtype.now) predicate.now) e) }
-    ensures formed { OnOk result (HasFormedLiterals predicate.now) }
-    ensures value { IfOk result (λ bound. (row : Content) → bound_value bound row
-        ≡ value_at (type_of dtype.now) predicate.now row) }
-{
-    match bind(alloc, predicate, dtype) {
-        Ok(bound) => Ok(bound),
-        Err(error) => Err(predicate_error(error)),
-    }
-}
 
 // So that no name is looked up at a chunk.
 fn resolve_proof(
@@ -134,7 +100,7 @@ pub fn prepare(
         (predicate_fault (type_of dtype.now) predicate.now)) e) }
 {
     check_paths(dtype, paths)?;
-    let bound = bind_predicate(alloc, predicate, dtype)?;
+    let bound = bind(alloc, predicate, dtype)?;
     let proofs = make_proofs(alloc, dtype, predicate)?;
     let cut = make_cut(alloc, dtype, paths)?;
     Ok(ScanPlan { bound, proofs, cut })

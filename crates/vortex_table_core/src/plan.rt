@@ -4,18 +4,19 @@ ghost use Rattle.vortex_table_core.specs.Progress.{push_if, tested_rows};
 ghost use Rattle.vortex_table_chunk.specs.Chunk.{chunk_rows};
 ghost use Rattle.vortex_table_core.specs.Outcome.{outcome_of};
 
-use crate::select::{select_rows, take_rows};
 use crate::table::Table;
 use std::alloc::{AllocError, Global};
 use vortex_dtype_path::path::FieldPath;
 use vortex_scalar_core::scalar::Scalar;
 use vortex_stats_bind::bound::BoundExpression;
 use vortex_stats_expr::expression::Expression;
-use vortex_table_chunk::binder::{ZoneOperands, is_proved};
 use vortex_table_chunk::chunk::Chunk;
 use vortex_table_chunk::zones::bounds::ColumnBounds;
 use vortex_table_schema::answer::ScanAnswer;
 use vortex_table_schema::cut::RowProjection;
+use vortex_table_select::select::{select_rows, take_rows};
+use vortex_table_zones::operands::ZoneOperands;
+use vortex_table_zones::proof::{ZoneProof, is_proved};
 
 /// The way a scan treats a chunk.
 #[derive(Clone, Copy)]
@@ -44,12 +45,14 @@ pub struct ScanPlan {
 }
 
 /// A scan of a table with what is prepared for it.
-#[derive(Clone, Copy, Drop)]
+#[derive(Drop)]
 pub struct Scan<'a> {
     pub table: &'a Table,
     pub paths: &'a [FieldPath],
     pub predicate: &'a Expression,
     pub prepared: &'a ScanPlan,
+    pub falsifier: Option<ZoneProof<'a>>,
+    pub satisfier: Option<ZoneProof<'a>>,
 }
 
 impl Scan<'_> {
@@ -61,22 +64,16 @@ impl Scan<'_> {
     ghost use Rattle.vortex_table_schema.specs.Answer.{answer_of};
     ghost use Rattle.vortex_table_schema.specs.Leaves.{leaf_positions};
     ghost use Rattle.vortex_table_chunk.specs.Chunk.{chunk_rows};
-    ghost use Rattle.vortex_table_chunk.specs.BoundStat.{zone_provided};
-    ghost use Rattle.vortex_table_chunk.specs.Proved.{proved_in};
+    ghost use Rattle.vortex_table_zones.specs.Zone.{zone_proved};
     ghost use Rattle.vortex_table_core.specs.Outcome.{outcome_of};
     ghost use Rattle.vortex_table_core.specs.Plan.{IsPlan, table_in, paths_in, predicate_in};
     ghost use Rattle.vortex_table_core.specs.Progress.{with_chunk, found_rows, proofs_at};
     ghost use Rattle.vortex_table_chunk.specs.Formed.{is_formed};
 
     /// Whether the statistics of the table's leaf columns in so many rows make the proof true.
-    pub fn proves(
-        &self,
-        bounds: &[ColumnBounds],
-        rows: usize,
-        proof: &Option<BoundExpression>,
-    ) -> bool
-        ensures { result ≡ proved_in (zone_provided (leaf_positions (table_in self.now).kind)
-            bounds.now rows) proof.now }
+    pub fn proves(&self, bounds: &[ColumnBounds], rows: usize, proof: &Option<ZoneProof>) -> bool
+        ensures { result ≡ zone_proved (leaf_positions (table_in self.now).kind) bounds.now rows
+            proof.now }
     {
         let zone = ZoneOperands {
             leaves: self.table.leaves.as_slice(),
@@ -96,11 +93,11 @@ impl Scan<'_> {
     {
         let bounds = chunk.bounds.as_slice();
         let rows = chunk.array.len();
-        let falsified = self.proves(bounds, rows, &self.prepared.proofs.falsifier);
+        let falsified = self.proves(bounds, rows, &self.falsifier);
         if falsified {
             return Pruning::Skip;
         }
-        let satisfied = self.proves(bounds, rows, &self.prepared.proofs.satisfier);
+        let satisfied = self.proves(bounds, rows, &self.satisfier);
         if satisfied {
             return Pruning::TakeAll;
         }

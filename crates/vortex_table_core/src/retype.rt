@@ -12,6 +12,7 @@ use crate::table::Table;
 use std::alloc::{AllocError, Global};
 use std::rc::Rc;
 use vortex_dtype_core::dtype::DType;
+use vortex_table_blocks::block_list::BlockList;
 use vortex_table_check::check::check_type;
 use vortex_table_check::error::TableError;
 use vortex_table_chunk::chunk::Chunk;
@@ -91,15 +92,19 @@ impl Table {
         alloc: Global,
         retyping: &Retyping,
         chunks: &[Chunk],
-    ) -> Result<Vec<Group>, AllocError>
+    ) -> Result<BlockList<Group>, AllocError>
         requires rows { map chunk_rows chunks.now ≡ map chunk_rows self.now.chunks.items }
         requires formed { IsTrue
             (list_all (is_formed (lengths_of retyping.now) (target_of retyping.now)) chunks.now) }
         ensures { IfOk result (λ groups. AreRegrouped (target_of retyping.now)
-            (lengths_of retyping.now) chunks.now self.now.groups.items groups.items) }
+            (lengths_of retyping.now) chunks.now self.now.groups groups) }
     {
-        let mut groups = Vec::with_capacity(alloc, self.groups.len())?;
-        for group in &self.groups {
+        let mut groups = BlockList::new(alloc);
+        let mut old = self.groups.walk();
+        // Tell the proof that the groups and the rows can be counted.
+        let _ = self.groups.len();
+        let _ = self.len();
+        while let Some(group) = old.next_item() {
             let new = regroup(alloc, retyping, group, chunks)?;
             groups.push(new)?;
         }
@@ -114,7 +119,7 @@ impl Table {
         dtype: &DType,
         leaves: &Rc<Vec<LeafPath>>,
         lengths: &Rc<Vec<usize>>,
-    ) -> Result<(Vec<Chunk>, Vec<Group>), TableError>
+    ) -> Result<(Vec<Chunk>, BlockList<Group>), TableError>
         requires kept { type_fault (type_of dtype.now) ≡ None }
         requires leaves { leaves.now.value.items ≡ leaf_positions (type_of dtype.now) }
         requires lengths { lengths.now.value.items
@@ -124,7 +129,7 @@ impl Table {
         ensures rows { IfOk result
             (λ parts. map chunk_rows parts.0.items ≡ map chunk_rows self.now.chunks.items) }
         ensures groups { IfOk result (λ parts. AreRegrouped (type_of dtype.now)
-            (length_in self.now.bound_lengths) parts.0.items self.now.groups.items parts.1.items) }
+            (length_in self.now.bound_lengths) parts.0.items self.now.groups parts.1) }
         ensures converts { OnOk result (first_unconvertible 0 (table_of self.now).kind
             (type_of dtype.now) (rows_of (table_of self.now)) ≡ None) }
         ensures refused { IfErr result (λ e. Explains

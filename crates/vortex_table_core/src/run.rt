@@ -49,7 +49,7 @@ impl Scan<'_> {
         match &group.joined {
             Some(bounds) => {
                 let bounds = bounds.as_slice();
-                self.proves(bounds, group.rows, &self.prepared.proofs.falsifier)
+                self.proves(bounds, group.rows, &self.falsifier)
             }
             None => false,
         }
@@ -150,7 +150,8 @@ impl Scan<'_> {
             rows_tested: 0,
             proofs: 0,
         };
-        for group in &self.table.groups {
+        let mut groups = self.table.groups.walk();
+        while let Some(group) = groups.next_item() {
             self.add_group(alloc, group, &mut answer)?;
         }
         Ok(answer)

@@ -1,22 +1,26 @@
 //! Scans over the chunks of a table.
 
 use crate::make::prepare;
-use crate::plan::Scan;
+use crate::plan::{Scan, ScanPlan};
 use crate::table::Table;
-use std::alloc::Global;
+use std::alloc::{AllocError, Global};
 use vortex_dtype_path::path::FieldPath;
 use vortex_stats_expr::expression::Expression;
 use vortex_table_check::error::TableError;
 use vortex_table_schema::answer::ScanAnswer;
+use vortex_table_zones::proof::resolve;
 
 impl Table {
     ghost use Rattle.std.specs.Prelude.{◌≡◌, None, map, IfOk, OnOk, IfErr};
     ghost use Rattle.vortex_model.specs.Scan.{scanned};
     ghost use Rattle.vortex_model.specs.Command.{scan, names_of, refusal};
     ghost use Rattle.vortex_dtype_path.specs.View.{steps_of};
+    ghost use Rattle.vortex_dtype_core.specs.View.{type_of};
     ghost use Rattle.vortex_table_check.specs.Error.{Explains};
+    ghost use Rattle.vortex_table_core.specs.Plan.{IsPreparedFor};
     ghost use Rattle.vortex_table_core.specs.TableView.{table_of};
     ghost use Rattle.vortex_table_schema.specs.Answer.{answer_of, IsTyped};
+    ghost use Rattle.vortex_table_schema.specs.Cut.{paths_of};
 
     /// The rows that the predicate selects, in order, each with the columns that the paths ask for.
     /// The path without a step asks for whole rows, and no path for empty records.
@@ -45,17 +49,39 @@ impl Table {
             (refusal (table_of self.now) (scan (map steps_of paths.now) predicate.now)) e) }
     {
         let prepared = prepare(alloc, &self.dtype, paths, predicate)?;
-        let plan = Scan {
-            table: self,
-            paths,
-            predicate,
-            prepared: &prepared,
-        };
-        let found = plan.run(alloc);
+        let found = (&*self).run_prepared(alloc, &*paths, &*predicate, &prepared);
         // A call lets go of the trees in it: in place, each of their variants would be walked in
         // the proof.
         drop(prepared);
         let answer = found?;
+        Ok(answer)
+    }
+
+    // The answer to a scan for which this is prepared.
+    fn run_prepared<'s>(
+        &'s self,
+        alloc: Global,
+        paths: &'s [FieldPath],
+        predicate: &'s Expression,
+        prepared: &'s ScanPlan,
+    ) -> Result<ScanAnswer, AllocError>
+        requires { IsPreparedFor (type_of self.now.dtype) (paths_of paths.now) predicate.now
+            prepared.now }
+        ensures found { IfOk result (λ a. answer_of a
+            ≡ scanned (table_of self.now) (paths_of paths.now) predicate.now) }
+        ensures typed { IfOk result (λ a. IsTyped a) }
+    {
+        let falsifier = resolve(alloc, &self.leaves, &prepared.proofs.falsifier)?;
+        let satisfier = resolve(alloc, &self.leaves, &prepared.proofs.satisfier)?;
+        let plan = Scan {
+            table: self,
+            paths,
+            predicate,
+            prepared,
+            falsifier,
+            satisfier,
+        };
+        let answer = plan.run(alloc)?;
         Ok(answer)
     }
 }

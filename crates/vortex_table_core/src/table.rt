@@ -18,6 +18,7 @@ use vortex_arrays_core::array::ArrayRef;
 use vortex_dtype_core::dtype::DType;
 use vortex_dtype_path::path::FieldPath;
 use vortex_scalar_value::scalar_value::ScalarValue;
+use vortex_table_blocks::block_list::BlockList;
 use vortex_table_check::append::{check_batch, convert_rows};
 use vortex_table_check::check::check_type;
 use vortex_table_check::error::TableError;
@@ -38,7 +39,7 @@ pub struct Table {
     pub(crate) lengths: Rc<Vec<usize>>,
     pub(crate) len: usize,
     pub(crate) chunks: Vec<Chunk>,
-    pub(crate) groups: Vec<Group>,
+    pub(crate) groups: BlockList<Group>,
     pub ghost kept: { IsTrue (is_none (type_fault (type_of dtype))) },
     pub ghost led: { IsTrue (eq_leaves leaves.value.items (leaf_positions (type_of dtype))) },
     pub ghost measured: { IsTrue (are_lengths_of (length_in bound_lengths) (type_of dtype)
@@ -46,8 +47,8 @@ pub struct Table {
     pub ghost formed: { IsTrue (list_all (is_formed (length_in bound_lengths) (type_of dtype))
         chunks.items) },
     pub ghost counted: { row_count chunks.items ≡ len },
-    pub ghost grouped: { AreGroups (type_of dtype) (length_in bound_lengths) 0 groups.items
-        chunks.items } by { AreGroups-prop (type_of dtype) (length_in bound_lengths) 0 groups.items
+    pub ghost grouped: { AreGroups (type_of dtype) (length_in bound_lengths) 0 groups
+        chunks.items } by { AreGroups-prop (type_of dtype) (length_in bound_lengths) 0 groups
             chunks.items },
 }
 
@@ -100,7 +101,7 @@ impl Table {
             lengths,
             len: 0,
             chunks: Vec::new(alloc),
-            groups: Vec::new(alloc),
+            groups: BlockList::new(alloc),
         })
     }
 
@@ -214,10 +215,10 @@ impl Table {
             joined: None,
         };
         let chunk = new_chunk(alloc, &self.leaves, &self.lengths, array)?;
-        // Once there is room for its group, the chunk is the last that memory can be short of.
-        self.groups.reserve(1)?;
-        self.chunks.push(chunk)?;
+        // Once there is room for the chunk, its group is the last that memory can be short of.
+        self.chunks.reserve(1)?;
         self.groups.push(group)?;
+        self.chunks.push(chunk)?;
         self.len = len;
         Ok(())
     }

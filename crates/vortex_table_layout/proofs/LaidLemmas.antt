@@ -91,7 +91,7 @@ by_unfit h cs a e f t = subst (λ x. IsLaidOutBy x cs a) (sym e) (subst (λ b. I
 pub by_plain : (h : hint.Layout) (cs : List Content) (a : Layout) → h ≡ hints.Plain → IsPlainLayout a → IsLaidOutBy h cs a
 by_plain h cs a e t = subst (λ x. IsLaidOutBy x cs a) (sym e) t
 
-pub by_dictionary : (h : hint.Layout) (cs : List Content) (a : Layout) → h ≡ hints.Dictionary → IsPlainLayout a → IsLaidOutBy h cs a
+pub by_dictionary : (h : hint.Layout) (cs : List Content) (a : Layout) → h ≡ hints.Dictionary → IsLaidOutBy hints.Dictionary cs a → IsLaidOutBy h cs a
 by_dictionary h cs a e t = subst (λ x. IsLaidOutBy x cs a) (sym e) t
 
 -- ---- what columns are

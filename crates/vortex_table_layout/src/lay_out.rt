@@ -13,6 +13,7 @@ ghost use Rattle.vortex_arrays_model.specs.Parts.{columns_of};
 ghost use Rattle.vortex_arrays_builder.specs.Types.{HasPlain, HavePlain};
 ghost use Rattle.vortex_arrays_builder.specs.Plain.{parts_at, IsPlainFault};
 ghost use Rattle.vortex_arrays_builder.specs.Fits.{fits_constant};
+ghost use Rattle.vortex_table_schema.specs.declared.layout.Layout.TheVariants.{Dictionary};
 ghost use Rattle.vortex_table_layout.specs.Hinted.{
   hint_at,
   AreColumnsBy,
@@ -27,9 +28,10 @@ use std::alloc::{AllocError, Global};
 use std::rc::Rc;
 use vortex_arrays_buffer::error::ArrayError;
 use vortex_arrays_builder::constant::build_constant;
-use vortex_arrays_builder::fits::fits_constant;
+use vortex_arrays_builder::fits::{fits_constant, fits_dictionary};
 use vortex_arrays_builder::plain::build_plain;
 use vortex_arrays_core::array::{ArrayRef, Validity};
+use vortex_arrays_dictionary::build::build_dictionary;
 use vortex_dtype_core::dtype::DType;
 use vortex_dtype_core::struct_fields::{StructField, StructFields};
 use vortex_dtype_fields::struct_fields_ext::StructFieldsExt;
@@ -39,7 +41,8 @@ use vortex_table_schema::layout::Layout;
 /// The rows, of a type that a table can hold, as an array of records with a column for each field.
 /// `hints` has the layout of each column in the order of the fields: one that it has none for is
 /// plain, and more hints than columns are ignored. A hint that doesn't fit its column gives plain:
-/// a constant fits rows that are all equal. Dictionaries are not made yet, and give plain too.
+/// a constant fits rows that are all equal, a dictionary a column of truth values, integers, texts
+/// or bytes with a value that is not null.
 ///
 /// `Total` where the texts or the bytes of a column, at whatever depth, are too large for views and
 /// buffers.
@@ -189,8 +192,36 @@ fn lay_out_by(
             }
         }
         Layout::Plain => build_plain(alloc, dtype, values),
-        Layout::Dictionary => build_plain(alloc, dtype, values),
+        Layout::Dictionary => dictionary_or_plain(alloc, dtype, values),
     }
+}
+
+// A dictionary of the values where one fits. Where even its values can't be held, plain tells so of
+// all.
+#[tactic(auto, using(crate::proofs::DictionaryLemmas::laid))]
+fn dictionary_or_plain(
+    alloc: Global,
+    dtype: &DType,
+    values: &[Option<&ScalarValue>],
+) -> Result<ArrayRef, ArrayError>
+    requires plain { HasPlain (type_of dtype.now) }
+    requires valid { All (λ value. valid (type_of dtype.now) (raw_at value) ≡ true) values.now }
+    ensures dtype { IfOk result (λ array. array_type_of array ≡ type_of dtype.now) }
+    ensures rows { IfOk result (λ array. rows_of array ≡ map content_at values.now) }
+    ensures layout { IfOk result
+        (λ array. IsLaidOutBy Dictionary (map content_at values.now) array) }
+    ensures refused { IfErr result
+        (λ e. IsPlainFault e (type_of dtype.now) (map raw_at values.now)) }
+{
+    if fits_dictionary(dtype, values) {
+        match build_dictionary(alloc, dtype, values) {
+            Ok(array) => return Ok(array),
+            Err(ArrayError::Memory) => return Err(ArrayError::Memory),
+            Err(_) => {}
+        }
+    }
+    let array = build_plain(alloc, dtype, values)?;
+    Ok(array)
 }
 
 // The first of the values, which are all equal, so many times.

@@ -31,8 +31,8 @@ fn push_digits(out: &mut Vec<u8>, bytes: &[u8]) -> Result<(), AllocError>
 pub(crate) fn push_bytes(out: &mut Vec<u8>, bytes: &[u8]) -> Result<(), AllocError>
     ensures { OnOk result (out.new.items ≡ out.old.items ++ bytes_text bytes.now) }
 {
-    out.extend_from_slice(b"\"")?;
+    out.push(b'"')?;
     push_digits(out, bytes)?;
-    out.extend_from_slice(b"\"")?;
+    out.push(b'"')?;
     Ok(())
 }

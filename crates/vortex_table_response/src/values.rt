@@ -53,9 +53,9 @@ pub fn push_value(out: &mut Vec<u8>, value: &ScalarValue) -> Result<(), AllocErr
         ScalarValue::Primitive(number) => push_integer(out, *number),
         ScalarValue::Utf8(text) => push_quoted(*out.allocator(), out, text.as_str()),
         ScalarValue::Tuple(values) => {
-            out.extend_from_slice(b"[")?;
+            out.push(b'[')?;
             push_values(out, values)?;
-            out.extend_from_slice(b"]")?;
+            out.push(b']')?;
             Ok(())
         }
         ScalarValue::Binary(bytes) => push_bytes(out, bytes.as_slice()),

@@ -9,6 +9,7 @@ use Rattle.vortex_model.specs.Content.{Content}
 use Rattle.vortex_model.specs.Convert.{converts}
 use Rattle.vortex_model.specs.Refusal.{Refusal, not_convertible, or_else}
 use Rattle.vortex_model.specs.Command.{unless, first_unconvertible}
+use Rattle.vortex_model.proofs.ContentOrder.{true_left, true_right}
 use Rattle.vortex_arrays_model.specs.Layout.{Layout, len_of, content_at, rows_of}
 use Rattle.vortex_arrays_model.proofs.RowsLemmas.{row_at_position, row_count as rows_counted}
 use Rattle.vortex_scalar_value.specs.declared.scalar_value.ScalarValue.{ScalarValue}
@@ -68,6 +69,13 @@ rows_taken a i past = all_taken (rows_of a) i past
     all_taken [] (suc n) h = refl
     all_taken (x ∷ xs) zero h = absurd (omega (arith, h))
     all_taken (x ∷ xs) (suc n) h = ap (λ l. x ∷ l) (all_taken xs n (omega (arith, h)))
+
+-- all of which can be converted
+pub all_convertible : (n : ℕ) (s t : LogicalType) (rows : List Content) → list_all (converts s t) rows ≡ true → first_unconvertible n s t rows ≡ None
+all_convertible n s t [] h = refl
+all_convertible n s t (c ∷ cs) h =
+    (λ i. if true_left (converts s t c) (list_all (converts s t) cs) h i then first_unconvertible (suc n) s t cs else Some (not_convertible n))
+    ∙ all_convertible (suc n) s t cs (true_right (converts s t c) (list_all (converts s t) cs) h)
 
 -- ---- chunks
 

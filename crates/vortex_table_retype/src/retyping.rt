@@ -1,5 +1,5 @@
 //! Chunks of one type as chunks of another.
-use crate::rows::{convert_rows, lay_out_plain};
+use crate::rows::{convert_array, convert_rows};
 use std::alloc::Global;
 use std::rc::Rc;
 use vortex_dtype_core::dtype::DType;
@@ -49,8 +49,7 @@ impl Retyping<'_> {
             (AreTooLarge (target_of self.now) (chunk_rows chunk.now)) (first_unconvertible first
             (source_of self.now) (target_of self.now) (chunk_rows chunk.now)) e) }
     {
-        let rows = convert_rows(alloc, self.target, first, &chunk.array)?;
-        let array = lay_out_plain(alloc, self.target, &rows)?;
+        let array = convert_array(alloc, self.target, first, &chunk.array)?;
         let new = new_chunk(alloc, self.leaves, self.lengths, array)?;
         Ok(new)
     }

@@ -7,6 +7,7 @@ ghost use Rattle.vortex_model.specs.Valid.{valid};
 ghost use Rattle.vortex_model.specs.Kept.{type_fault};
 ghost use Rattle.vortex_model.specs.Command.{unless, first_unconvertible};
 ghost use Rattle.vortex_arrays_model.specs.Layout.{len_of, array_type_of, content_at, rows_of};
+ghost use Rattle.vortex_arrays_builder.specs.Types.{IsPlainLayout};
 ghost use Rattle.vortex_dtype_core.specs.View.{type_of};
 ghost use Rattle.vortex_scalar_core.specs.Scalar.{scalar_type, scalar_content};
 ghost use Rattle.vortex_scalar_value.specs.View.{raw_of, raw_at};
@@ -18,6 +19,7 @@ use std::alloc::{AllocError, Global};
 use vortex_arrays_buffer::error::ArrayError;
 use vortex_arrays_builder::laws::tables_hold_plain_types;
 use vortex_arrays_builder::plain::build_plain;
+use vortex_arrays_cast::cast::cast_array;
 use vortex_arrays_core::array::ArrayRef;
 use vortex_dtype_core::dtype::DType;
 use vortex_scalar_core::scalar::Scalar;
@@ -117,6 +119,7 @@ pub fn lay_out_plain(
     requires valid { IsTrue (list_all (λ row. valid (type_of dtype.now) (raw_of row)) rows.now) }
     ensures dtype { IfOk result (λ array. array_type_of array ≡ type_of dtype.now) }
     ensures rows { IfOk result (λ array. rows_of array ≡ map row_content rows.now) }
+    ensures layout { IfOk result (λ array. IsPlainLayout array) }
     ensures refused { IfErr result (λ e. (fault : Option Refusal)
         → Explains (AreTooLarge (type_of dtype.now) (map row_content rows.now)) fault e) }
 {
@@ -128,5 +131,57 @@ pub fn lay_out_plain(
         Err(ArrayError::Memory) => Err(TableError::Memory),
         Err(ArrayError::Total) => Err(TableError::Total),
         Err(_) => unreachable!(),
+    }
+}
+
+// The rows of the array, read and cast one by one, and laid out plain.
+fn convert_by_rows(
+    alloc: Global,
+    target: &DType,
+    first: usize,
+    array: &ArrayRef,
+) -> Result<ArrayRef, TableError>
+    requires kept { type_fault (type_of target.now) ≡ None }
+    requires fits { first + len_of array.now < 2 ^ 64 }
+    ensures dtype { IfOk result (λ new. array_type_of new ≡ type_of target.now) }
+    ensures rows { IfOk result (λ new. rows_of new ≡ rows_of array.now) }
+    ensures layout { IfOk result (λ new. IsPlainLayout new) }
+    ensures converts { OnOk result (first_unconvertible first (array_type_of array.now)
+        (type_of target.now) (rows_of array.now) ≡ None) }
+    ensures refused { IfErr result (λ e. Explains
+        (AreTooLarge (type_of target.now) (rows_of array.now)) (first_unconvertible first
+        (array_type_of array.now) (type_of target.now) (rows_of array.now)) e) }
+{
+    let rows = convert_rows(alloc, target, first, array)?;
+    let new = lay_out_plain(alloc, target, &rows)?;
+    Ok(new)
+}
+
+/// The rows of the array as an array of the target type, laid out plain: column by column where
+/// that can be done, and else row by row, which finds what is to be refused. `NotConvertible` has
+/// the index of the first row that the target can't hold, where the first row has the index
+/// `first`. `Total` where the texts or the bytes of a column can't be held by its views and
+/// buffers.
+#[tactic(auto, using(crate::proofs::ConvertedRows::all_convertible))]
+pub fn convert_array(
+    alloc: Global,
+    target: &DType,
+    first: usize,
+    array: &ArrayRef,
+) -> Result<ArrayRef, TableError>
+    requires kept { type_fault (type_of target.now) ≡ None }
+    requires fits { first + len_of array.now < 2 ^ 64 }
+    ensures dtype { IfOk result (λ new. array_type_of new ≡ type_of target.now) }
+    ensures rows { IfOk result (λ new. rows_of new ≡ rows_of array.now) }
+    ensures layout { IfOk result (λ new. IsPlainLayout new) }
+    ensures converts { OnOk result (first_unconvertible first (array_type_of array.now)
+        (type_of target.now) (rows_of array.now) ≡ None) }
+    ensures refused { IfErr result (λ e. Explains
+        (AreTooLarge (type_of target.now) (rows_of array.now)) (first_unconvertible first
+        (array_type_of array.now) (type_of target.now) (rows_of array.now)) e) }
+{
+    match cast_array(alloc, array, target)? {
+        Some(cast) => Ok(cast),
+        None => convert_by_rows(alloc, target, first, array),
     }
 }

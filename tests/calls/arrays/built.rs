@@ -4,7 +4,9 @@ use crate::checks::Checks;
 use crate::rows::answered;
 use std::alloc::Global;
 use std::rc::Rc;
-use vortex_arrays::{ArrayRef, build_constant, build_plain, fits_constant, fits_dictionary};
+use vortex_arrays::{
+    ArrayRef, build_constant, build_plain, cast_array, fits_constant, fits_dictionary,
+};
 use vortex_dtype::{
     BufferString, ByteBuffer, DType, DTypeError, FieldName, Nullability, PType, StructField,
     StructFields,
@@ -24,7 +26,8 @@ pub fn run(alloc: Global, checks: &mut Checks<'_>) -> Result<(), DTypeError> {
     strings(alloc, checks)?;
     lists(alloc, checks)?;
     records(alloc, checks)?;
-    constants(alloc, checks)
+    constants(alloc, checks)?;
+    casts(alloc, checks)
 }
 
 fn leaves(alloc: Global, checks: &mut Checks<'_>) -> Result<(), DTypeError> {
@@ -98,6 +101,52 @@ fn constants(alloc: Global, checks: &mut Checks<'_>) -> Result<(), DTypeError> {
         "a constant fits",
         fits_constant(&lent(alloc, &rows)?) && !fits_constant(&lent(alloc, &others)?),
     );
+    Ok(())
+}
+
+fn casts(alloc: Global, checks: &mut Checks<'_>) -> Result<(), DTypeError> {
+    let narrow = DType::Primitive(PType::I32, WITH);
+    let wide = DType::Primitive(PType::I64, WITH);
+    let rows = Vec::from_array(alloc, [number(-7), None, number(200)])?;
+    cast(alloc, checks, "integers cast", &narrow, &wide, &rows, true)?;
+    let byte = DType::Primitive(PType::I8, WITH);
+    cast(alloc, checks, "a kind that is too narrow", &narrow, &byte, &rows, false)?;
+    let required = DType::Primitive(PType::I32, WITHOUT);
+    cast(alloc, checks, "null has no place", &narrow, &required, &rows, false)?;
+    let texts = Vec::from_array(alloc, [text("a text that stands in a buffer"), text("")])?;
+    let with = DType::Utf8(WITH);
+    cast(alloc, checks, "texts cast", &with, &DType::Utf8(WITHOUT), &texts, true)?;
+    cast(alloc, checks, "texts are no bytes", &with, &DType::Binary(WITH), &texts, false)?;
+    let pair = tuple(alloc, [number(1), None])?;
+    let lists = Vec::from_array(alloc, [pair, None, tuple(alloc, [])?])?;
+    let of_narrow = DType::List(Rc::new(alloc, narrow.clone()?)?, WITH);
+    let of_wide = DType::List(Rc::new(alloc, wide.clone()?)?, WITH);
+    cast(alloc, checks, "lists cast", &of_narrow, &of_wide, &lists, true)?;
+    let from = Vec::from_array(alloc, [field(alloc, "a", narrow)?, field(alloc, "b", of_narrow)?])?;
+    let to = Vec::from_array(alloc, [field(alloc, "b", wide)?, field(alloc, "a", of_wide)?])?;
+    let from = DType::Struct(StructFields::from_vec(from)?, WITH);
+    let to = DType::Struct(StructFields::from_vec(to)?, WITH);
+    let record = tuple(alloc, [number(1), tuple(alloc, [number(2)])?])?;
+    let records = Vec::from_array(alloc, [record, None])?;
+    cast(alloc, checks, "records cast by position", &from, &to, &records, true)
+}
+
+/// Counts a cast of a plain array of these rows, which is done or not.
+fn cast(
+    alloc: Global,
+    checks: &mut Checks<'_>,
+    name: &str,
+    dtype: &DType,
+    target: &DType,
+    rows: &[Value],
+    is_done: bool,
+) -> Result<(), DTypeError> {
+    let array = answered(build_plain(alloc, dtype, &lent(alloc, rows)?))?;
+    let right = match cast_array(alloc, &array, target)? {
+        Some(cast) => is_done && has_rows(alloc, &cast, rows)? && cast.dtype() == target,
+        None => !is_done,
+    };
+    checks.holds(name, right);
     Ok(())
 }
 

@@ -7,6 +7,7 @@ mod lower_bounds;
 mod orders;
 mod precision;
 mod proofs;
+mod rules;
 mod upper_bounds;
 mod values;
 
@@ -30,6 +31,8 @@ fn run(alloc: Global, checks: &mut Checks<'_>) -> Done {
     checks.end_part("orders of values");
     proofs::run(alloc, checks)?;
     checks.end_part("proofs with their columns resolved");
+    rules::run(alloc, checks)?;
+    checks.end_part("rules of the caller");
     Ok(())
 }
 

@@ -7,8 +7,8 @@ use vortex_dtype::{BufferString, DType, FieldName, FieldNames, StructField, Stru
 use vortex_scalar::{Scalar, ScalarError, ScalarValue};
 use vortex_stats::Value as Operand;
 use vortex_stats::{
-    AggregateFn, BetweenOptions, BoundExpression, Expression, LikeOptions, Operands,
-    PredicateError, StatBinder, StrictComparison, between, bind, bind_proof, bind_stats,
+    AggregateFn, BetweenOptions, BoundExpression, Expression, LikeOptions, Meter, Operands,
+    StatBinder, StatsError, StrictComparison, between, bind, bind_proof, bind_stats,
     bound_literal, col, eq, falsify, gt, is_nan, is_not_null, is_null, like, lit, lt, not, prove,
     row_count, satisfy, stat,
 };
@@ -51,6 +51,12 @@ impl StatBinder for Known {
 
     ghost meaning = { λ _ _ _. null };
 
+    ghost missing = { λ _. null };
+
+    fn missing_stat(&self, _alloc: Global) -> Result<BoundExpression, AllocError> {
+        Ok(bound_literal(None))
+    }
+
     fn bind_aggregate(
         &self,
         _alloc: Global,
@@ -91,10 +97,23 @@ fn constant(value: i16) -> Result<Expression, ScalarError> {
     Ok(lit(Scalar::try_new(numbers(WITHOUT), number(value))?))
 }
 
+/// The proof, or the error as one of values.
+fn made(proof: Result<Option<Expression>, StatsError>) -> Result<Option<Expression>, ScalarError> {
+    match proof {
+        Ok(proof) => Ok(proof),
+        Err(StatsError::Memory) => Err(ScalarError::Memory),
+        Err(_) => Err(ScalarError::Invalid),
+    }
+}
+
+fn is_no_truth(error: StatsError) -> bool {
+    error == StatsError::NotBoolean
+}
+
 /// The proof that no row has more than 5 in the column of this name.
 fn none_above(alloc: Global, dtype: &DType, name: &str) -> Result<BoundExpression, ScalarError> {
     let predicate = gt(alloc, column(alloc, name)?, constant(5)?)?;
-    match falsify(alloc, dtype, &predicate)? {
+    match made(falsify(alloc, dtype, &predicate, &[], &mut Meter::new()))? {
         Some(proof) => Ok(bind_proof(alloc, &proof, dtype)?),
         None => Ok(bound_literal(None)),
     }
@@ -141,8 +160,8 @@ fn two_steps(
     let read = gt(alloc, column(alloc, "a")?, constant(5)?)?;
     let read = bind_proof(alloc, &read, dtype)?;
     checks.holds("a column has no value", prove(&read, 4) == None);
-    let none = satisfy(alloc, dtype, &constant(5)?)?;
-    checks.holds("a number is no truth", none.is_none());
+    let refused = satisfy(alloc, dtype, &constant(5)?, &[], &mut Meter::new());
+    checks.holds("a number is no truth", refused.is_err_and(is_no_truth));
     let mut cells = Vec::new(alloc);
     cells.push(number(9))?;
     let row = ScalarValue::Tuple(cells);
@@ -183,10 +202,9 @@ fn each_form(
     let negated = begins(alloc, "ab%", true)?;
     checks.holds("a match negated", !is_true(alloc, dtype, row, negated)?);
     let escaped = begins(alloc, "a\\%", false)?;
-    let answer = bind(alloc, &escaped, dtype);
-    checks.holds("a backslash", fault(answer) == Some(PredicateError::UnsupportedLike));
+    checks.holds("a backslash", !is_true(alloc, dtype, row, escaped)?);
     let answer = bind(alloc, &is_nan(alloc, column(alloc, "a")?)?, dtype);
-    checks.holds("NaN", fault(answer) == Some(PredicateError::UnsupportedPredicate));
+    checks.holds("NaN", fault(answer) == Some(StatsError::UnequalTypes));
     Ok(())
 }
 
@@ -198,12 +216,12 @@ fn is_true(
 ) -> Result<bool, ScalarError> {
     match bind(alloc, &predicate, dtype) {
         Ok(bound) => Ok(bound.selects(row)),
-        Err(PredicateError::Memory) => Err(ScalarError::Memory),
+        Err(StatsError::Memory) => Err(ScalarError::Memory),
         Err(_) => Err(ScalarError::Invalid),
     }
 }
 
-fn fault(answer: Result<BoundExpression, PredicateError>) -> Option<PredicateError> {
+fn fault(answer: Result<BoundExpression, StatsError>) -> Option<StatsError> {
     match answer {
         Ok(_) => None,
         Err(error) => Some(error),

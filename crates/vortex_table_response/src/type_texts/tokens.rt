@@ -29,8 +29,7 @@ pub fn push_comma(out: &mut Vec<u8>, later: bool) -> Result<(), AllocError>
     ensures { OnOk result (out.new.items ≡ out.old.items ++ comma later) }
 {
     if later {
-        out.extend_from_slice(b",")
-    } else {
-        Ok(())
+        out.push(b',')?;
     }
+    Ok(())
 }

@@ -2,6 +2,7 @@ use Rattle.std.proofs.Common.{sym, ◌∙◌, map}
 use Rattle.std.proofs.lemmas.Result.{IfOk-weaker}
 use Rattle.vortex_scalar_value.specs.View.{content_at}
 use Rattle.vortex_arrays_builder.specs.Types.{IsPlainLayout}
+use Rattle.vortex_table_schema.specs.declared.layout.Layout.TheVariants.{Dictionary}
 use Rattle.vortex_table_layout.specs.Hinted.{IsLaidOutBy}
 use Rattle.vortex_table_layout.proofs.LaidLemmas.{by_constant, by_unfit, by_plain, by_dictionary}
 use Rattle.vortex_table_layout.proofs.lay_out.lay_out_by.Goals as goal
@@ -32,8 +33,8 @@ pub returns-in-Dictionary : goal.returns-in-Dictionary
 returns-in-Dictionary c =
     let cs = map content_at c.args.values.now in
     record {
-      dtype = c.build_plain-in-Dictionary.ensures.dtype;
-      rows = c.build_plain-in-Dictionary.ensures.rows;
-      layout = IfOk-weaker c.build_plain-in-Dictionary.result (λ a. IsPlainLayout a) (λ a. IsLaidOutBy c.args.hint cs a) (λ a p. by_dictionary c.args.hint cs a c.in-Dictionary.is p) c.build_plain-in-Dictionary.ensures.layout;
-      refused = c.build_plain-in-Dictionary.ensures.refused;
+      dtype = c.dictionary_or_plain.ensures.dtype;
+      rows = c.dictionary_or_plain.ensures.rows;
+      layout = IfOk-weaker c.dictionary_or_plain.result (λ a. IsLaidOutBy Dictionary cs a) (λ a. IsLaidOutBy c.args.hint cs a) (λ a p. by_dictionary c.args.hint cs a c.in-Dictionary.is p) c.dictionary_or_plain.ensures.layout;
+      refused = c.dictionary_or_plain.ensures.refused;
     }

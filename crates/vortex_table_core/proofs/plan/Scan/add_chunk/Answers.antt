@@ -23,4 +23,4 @@ returns-clause-found c =
     (c.in_ok-push_if-2.ensures ∙ ap (λ t. push_if t c.args.number old.whole.items) (c.is_whole.ensures ∙ ap is_whole out))
     (c.saturating_add-answer.ensures ∙ stopped (old.rows_tested + c.tested_rows.result) ∙ ap (λ n. saturated (old.rows_tested + n)) (c.tested_rows.ensures ∙ ap (λ p. tested_rows p rows) out))
     (c.saturating_add-answer-2.ensures ∙ stopped (old.proofs + c.proofs_at.result)
-    ∙ ap (λ n. saturated (old.proofs + n)) (c.proofs_at.ensures ∙ (λ j. proofs_at (is_there _ _ _ c.requires.plan.falsifier j) (is_there _ _ _ c.requires.plan.satisfier j) (out j))))
+    ∙ ap (λ n. saturated (old.proofs + n)) (c.proofs_at.ensures ∙ (λ j. proofs_at (is_there _ _ _ c.requires.plan.prepared.falsifier j) (is_there _ _ _ c.requires.plan.prepared.satisfier j) (out j))))

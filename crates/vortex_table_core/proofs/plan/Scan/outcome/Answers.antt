@@ -1,6 +1,6 @@
 use Rattle.std.proofs.Common.{◌∙◌}
-use Rattle.vortex_table_chunk.specs.BoundStat.{zone_provided}
-use Rattle.vortex_table_chunk.specs.Proved.{proved_in}
+use Rattle.vortex_arrays_model.specs.Layout.{len_of}
+use Rattle.vortex_table_zones.specs.Zone.{zone_proved}
 use Rattle.vortex_table_schema.specs.Leaves.{leaf_positions}
 use Rattle.vortex_table_core.specs.Plan.{table_in}
 use Rattle.vortex_table_core.proofs.Proven.{outcome_skipped, outcome_whole, outcome_tested}
@@ -10,18 +10,18 @@ pub returns-then-falsified : goal.returns-then-falsified
 returns-then-falsified c =
     let plan = c.args.self.now in let k = (table_in plan).kind in
     outcome_skipped plan c.requires.plan c.args.chunk.now c.requires.formed c.proves-falsified.result
-    (c.proves-falsified.ensures ∙ (λ i. proved_in (zone_provided (leaf_positions k) (c.as_slice-bounds.ensures.value i) (c.len-rows.ensures.count i)) plan.prepared.now.proofs.falsifier)) c.if-falsified.true
+    (c.proves-falsified.ensures ∙ (λ i. zone_proved (leaf_positions k) (c.as_slice-bounds.ensures.value i) (c.len-rows.ensures.count i) plan.falsifier) ∙ c.requires.plan.falsifier c.args.chunk.now.bounds.items (len_of c.args.chunk.now.array)) c.if-falsified.true
 
 pub returns-then-satisfied : goal.returns-then-satisfied
 returns-then-satisfied c =
     let plan = c.args.self.now in let k = (table_in plan).kind in
     outcome_whole plan c.requires.plan c.args.chunk.now c.requires.formed c.proves-falsified.result c.proves-satisfied.result
-    (c.proves-falsified.ensures ∙ (λ i. proved_in (zone_provided (leaf_positions k) (c.as_slice-bounds.ensures.value i) (c.len-rows.ensures.count i)) plan.prepared.now.proofs.falsifier))
-    (c.proves-satisfied.ensures ∙ (λ i. proved_in (zone_provided (leaf_positions k) (c.as_slice-bounds.ensures.value i) (c.len-rows.ensures.count i)) plan.prepared.now.proofs.satisfier)) c.if-falsified.false c.if-satisfied.true
+    (c.proves-falsified.ensures ∙ (λ i. zone_proved (leaf_positions k) (c.as_slice-bounds.ensures.value i) (c.len-rows.ensures.count i) plan.falsifier) ∙ c.requires.plan.falsifier c.args.chunk.now.bounds.items (len_of c.args.chunk.now.array))
+    (c.proves-satisfied.ensures ∙ (λ i. zone_proved (leaf_positions k) (c.as_slice-bounds.ensures.value i) (c.len-rows.ensures.count i) plan.satisfier) ∙ c.requires.plan.satisfier c.args.chunk.now.bounds.items (len_of c.args.chunk.now.array)) c.if-falsified.false c.if-satisfied.true
 
 pub returns : goal.returns
 returns c =
     let plan = c.args.self.now in let k = (table_in plan).kind in
     outcome_tested plan c.requires.plan c.args.chunk.now c.requires.formed c.proves-falsified.result c.proves-satisfied.result
-    (c.proves-falsified.ensures ∙ (λ i. proved_in (zone_provided (leaf_positions k) (c.as_slice-bounds.ensures.value i) (c.len-rows.ensures.count i)) plan.prepared.now.proofs.falsifier))
-    (c.proves-satisfied.ensures ∙ (λ i. proved_in (zone_provided (leaf_positions k) (c.as_slice-bounds.ensures.value i) (c.len-rows.ensures.count i)) plan.prepared.now.proofs.satisfier)) c.if-falsified.false c.if-satisfied.false
+    (c.proves-falsified.ensures ∙ (λ i. zone_proved (leaf_positions k) (c.as_slice-bounds.ensures.value i) (c.len-rows.ensures.count i) plan.falsifier) ∙ c.requires.plan.falsifier c.args.chunk.now.bounds.items (len_of c.args.chunk.now.array))
+    (c.proves-satisfied.ensures ∙ (λ i. zone_proved (leaf_positions k) (c.as_slice-bounds.ensures.value i) (c.len-rows.ensures.count i) plan.satisfier) ∙ c.requires.plan.satisfier c.args.chunk.now.bounds.items (len_of c.args.chunk.now.array)) c.if-falsified.false c.if-satisfied.false

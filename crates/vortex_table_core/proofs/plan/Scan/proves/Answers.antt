@@ -1,7 +1,6 @@
 use Rattle.std.proofs.Common.{ap, ◌∙◌}
 use Rattle.vortex_dtype_core.specs.View.{type_of}
-use Rattle.vortex_table_chunk.specs.BoundStat.{zone_provided}
-use Rattle.vortex_table_chunk.specs.Proved.{proved_in}
+use Rattle.vortex_table_zones.specs.Zone.{zone_proved}
 use Rattle.vortex_table_schema.specs.Leaves.{leaf_positions}
 use Rattle.vortex_table_chunk.proofs.EqualLeaves.{leaves_so}
 use Rattle.vortex_table_core.proofs.plan.Scan.proves.Goals as goal
@@ -11,5 +10,5 @@ returns c =
     let table = c.args.self.now.table.now in
     let k = type_of table.dtype in
     c.is_proved.ensures
-    ∙ ap (λ leaves. proved_in (zone_provided leaves c.args.bounds.now c.args.rows) c.args.proof.now)
+    ∙ ap (λ leaves. zone_proved leaves c.args.bounds.now c.args.rows c.args.proof.now)
     (c.as_slice.ensures.value ∙ ap (λ v. v.items) c.deref.ensures ∙ leaves_so table.leaves.value.items (leaf_positions k) table.led)

@@ -27,7 +27,7 @@ invariant_of-self c =
       measured = t.measured;
       formed = formed_again k L old arrays new w rows (c.in_ok-arrays.ensures.types ∙ kinds_fused old) t.formed;
       counted = sym (all_counted new) ∙ ap rows_in same ∙ all_counted old ∙ t.counted;
-      grouped = groups_again k L 0 t.groups.items old new same t.grouped;
+      grouped = groups_again k L 0 t.groups old new same t.grouped;
     }
 
 pub returns-clause-compacted : goal.returns-clause-compacted

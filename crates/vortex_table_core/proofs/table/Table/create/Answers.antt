@@ -20,6 +20,6 @@ invariant_of-result c =
       formed = ap (list_all (is_formed L k)) c.new.ensures.items;
       counted = ap row_count c.new.ensures.items;
       grouped =
-          subst (λ gs. AreGroups k L 0 gs c.new.result.items) (sym c.new-2.ensures.items)
+          subst (λ gs. AreGroups k L 0 gs c.new.result.items) (sym c.new-2.ensures)
           (subst (λ cs. AreGroups k L 0 [] cs) (sym c.new.ensures.items) tt);
     }

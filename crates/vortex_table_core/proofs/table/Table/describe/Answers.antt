@@ -16,7 +16,7 @@ use Rattle.vortex_table_core.proofs.table.Table.describe.Goals as goal
 
 pub returns-clause-described : goal.returns-clause-described
 returns-clause-described c =
-    let t = c.args.self.now in let k = type_of t.dtype in let i = c.args.group in let all = t.groups.items in
+    let t = c.args.self.now in let k = type_of t.dtype in let i = c.args.group in let all = t.groups in
     let inside : i < length all = grind (arith, common_steps) in
     let d = one_of all i inside in let g = get_or all i d in
     let at_i = same_at all i g d g inside refl in

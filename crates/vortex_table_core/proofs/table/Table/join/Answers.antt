@@ -11,40 +11,40 @@ use Rattle.vortex_table_check.specs.Lengths.{length_in}
 use Rattle.vortex_table_core.proofs.table.Table.join.Goals as goal
 
 -- the groups with one in place of two
-module _ (t : Table) (i : ℕ) (g : Group) (mid new : List Group) (inside : suc i < length t.groups.items) (set : mid ≡ slice_set t.groups.items i g) (removed : new ≡ take (i + 1) mid ++ drop (i + 1 + 1) mid)
-    (one : IsOneGroup (type_of t.dtype) (length_in t.bound_lengths) t.groups.items i t.chunks.items g) where
-  is_with_one : new ≡ with_one (type_of t.dtype) (length_in t.bound_lengths) t.chunks.items i g t.groups.items
+module _ (t : Table) (i : ℕ) (g : Group) (mid new : List Group) (inside : suc i < length t.groups) (set : mid ≡ slice_set t.groups i g) (removed : new ≡ take (i + 1) mid ++ drop (i + 1 + 1) mid)
+    (one : IsOneGroup (type_of t.dtype) (length_in t.bound_lengths) t.groups i t.chunks.items g) where
+  is_with_one : new ≡ with_one (type_of t.dtype) (length_in t.bound_lengths) t.chunks.items i g t.groups
   is_with_one =
       removed ∙ (λ j. take (add-one i j) (set j) ++ drop ((add-one (i + 1) ∙ ap suc (add-one i)) j) (set j))
-      ∙ edited (type_of t.dtype) (length_in t.bound_lengths) t.chunks.items i g t.groups.items inside
+      ∙ edited (type_of t.dtype) (length_in t.bound_lengths) t.chunks.items i g t.groups inside
 
-  counted : g.chunks ≡ (get_or t.groups.items i g).chunks + (get_or t.groups.items (suc i) g).chunks
-  counted = one.count ∙ ap (λ n. (get_or t.groups.items i g).chunks + (get_or t.groups.items n g).chunks) (add-one i)
+  counted : g.chunks ≡ (get_or t.groups i g).chunks + (get_or t.groups (suc i) g).chunks
+  counted = one.count ∙ ap (λ n. (get_or t.groups i g).chunks + (get_or t.groups n g).chunks) (add-one i)
 
   new_groups : AreGroups (type_of t.dtype) (length_in t.bound_lengths) 0 new t.chunks.items
   new_groups =
       subst (λ gs. AreGroups (type_of t.dtype) (length_in t.bound_lengths) 0 gs t.chunks.items) (sym is_with_one)
-      (groups_replaced (type_of t.dtype) (length_in t.bound_lengths) t.chunks.items 0 i g t.groups.items inside t.grouped one.first counted one.group)
+      (groups_replaced (type_of t.dtype) (length_in t.bound_lengths) t.chunks.items 0 i g t.groups inside t.grouped one.first counted one.group)
 
-  new_sizes : map (λ (x : Group). x.chunks) new ≡ joined_at i (map (λ (x : Group). x.chunks) t.groups.items)
-  new_sizes = ap (map (λ (x : Group). x.chunks)) is_with_one ∙ sizes_joined (type_of t.dtype) (length_in t.bound_lengths) t.chunks.items i g t.groups.items inside counted
+  new_sizes : map (λ (x : Group). x.chunks) new ≡ joined_at i (map (λ (x : Group). x.chunks) t.groups)
+  new_sizes = ap (map (λ (x : Group). x.chunks)) is_with_one ∙ sizes_joined (type_of t.dtype) (length_in t.bound_lengths) t.chunks.items i g t.groups inside counted
 
 pub invariant_of-self-clause-grouped : goal.invariant_of-self-clause-grouped
 invariant_of-self-clause-grouped c =
     let t = c.args.self.now in
-    let size = c.len.ensures in let again = c.len-else-len-lt2.ensures in let same = t.groups.ok.0 in
-    let inside : suc c.args.index < length t.groups.items = omega (arith, size, again, same, c.if-len-lt2.false, c.if-index-len.false) in
-    new_groups t c.args.index c.in_ok-joined.joined c.replace_group.new.groups.items c.remove.new.self.items inside c.replace_group.ensures c.remove.ensures.by_index.2 c.in_ok-joined.ensures
+    let size = c.len.ensures in let again = c.len-else-len-lt2.ensures in
+    let inside : suc c.args.index < length t.groups = omega (arith, size, again, c.if-len-lt2.false, c.if-index-len.false) in
+    new_groups t c.args.index c.in_ok-joined.joined c.replace.new.self c.remove.new.self inside c.replace.ensures c.remove.ensures c.in_ok-joined.ensures
 
 pub returns-clause-joined : goal.returns-clause-joined
 returns-clause-joined c =
     let t = c.args.self.now in
-    let size = c.len.ensures in let again = c.len-else-len-lt2.ensures in let same = t.groups.ok.0 in
-    let inside : suc c.args.index < length t.groups.items = omega (arith, size, again, same, c.if-len-lt2.false, c.if-index-len.false) in
+    let size = c.len.ensures in let again = c.len-else-len-lt2.ensures in
+    let inside : suc c.args.index < length t.groups = omega (arith, size, again, c.if-len-lt2.false, c.if-index-len.false) in
     λ i. record {
       kind = (table_of t).kind;
       default = (table_of t).default;
       lengths = (table_of t).lengths;
       chunks = (table_of t).chunks;
-      groups = new_sizes t c.args.index c.in_ok-joined.joined c.replace_group.new.groups.items c.remove.new.self.items inside c.replace_group.ensures c.remove.ensures.by_index.2 c.in_ok-joined.ensures i;
+      groups = new_sizes t c.args.index c.in_ok-joined.joined c.replace.new.self c.remove.new.self inside c.replace.ensures c.remove.ensures c.in_ok-joined.ensures i;
     }

@@ -7,21 +7,22 @@ use Rattle.vortex_table_core.specs.Group.{IsGroup, chunks_of}
 use Rattle.vortex_table_core.specs.declared.group.Group.{Group}
 use Rattle.vortex_table_core.specs.declared.table.Table.{Table}
 use Rattle.vortex_table_core.proofs.JoinedGroups.{group_at, group_within, next_first, few_rows, one_group, same_at}
+use Rattle.vortex_table_core.proofs.Walked.{few_groups}
 use Rattle.vortex_table_check.specs.Lengths.{length_in}
 use Rattle.vortex_table_core.proofs.table.Table.joined_group.Goals as goal
 
 -- two neighbouring groups of a table
-module _ (t : Table) (i : ℕ) (a b : Group) (inside : i + 1 < length t.groups.items) (at_a : a ≡ get_or t.groups.items i a) (at_b : b ≡ get_or t.groups.items (i + 1) b) where
+module _ (t : Table) (i : ℕ) (a b : Group) (inside : i + 1 < length t.groups) (at_a : a ≡ get_or t.groups i a) (at_b : b ≡ get_or t.groups (i + 1) b) where
   left_is : IsGroup (type_of t.dtype) (length_in t.bound_lengths) a (chunks_of t.chunks.items a)
-  left_is = group_at (type_of t.dtype) (length_in t.bound_lengths) t.chunks.items 0 t.groups.items t.grouped i a (omega (arith, inside)) at_a
+  left_is = group_at (type_of t.dtype) (length_in t.bound_lengths) t.chunks.items 0 t.groups t.grouped i a (omega (arith, inside)) at_a
 
   right_is : IsGroup (type_of t.dtype) (length_in t.bound_lengths) b (chunks_of t.chunks.items b)
-  right_is = group_at (type_of t.dtype) (length_in t.bound_lengths) t.chunks.items 0 t.groups.items t.grouped (i + 1) b inside at_b
+  right_is = group_at (type_of t.dtype) (length_in t.bound_lengths) t.chunks.items 0 t.groups t.grouped (i + 1) b inside at_b
 
   next_is : b.first ≡ a.first + a.chunks
   next_is =
-      next_first (type_of t.dtype) (length_in t.bound_lengths) t.chunks.items 0 t.groups.items t.grouped i a b (let h = add-one i in omega (arith, inside, h)) at_a
-      (subst (λ n. b ≡ get_or t.groups.items n b) (add-one i) at_b)
+      next_first (type_of t.dtype) (length_in t.bound_lengths) t.chunks.items 0 t.groups t.grouped i a b (let h = add-one i in omega (arith, inside, h)) at_a
+      (subst (λ n. b ≡ get_or t.groups n b) (add-one i) at_b)
 
   left_inside : a.first < length t.chunks.items
   left_inside = let w = group_within (type_of t.dtype) (length_in t.bound_lengths) a t.chunks.items left_is in let s = left_is.some in omega (arith, w, s)
@@ -36,51 +37,56 @@ module _ (t : Table) (i : ℕ) (a b : Group) (inside : i + 1 < length t.groups.i
   few = let r = few_rows (type_of t.dtype) (length_in t.bound_lengths) t.chunks.items a b left_is right_is next_is in let n = t.counted in omega (arith, r, n)
 
 pub statistics-requires-clause-inside : goal.statistics-requires-clause-inside
-statistics-requires-clause-inside c = left_inside c.args.self.now c.args.index c.index-left.result.now c.index-right.result.now c.requires c.index-left.ensures c.index-right.ensures
+statistics-requires-clause-inside c = left_inside c.args.self.now c.args.index c.item-left.result.now c.item-right.result.now c.requires c.item-left.ensures c.item-right.ensures
 
 pub statistics-requires-clause-group : goal.statistics-requires-clause-group
-statistics-requires-clause-group c = left_is c.args.self.now c.args.index c.index-left.result.now c.index-right.result.now c.requires c.index-left.ensures c.index-right.ensures
+statistics-requires-clause-group c = left_is c.args.self.now c.args.index c.item-left.result.now c.item-right.result.now c.requires c.item-left.ensures c.item-right.ensures
 
 pub statistics-requires-2-clause-inside : goal.statistics-requires-2-clause-inside
-statistics-requires-2-clause-inside c = right_inside c.args.self.now c.args.index c.index-left.result.now c.index-right.result.now c.requires c.index-left.ensures c.index-right.ensures
+statistics-requires-2-clause-inside c = right_inside c.args.self.now c.args.index c.item-left.result.now c.item-right.result.now c.requires c.item-left.ensures c.item-right.ensures
 
 pub statistics-requires-2-clause-group : goal.statistics-requires-2-clause-group
-statistics-requires-2-clause-group c = right_is c.args.self.now c.args.index c.index-left.result.now c.index-right.result.now c.requires c.index-left.ensures c.index-right.ensures
+statistics-requires-2-clause-group c = right_is c.args.self.now c.args.index c.item-left.result.now c.item-right.result.now c.requires c.item-left.ensures c.item-right.ensures
 
 pub join_bounds-requires : goal.join_bounds-requires
 join_bounds-requires c =
-    let t = c.args.self.now in let a = c.index-left.result.now in let b = c.index-right.result.now in
-    let p = left_is t c.args.index a b c.requires c.index-left.ensures c.index-right.ensures in
-    let q = right_is t c.args.index a b c.requires c.index-left.ensures c.index-right.ensures in
-    let rows = few t c.args.index a b c.requires c.index-left.ensures c.index-right.ensures in
+    let t = c.args.self.now in let a = c.item-left.result.now in let b = c.item-right.result.now in
+    let p = left_is t c.args.index a b c.requires c.item-left.ensures c.item-right.ensures in
+    let q = right_is t c.args.index a b c.requires c.item-left.ensures c.item-right.ensures in
+    let rows = few t c.args.index a b c.requires c.item-left.ensures c.item-right.ensures in
     let first = p.rows in let second = q.rows in
     groups_can_join (type_of t.dtype) (length_in t.bound_lengths) (map chunk_rows (chunks_of t.chunks.items a)) (map chunk_rows (chunks_of t.chunks.items b)) (leaf_positions (type_of t.dtype))
     c.statistics.result.now c.statistics-2.result.now (omega (arith, rows, first, second)) c.statistics.ensures c.statistics-2.ensures
 
+pub overflow_add-index : goal.overflow_add-index
+overflow_add-index c =
+    let t = c.args.self.now in let few = few_groups (type_of t.dtype) (length_in t.bound_lengths) 0 t.groups t.chunks.items t.grouped in
+    let h = c.requires in let same = t.chunks.ok.0 in let held = t.chunks.ok.1 in let small = t.chunks.small in omega (arith, few, h, same, held, small)
+
 pub overflow_add-result : goal.overflow_add-result
 overflow_add-result c =
-    let n = few_chunks c.args.self.now c.args.index c.index-left.result.now c.index-right.result.now c.requires c.index-left.ensures c.index-right.ensures in
+    let n = few_chunks c.args.self.now c.args.index c.item-left.result.now c.item-right.result.now c.requires c.item-left.ensures c.item-right.ensures in
     let t = c.args.self.now in let same = t.chunks.ok.0 in let held = t.chunks.ok.1 in let small = t.chunks.small in omega (arith, n, same, held, small)
 
 pub overflow_add-result-2 : goal.overflow_add-result-2
 overflow_add-result-2 c =
-    let n = few c.args.self.now c.args.index c.index-left.result.now c.index-right.result.now c.requires c.index-left.ensures c.index-right.ensures in omega (arith, n)
+    let n = few c.args.self.now c.args.index c.item-left.result.now c.item-right.result.now c.requires c.item-left.ensures c.item-right.ensures in omega (arith, n)
 
 pub returns : goal.returns
 returns c =
-    let t = c.args.self.now in let a = c.index-left.result.now in let b = c.index-right.result.now in let k = type_of t.dtype in
-    let p = left_is t c.args.index a b c.requires c.index-left.ensures c.index-right.ensures in
-    let q = right_is t c.args.index a b c.requires c.index-left.ensures c.index-right.ensures in
-    let next = next_is t c.args.index a b c.requires c.index-left.ensures c.index-right.ensures in
-    let inside : c.args.index < length t.groups.items = (let h = c.requires in omega (arith, h)) in
+    let t = c.args.self.now in let a = c.item-left.result.now in let b = c.item-right.result.now in let k = type_of t.dtype in
+    let p = left_is t c.args.index a b c.requires c.item-left.ensures c.item-right.ensures in
+    let q = right_is t c.args.index a b c.requires c.item-left.ensures c.item-right.ensures in
+    let next = next_is t c.args.index a b c.requires c.item-left.ensures c.item-right.ensures in
+    let inside : c.args.index < length t.groups = (let h = c.requires in omega (arith, h)) in
     let one : Group = record {
       first = a.first;
       chunks = a.chunks + b.chunks;
       rows = a.rows + b.rows;
       joined = Some c.in_ok-joined.joined;
     } in record {
-      first = ap (λ (g : Group). g.first) (same_at t.groups.items c.args.index a a one inside c.index-left.ensures);
-      count = (λ i. (same_at t.groups.items c.args.index a a one inside c.index-left.ensures i).chunks + (same_at t.groups.items (c.args.index + 1) b b one c.requires c.index-right.ensures i).chunks);
+      first = ap (λ (g : Group). g.first) (same_at t.groups c.args.index a a one inside c.item-left.ensures);
+      count = (λ i. (same_at t.groups c.args.index a a one inside c.item-left.ensures i).chunks + (same_at t.groups (c.args.index + 1) b b one c.requires c.item-right.ensures i).chunks);
       group = one_group k (length_in t.bound_lengths) t.chunks.items a b one c.statistics.result.now c.statistics-2.result.now c.in_ok-joined.joined.items t.formed p q next
           c.statistics.ensures c.statistics-2.ensures c.in_ok-joined.ensures refl refl refl refl;
     }

@@ -15,14 +15,14 @@ use Rattle.vortex_table_core.proofs.table.Table.leaf_statistics.Goals as goal
 
 pub statistics-requires-clause-inside : goal.statistics-requires-clause-inside
 statistics-requires-clause-inside c =
-    let t = c.args.self.now in let g = c.index-group.result.now in
-    let is = group_at (type_of t.dtype) (length_in t.bound_lengths) t.chunks.items 0 t.groups.items t.grouped c.args.group g c.requires.group c.index-group.ensures in
+    let t = c.args.self.now in let g = c.item-group.result.now in
+    let is = group_at (type_of t.dtype) (length_in t.bound_lengths) t.chunks.items 0 t.groups t.grouped c.args.group g c.requires.group c.item-group.ensures in
     let w = group_within (type_of t.dtype) (length_in t.bound_lengths) g t.chunks.items is in let s = is.some in omega (arith, w, s)
 
 pub statistics-requires-clause-group : goal.statistics-requires-clause-group
 statistics-requires-clause-group c =
     let t = c.args.self.now in
-    group_at (type_of t.dtype) (length_in t.bound_lengths) t.chunks.items 0 t.groups.items t.grouped c.args.group c.index-group.result.now c.requires.group c.index-group.ensures
+    group_at (type_of t.dtype) (length_in t.bound_lengths) t.chunks.items 0 t.groups t.grouped c.args.group c.item-group.result.now c.requires.group c.item-group.ensures
 
 pub unreachable-requires : goal.unreachable-requires
 unreachable-requires c =
@@ -31,17 +31,17 @@ unreachable-requires c =
     let leaves = c.deref-2.ensures.value ∙ ap (λ v. v.items) c.deref.ensures ∙ leaves_so t.leaves.value.items (leaf_positions k) t.led in
     let none : bounds_at (leaf_positions k) c.statistics.result.now place ≡ None =
     ap (λ ls. bounds_at ls c.statistics.result.now place) (sym leaves) ∙ sym c.bounds_at.ensures ∙ ap (option_map (λ found. found.now)) c.in_default.is in
-    let some = leaf_has_bounds k (length_in t.bound_lengths) c.statistics.result.now (map chunk_rows (chunks_of t.chunks.items c.index-group.result.now)) place leaf.part leaf.there leaf.leaf c.statistics.ensures in
+    let some = leaf_has_bounds k (length_in t.bound_lengths) c.statistics.result.now (map chunk_rows (chunks_of t.chunks.items c.item-group.result.now)) place leaf.part leaf.there leaf.leaf c.statistics.ensures in
     absurd (cc (some, ap is_some none))
 
 pub returns : goal.returns
 returns c = λ d.
-    let t = c.args.self.now in let k = type_of t.dtype in let place = c.args.place.now in let g = c.index-group.result.now in
+    let t = c.args.self.now in let k = type_of t.dtype in let place = c.args.place.now in let g = c.item-group.result.now in
     let b = c.in-Some.bounds.now in
     let leaf = leaf_part k place c.requires.leaf in
     let leaves = c.deref-2.ensures.value ∙ ap (λ v. v.items) c.deref.ensures ∙ leaves_so t.leaves.value.items (leaf_positions k) t.led in
     let found : bounds_at (leaf_positions k) c.statistics.result.now place ≡ Some b =
     ap (λ ls. bounds_at ls c.statistics.result.now place) (sym leaves) ∙ sym c.bounds_at.ensures ∙ ap (option_map (λ found. found.now)) c.in-Some.is in
     subst (λ x. ∥ IsJoined k (length_in t.bound_lengths) place b (map chunk_rows (chunks_of t.chunks.items x)) ∥₁)
-    (same_at t.groups.items c.args.group g g d c.requires.group c.index-group.ensures)
+    (same_at t.groups c.args.group g g d c.requires.group c.item-group.ensures)
     (leaf_joined k (length_in t.bound_lengths) c.statistics.result.now (map chunk_rows (chunks_of t.chunks.items g)) place leaf.part leaf.there leaf.leaf c.statistics.ensures b found)

@@ -21,6 +21,7 @@ use Rattle.vortex_table_schema.specs.Leaves.{leaf_positions}
 use Rattle.vortex_table_core.proofs.Appended.{appended_some}
 use Rattle.vortex_table_core.proofs.Counts.{all_rows}
 use Rattle.vortex_table_core.proofs.PushedGroups.{group_pushed}
+use Rattle.vortex_table_core.proofs.Walked.{few_groups}
 use Rattle.vortex_table_core.proofs.table.Table.push_array.Goals as goal
 
 pub returns-in_default-clause-refused : goal.returns-in_default-clause-refused
@@ -40,6 +41,12 @@ new_chunk-requires-clause-leaves c =
     let t = c.args.self.now in
     leaves_so t.leaves.value.items (leaf_positions (type_of t.dtype)) t.led ∙ ap leaf_positions (sym c.requires)
 
+pub push-requires : goal.push-requires
+push-requires c =
+    let t = c.args.self.now in
+    let few = few_groups (type_of t.dtype) (length_in t.bound_lengths) 0 t.groups t.chunks.items t.grouped in
+    let same = t.chunks.ok.0 in let held = t.chunks.ok.1 in let small = t.chunks.small in omega (arith, few, same, held, small)
+
 pub invariant_of-self-2 : goal.invariant_of-self-2
 invariant_of-self-2 c =
     let t = c.args.self.now in let k = type_of t.dtype in let L = length_in t.bound_lengths in
@@ -54,18 +61,19 @@ invariant_of-self-2 c =
     let count : g.rows ≡ len_of chunk.array = n ∙ sym len in
     let size = c.len.ensures in let same = t.chunks.ok.0 in
     let first : g.first ≡ 0 + length t.chunks.items = omega (arith, size, same) in
-    let all : ℕ = row_count c.push.new.self.items in let before : ℕ = row_count t.chunks.items in let m : ℕ = len_of chunk.array in
-    let split : all ≡ before + (0 + m) = ap row_count c.in_ok-push.ensures.items ∙ sum_by-append (λ (x : Chunk). len_of x.array) t.chunks.items (chunk ∷ []) in
+    let all : ℕ = row_count c.push-2.new.self.items in let before : ℕ = row_count t.chunks.items in let m : ℕ = len_of chunk.array in
+    let pushed : c.push-2.new.self.items ≡ t.chunks.items ++ chunk ∷ [] = c.in_ok-push-2.ensures.items ∙ ap (λ cs. cs ++ chunk ∷ []) c.in_ok-reserve.ensures.items in
+    let split : all ≡ before + (0 + m) = ap row_count pushed ∙ sum_by-append (λ (x : Chunk). len_of x.array) t.chunks.items (chunk ∷ []) in
     let added = c.in-Some.ensures in let held : before ≡ t.len = t.counted in
     record {
       kept = t.kept;
       led = t.led;
       measured = t.measured;
-      formed = ap (list_all (is_formed L k)) c.in_ok-push.ensures.items ∙ list_all-append (is_formed L k) t.chunks.items (chunk ∷ []) ∙ (λ i. t.formed i && (one i && true));
+      formed = ap (list_all (is_formed L k)) pushed ∙ list_all-append (is_formed L k) t.chunks.items (chunk ∷ []) ∙ (λ i. t.formed i && (one i && true));
       counted = omega (arith, split, len, n, added, held);
-      grouped = subst (λ gs. AreGroups k L 0 gs c.push.new.self.items) (sym (c.in_ok-push-2.ensures.items ∙ ap (λ gs. gs ++ g ∷ []) c.in_ok-reserve.ensures.items))
-          (subst (λ cs. AreGroups k L 0 (t.groups.items ++ g ∷ []) cs) (sym c.in_ok-push.ensures.items)
-          (group_pushed k L g chunk refl count refl 0 t.groups.items t.chunks.items t.grouped first));
+      grouped = subst (λ gs. AreGroups k L 0 gs c.push-2.new.self.items) (sym c.in_ok-push.ensures.pushed)
+          (subst (λ cs. AreGroups k L 0 (t.groups ++ g ∷ []) cs) (sym pushed)
+          (group_pushed k L g chunk refl count refl 0 t.groups t.chunks.items t.grouped first));
     }
 
 pub returns-clause-appended : goal.returns-clause-appended
@@ -76,10 +84,11 @@ returns-clause-appended c =
     let n = c.len-rows.ensures.count in let counted = rows_counted c.args.array in
     let some : 0 < length rows = omega (arith, c.if-rows-eq0.false, n, counted) in
     let g : Group = record { first = c.len.result; chunks = 1; rows = c.len-rows.result; joined = None } in
-    let chunks : map chunk_rows c.push.new.self.items ≡ map chunk_rows t.chunks.items ++ rows ∷ [] =
-    ap (map chunk_rows) c.in_ok-push.ensures.items ∙ map-append chunk_rows t.chunks.items (chunk ∷ []) ∙ ap (λ x. map chunk_rows t.chunks.items ++ x ∷ []) (ap rows_of made.array) in
-    let groups : map (λ (x : Group). x.chunks) c.push-2.new.self.items ≡ map (λ (x : Group). x.chunks) t.groups.items ++ 1 ∷ [] =
-    ap (map (λ (x : Group). x.chunks)) (c.in_ok-push-2.ensures.items ∙ ap (λ gs. gs ++ g ∷ []) c.in_ok-reserve.ensures.items) ∙ map-append (λ (x : Group). x.chunks) t.groups.items (g ∷ []) in
+    let pushed : c.push-2.new.self.items ≡ t.chunks.items ++ chunk ∷ [] = c.in_ok-push-2.ensures.items ∙ ap (λ cs. cs ++ chunk ∷ []) c.in_ok-reserve.ensures.items in
+    let chunks : map chunk_rows c.push-2.new.self.items ≡ map chunk_rows t.chunks.items ++ rows ∷ [] =
+    ap (map chunk_rows) pushed ∙ map-append chunk_rows t.chunks.items (chunk ∷ []) ∙ ap (λ x. map chunk_rows t.chunks.items ++ x ∷ []) (ap rows_of made.array) in
+    let groups : map (λ (x : Group). x.chunks) c.push.new.self ≡ map (λ (x : Group). x.chunks) t.groups ++ 1 ∷ [] =
+    ap (map (λ (x : Group). x.chunks)) c.in_ok-push.ensures.pushed ∙ map-append (λ (x : Group). x.chunks) t.groups (g ∷ []) in
     (λ i. record {
       kind = (table_of t).kind;
       default = (table_of t).default;

@@ -30,7 +30,7 @@ invariant_of-self c =
           (c.in_ok-lengths.ensures ∙ ap (map L) (c.deref-2.ensures.value ∙ ap (λ v. v.items) c.deref.ensures ∙ c.in_ok-leaves.ensures));
       formed = made.formed;
       counted = counted_again s k L t.chunks.items chunks made.rows ∙ t.counted;
-      grouped = groups_again s k L t.chunks.items chunks made.rows 0 t.groups.items c.in_ok-chunks.groups.items t.grouped made.groups;
+      grouped = groups_again s k L t.chunks.items chunks made.rows 0 t.groups c.in_ok-chunks.groups t.grouped made.groups;
     }
 
 pub returns-clause-retyped : goal.returns-clause-retyped
@@ -41,5 +41,5 @@ returns-clause-retyped c =
       default = t.bound_lengths.default;
       lengths = t.bound_lengths.entries.items;
       chunks = made.rows i;
-      groups = sizes_again s k (length_in t.bound_lengths) t.chunks.items c.in_ok-chunks.chunks.items made.rows t.groups.items c.in_ok-chunks.groups.items made.groups i;
+      groups = sizes_again s k (length_in t.bound_lengths) t.chunks.items c.in_ok-chunks.chunks.items made.rows t.groups c.in_ok-chunks.groups made.groups i;
     }

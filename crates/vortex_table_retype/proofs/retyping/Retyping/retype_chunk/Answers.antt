@@ -1,4 +1,4 @@
-use Rattle.std.proofs.Common.{◌≡◌, ap, sym, subst, ◌∙◌, map, length, true, rules, arith}
+use Rattle.std.proofs.Common.{◌≡◌, ap, sym, subst, ◌∙◌, length, true, rules, arith}
 use Rattle.vortex_model.specs.Command.{first_unconvertible}
 use Rattle.vortex_arrays_model.specs.Layout.{array_type_of, rows_of}
 use Rattle.vortex_arrays_model.proofs.RowsLemmas.{row_count}
@@ -6,35 +6,24 @@ use Rattle.vortex_table_check.specs.Error.{Explains}
 use Rattle.vortex_table_chunk.specs.Bounds.{are_sums_of}
 use Rattle.vortex_table_chunk.specs.Chunk.{chunk_rows}
 use Rattle.vortex_table_chunk.proofs.Formed.{some_rows, of_type, formed_so}
-use Rattle.vortex_table_schema.specs.Rows.{row_content}
 use Rattle.vortex_table_retype.specs.Retyping.{source_of, target_of, lengths_of}
 use Rattle.vortex_table_retype.specs.TooLarge.{AreTooLarge}
-use Rattle.vortex_table_retype.proofs.ConvertedRows.{explained_more}
 use Rattle.vortex_table_retype.proofs.retyping.Retyping.retype_chunk.Goals as goal
-
-pub returns-in_err-rows-clause-refused : goal.returns-in_err-rows-clause-refused
-returns-in_err-rows-clause-refused c =
-    let r = c.args.self.now in let s = source_of r in let t = target_of r in let chunk = c.args.chunk.now in let first = c.args.first in let e = c.in_err-rows.field-0.0 in
-    let rows = chunk_rows chunk in
-    let own : Explains ⊥ (first_unconvertible first s t rows) e = subst (λ k. Explains ⊥ (first_unconvertible first k t rows) e) (of_type (lengths_of r) s chunk c.requires.formed) c.in_err-rows.ensures.refused in
-    let why : Explains (AreTooLarge t rows) (first_unconvertible first s t rows) e = explained_more ⊥ (AreTooLarge t rows) (first_unconvertible first s t rows) e (λ x. absurd x) own in
-    let gives = c.from_residual.ensures.1 in
-    search (rules, why, gives)
 
 pub returns-in_err-array-clause-refused : goal.returns-in_err-array-clause-refused
 returns-in_err-array-clause-refused c =
-    let r = c.args.self.now in let t = target_of r in let rows = chunk_rows c.args.chunk.now in let e = c.in_err-array.field-0.0 in
-    let fault = first_unconvertible c.args.first (source_of r) t rows in
-    let content : map row_content c.deref.result.now ≡ rows = ap (map row_content) c.deref.ensures.value ∙ c.in_ok-rows.ensures.content in
-    let why : Explains (AreTooLarge t rows) fault e = subst (λ cs. Explains (AreTooLarge t cs) fault e) content (c.in_err-array.ensures.refused fault) in
-    let gives = c.from_residual-in_err-array.ensures.1 in
+    let r = c.args.self.now in let s = source_of r in let t = target_of r in let chunk = c.args.chunk.now in let first = c.args.first in let e = c.in_err-array.field-0.0 in
+    let rows = chunk_rows chunk in
+    let why : Explains (AreTooLarge t rows) (first_unconvertible first s t rows) e
+    = subst (λ k. Explains (AreTooLarge t rows) (first_unconvertible first k t rows) e) (of_type (lengths_of r) s chunk c.requires.formed) c.in_err-array.ensures.refused in
+    let gives = c.from_residual.ensures.1 in
     search (rules, why, gives)
 
 pub returns-clause-formed : goal.returns-clause-formed
 returns-clause-formed c =
     let r = c.args.self.now in let t = target_of r in let L = lengths_of r in let chunk = c.args.chunk.now in let new = c.in_ok-new.new in
     let array = c.in_ok-new.ensures.array in
-    let rows : rows_of new.array ≡ chunk_rows chunk = ap rows_of array ∙ c.in_ok-array.ensures.rows ∙ ap (map row_content) c.deref.ensures.value ∙ c.in_ok-rows.ensures.content in
+    let rows : rows_of new.array ≡ chunk_rows chunk = ap rows_of array ∙ c.in_ok-array.ensures.rows in
     let count = sym (row_count new.array) ∙ ap length rows ∙ row_count chunk.array in
     let some = some_rows L (source_of r) chunk c.requires.formed in
     let typed = c.in_ok-array.ensures.dtype in
@@ -44,4 +33,4 @@ returns-clause-formed c =
 pub returns-clause-converts : goal.returns-clause-converts
 returns-clause-converts c =
     let r = c.args.self.now in let chunk = c.args.chunk.now in
-    ap (λ k. first_unconvertible c.args.first k (target_of r) (chunk_rows chunk)) (sym (of_type (lengths_of r) (source_of r) chunk c.requires.formed)) ∙ c.in_ok-rows.ensures.converts
+    ap (λ k. first_unconvertible c.args.first k (target_of r) (chunk_rows chunk)) (sym (of_type (lengths_of r) (source_of r) chunk c.requires.formed)) ∙ c.in_ok-array.ensures.converts

@@ -1,0 +1,5 @@
+//! Arrays of integers from their bytes.
+#![tactic(auto)]
+
+mod integers;
+pub mod primitive_array_bytes;

@@ -1,0 +1,26 @@
+-- Arrays cast to another type.
+use Rattle.std.specs.Prelude.{◌≡◌, ◌<◌, ℕ, ℤ, pos, cond, true}
+use Rattle.vortex_model.specs.LogicalType.{LogicalType, Fields, no_fields, field, IntKind}
+use Rattle.vortex_model.specs.Convert.{converts}
+use Rattle.vortex_model.specs.Valid.{in_range}
+use Rattle.vortex_arrays_model.specs.Layout.{Layout, Columns, no_columns, column, len_of, array_type_of, content_at, IsSound}
+use Rattle.vortex_arrays_builder.specs.Types.{IsPlainLayout}
+
+-- r is sound, of the type and laid out plain. It has the rows of a, each of which the type can hold.
+pub record IsCast (k : LogicalType) (a r : Layout) : Type 0 where
+  pub sound : IsSound r
+  pub len : len_of r ≡ len_of a
+  pub kind : array_type_of r ≡ k
+  pub content : (i : ℕ) → i < len_of a → content_at r i ≡ content_at a i
+  pub held : (i : ℕ) → i < len_of a → converts (array_type_of a) k (content_at a i) ≡ true
+  pub layout : IsPlainLayout r
+
+-- by position: a column has the name and the type of the field, whatever its name was
+abbrev pub AreCast : Fields → Columns → Columns → Type 0
+AreCast no_fields no_columns no_columns = Unit {0}
+AreCast (field x k gs) (column y a cs) (column z r ds) = (z ≡ x) × IsCast k a r × AreCast gs cs ds
+AreCast gs cs ds = ⊥
+
+-- the integer where the kind holds it, and else 0
+abbrev pub held_or_zero : IntKind → ℤ → ℤ
+held_or_zero k z = cond (in_range k z) z (pos 0)

@@ -1,0 +1,198 @@
+//! Arrays of any layout as those of another type.
+ghost use Rattle.std.specs.Prelude.{◌≡◌, length, IfOk, IfSome, IsTrue};
+ghost use Rattle.std.specs.List.{list_all};
+ghost use Rattle.vortex_model.specs.Convert.{converts};
+ghost use Rattle.vortex_dtype_core.specs.View.{type_of, fields_of};
+ghost use Rattle.vortex_dtype_fields.specs.Records.{names_of};
+ghost use Rattle.vortex_arrays_model.specs.Layout.{array_type_of, rows_of, records, fixed_lists, list_views, IsSound, HasLength, HaveLength};
+ghost use Rattle.vortex_arrays_model.specs.Parts.{columns_of};
+ghost use Rattle.vortex_arrays_core.specs.LayoutOf.{valid_of};
+ghost use Rattle.vortex_arrays_builder.specs.Types.{IsPlainLayout};
+ghost use Rattle.vortex_arrays_cast.specs.Cast.{IsCast, AreCast};
+
+use crate::leaves::{cast_bools, cast_numbers, cast_strings, cast_validity};
+use crate::lists::are_laid_out;
+use crate::records::of_columns;
+use std::alloc::{AllocError, Global};
+use vortex_arrays_core::array::{ArrayLayout, ArrayRef, Validity};
+use vortex_dtype_core::dtype::DType;
+use vortex_dtype_core::struct_fields::StructField;
+use vortex_dtype_ptype::field_names::FieldNames;
+
+/// The rows as an array of another type, column by column, laid out plain. What stays as it is is
+/// shared.
+///
+/// `None` where that can't be done, and a caller has to look at the rows themselves: some value
+/// may be one that the type can't hold, also one that lies behind a null, or some column is laid
+/// out in another way, or its lists become lists of one size or the other way round.
+#[tactic(auto, using(crate::proofs::CastLemmas::rows))]
+pub fn cast_array(
+    alloc: Global,
+    array: &ArrayRef,
+    target: &DType,
+) -> Result<Option<ArrayRef>, AllocError>
+    ensures dtype { IfOk result
+        (λ cast. IfSome cast (λ r. array_type_of r ≡ type_of target.now)) }
+    ensures rows { IfOk result (λ cast. IfSome cast (λ r. rows_of r ≡ rows_of array.now)) }
+    ensures converts { IfOk result (λ cast. IfSome cast (λ _. IsTrue (list_all
+        (converts (array_type_of array.now) (type_of target.now)) (rows_of array.now)))) }
+    ensures layout { IfOk result (λ cast. IfSome cast (λ r. IsPlainLayout r)) }
+{
+    cast_part(alloc, array, target)
+}
+
+#[cycle(cast)]
+#[tactic(auto, using(crate::proofs::CastLemmas::layouts))]
+fn cast_part(
+    alloc: Global,
+    array: &ArrayRef,
+    target: &DType,
+) -> Result<Option<ArrayRef>, AllocError>
+    ensures { IfOk result (λ cast. IfSome cast (IsCast (type_of target.now) array.now)) }
+{
+    match array.layout() {
+        ArrayLayout::Bool(bits, validity) => cast_bools(alloc, bits, validity, target),
+        ArrayLayout::Primitive(items, validity) => cast_numbers(alloc, items, validity, target),
+        ArrayLayout::VarBinView(kind, views, buffers, validity) => {
+            cast_strings(alloc, *kind, views, buffers, validity, target)
+        }
+        ArrayLayout::FixedSizeList(elements, size, len, validity) => {
+            cast_fixed_lists(alloc, elements, *size, *len, validity, target)
+        }
+        ArrayLayout::ListView(elements, offsets, sizes, follow, validity) => {
+            cast_lists(alloc, elements, offsets, sizes, *follow, validity, target)
+        }
+        ArrayLayout::Struct(names, fields, len, validity) => {
+            cast_records(alloc, names, fields, *len, validity, target)
+        }
+        ArrayLayout::Constant(_, _) | ArrayLayout::Dict(_, _, _) => Ok(None),
+    }
+}
+
+// Records with each column cast, and the names of the target's fields.
+#[cycle(cast)]
+#[tactic(auto, using(crate::proofs::CastLemmas::layouts))]
+fn cast_records(
+    alloc: Global,
+    names: &FieldNames,
+    fields: &Vec<ArrayRef>,
+    len: usize,
+    validity: &Validity,
+    target: &DType,
+) -> Result<Option<ArrayRef>, AllocError>
+    requires fit { HaveLength (columns_of names.now fields.now.items) len }
+    requires validity { HasLength (valid_of validity.now) len }
+    ensures { IfOk result (λ cast. IfSome cast (IsCast (type_of target.now)
+        (records (columns_of names.now fields.now.items) len (valid_of validity.now)))) }
+{
+    let DType::Struct(targets, nullability) = target else {
+        return Ok(None);
+    };
+    let Some(validity) = cast_validity(validity, *nullability, len)? else {
+        return Ok(None);
+    };
+    let Some(columns) = cast_fields(alloc, names, fields, len, targets.as_slice())? else {
+        return Ok(None);
+    };
+    let cast = of_columns(alloc, targets, columns, len, validity)?;
+    Ok(Some(cast))
+}
+
+// The columns by position. `None` where there are more or fewer than fields, or where one of them
+// is not cast.
+#[cycle(cast)]
+#[tactic(auto, using(crate::proofs::CastLemmas::fields))]
+fn cast_fields(
+    alloc: Global,
+    names: &FieldNames,
+    fields: &Vec<ArrayRef>,
+    len: usize,
+    targets: &[StructField],
+) -> Result<Option<Vec<ArrayRef>>, AllocError>
+    requires fit { HaveLength (columns_of names.now fields.now.items) len }
+    ensures cast { IfOk result (λ cast. IfSome cast (λ columns.
+        AreCast (fields_of targets.now) (columns_of names.now fields.now.items)
+        (columns_of (names_of (fields_of targets.now)) columns.items))) }
+    ensures named { IfOk result (λ cast. IfSome cast (λ columns.
+        length (names_of (fields_of targets.now)) ≡ length columns.items)) }
+    ensures fit { IfOk result (λ cast. IfSome cast (λ columns.
+        HaveLength (columns_of (names_of (fields_of targets.now)) columns.items) len)) }
+{
+    if fields.len() != targets.len() {
+        return Ok(None);
+    }
+    let mut columns = Vec::with_capacity(alloc, fields.len())?;
+    for i in 0..fields.len() {
+        let Some(column) = cast_part(alloc, &fields[i], &targets[i].dtype)? else {
+            return Ok(None);
+        };
+        columns.push(column)?;
+    }
+    Ok(Some(columns))
+}
+
+// Lists of one size with their elements cast, for lists of this size.
+#[cycle(cast)]
+#[tactic(auto, using(crate::proofs::ListLemmas::fixed))]
+fn cast_fixed_lists(
+    alloc: Global,
+    elements: &ArrayRef,
+    size: u32,
+    len: usize,
+    validity: &Validity,
+    target: &DType,
+) -> Result<Option<ArrayRef>, AllocError>
+    requires { IsSound (fixed_lists elements.now size len (valid_of validity.now)) }
+    ensures { IfOk result (λ cast. IfSome cast (IsCast (type_of target.now)
+        (fixed_lists elements.now size len (valid_of validity.now)))) }
+{
+    let DType::FixedSizeList(element, wanted, nullability) = target else {
+        return Ok(None);
+    };
+    if *wanted != size {
+        return Ok(None);
+    }
+    let Some(validity) = cast_validity(validity, *nullability, len)? else {
+        return Ok(None);
+    };
+    let Some(elements) = cast_part(alloc, elements, element)? else {
+        return Ok(None);
+    };
+    let cast = ArrayRef::of_fixed_lists(alloc, elements, size, len, validity)?;
+    Ok(Some(cast))
+}
+
+// List views with their elements cast, where they are laid out plain.
+#[cycle(cast)]
+#[tactic(auto, using(crate::proofs::ListLemmas::views))]
+fn cast_lists(
+    alloc: Global,
+    elements: &ArrayRef,
+    offsets: &ArrayRef,
+    sizes: &ArrayRef,
+    follow: bool,
+    validity: &Validity,
+    target: &DType,
+) -> Result<Option<ArrayRef>, AllocError>
+    requires { IsSound
+        (list_views elements.now offsets.now sizes.now follow (valid_of validity.now)) }
+    ensures { IfOk result (λ cast. IfSome cast (IsCast (type_of target.now)
+        (list_views elements.now offsets.now sizes.now follow (valid_of validity.now)))) }
+{
+    let DType::List(element, nullability) = target else {
+        return Ok(None);
+    };
+    if !are_laid_out(elements, offsets, sizes, follow, validity) {
+        return Ok(None);
+    }
+    let Some(validity) = cast_validity(validity, *nullability, offsets.len())? else {
+        return Ok(None);
+    };
+    let Some(elements) = cast_part(alloc, elements, element)? else {
+        return Ok(None);
+    };
+    let offsets = offsets.clone()?;
+    let sizes = sizes.clone()?;
+    let cast = ArrayRef::of_list_views(alloc, elements, offsets, sizes, follow, validity)?;
+    Ok(Some(cast))
+}

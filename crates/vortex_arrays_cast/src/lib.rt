@@ -1,0 +1,8 @@
+//! Arrays as those of another type, column by column.
+#![tactic(auto)]
+
+pub mod cast;
+mod leaves;
+mod lists;
+mod numbers;
+mod records;

@@ -1,0 +1,2 @@
+pub mod EndToEnd
+pub mod PlainTypes

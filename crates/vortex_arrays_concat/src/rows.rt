@@ -1,0 +1,99 @@
+//! The rows of arrays of records, one array after the other.
+ghost use Rattle.std.specs.Prelude.{◌≡◌, ◌<◌, ◌≤◌, ◌^◌, ◌++◌, true, map, length, IfOk, OnOk, MatchOption, All};
+ghost use Rattle.vortex_model.specs.Valid.{valid};
+ghost use Rattle.vortex_model.specs.LogicalType.{LogicalType};
+ghost use Rattle.vortex_scalar_value.specs.View.{raw_in, raw_at, content_in};
+ghost use Rattle.vortex_arrays_model.specs.Layout.{len_of, array_type_of, content_at, rows_of};
+ghost use Rattle.vortex_arrays_concat.specs.EndToEnd.{rows_of_arrays, rows_in_all};
+
+use std::alloc::{AllocError, Global};
+use vortex_arrays_buffer::error::ArrayError;
+use vortex_arrays_core::array::ArrayRef;
+use vortex_arrays_struct::struct_array::StructArray;
+use vortex_scalar_value::scalar_value::ScalarValue;
+
+/// How many rows the arrays have together, and `None` where they can't be counted.
+#[tactic(auto, using(crate::proofs::RowLemmas::counted))]
+pub(crate) fn count_rows(arrays: &[StructArray]) -> Option<usize>
+    ensures { MatchOption result (2 ^ 64 ≤ rows_in_all arrays.now)
+        (λ rows. rows ≡ rows_in_all arrays.now) }
+{
+    let mut rows: usize = 0;
+    for array in arrays {
+        match rows.checked_add(array.len()) {
+            Some(sum) => rows = sum,
+            None => return None,
+        }
+    }
+    Some(rows)
+}
+
+/// The values of all rows, of which there are so many, and `None` for null.
+#[tactic(auto, using(crate::proofs::RowLemmas::gathered))]
+pub(crate) fn rows_of(
+    alloc: Global,
+    arrays: &[StructArray],
+    count: usize,
+) -> Result<Vec<Option<ScalarValue>>, AllocError>
+    ensures rows { IfOk result
+        (λ rows. map content_in rows.items ≡ rows_of_arrays arrays.now) }
+    ensures valid { IfOk result (λ rows. (k : LogicalType)
+        → All (λ a. array_type_of a ≡ k) arrays.now
+        → All (λ row. valid k (raw_in row) ≡ true) rows.items) }
+{
+    let mut rows = Vec::with_capacity(alloc, count)?;
+    for array in arrays {
+        push_rows(alloc, array.as_array(), &mut rows)?;
+    }
+    Ok(rows)
+}
+
+// Adds the values of the rows of an array.
+#[tactic(auto, using(crate::proofs::RowLemmas::pushed))]
+fn push_rows(
+    alloc: Global,
+    array: &ArrayRef,
+    rows: &mut Vec<Option<ScalarValue>>,
+) -> Result<(), AllocError>
+    ensures rows { OnOk result (map content_in rows.new.items
+        ≡ map content_in rows.old.items ++ rows_of array.now) }
+    ensures valid { OnOk result (All (λ row. valid (array_type_of array.now) (raw_in row) ≡ true)
+        rows.old.items → All (λ row. valid (array_type_of array.now) (raw_in row) ≡ true)
+        rows.new.items) }
+{
+    for i in 0..array.len() {
+        let row = row_value(alloc, array, i)?;
+        rows.push(row)?;
+    }
+    Ok(())
+}
+
+fn row_value(alloc: Global, array: &ArrayRef, i: usize) -> Result<Option<ScalarValue>, AllocError>
+    requires { i < len_of array.now }
+    ensures content { IfOk result (λ row. content_in row ≡ content_at array.now i) }
+    ensures valid { IfOk result (λ row. valid (array_type_of array.now) (raw_in row) ≡ true) }
+{
+    match array.execute_scalar(alloc, i) {
+        Ok(scalar) => {
+            let (_, row) = scalar.into_parts();
+            Ok(row)
+        }
+        Err(ArrayError::Memory) => Err(AllocError),
+        Err(_) => unreachable!(),
+    }
+}
+
+/// The values as they are lent.
+#[tactic(auto, using(crate::proofs::RowLemmas::lent))]
+pub(crate) fn lend(
+    alloc: Global,
+    values: &[Option<ScalarValue>],
+) -> Result<Vec<Option<&ScalarValue>>, AllocError>
+    ensures { IfOk result (λ lent. map raw_at lent.items ≡ map raw_in values.now) }
+{
+    let mut lent = Vec::with_capacity(alloc, values.len())?;
+    for value in values {
+        lent.push(value.as_ref())?;
+    }
+    Ok(lent)
+}

@@ -1,0 +1,96 @@
+//! Records end to end.
+ghost use Rattle.std.specs.Prelude.{◌≡◌, ◌↔◌, map, length, IfOk, IfErr, IsTrue, MatchOption, All};
+ghost use Rattle.vortex_model.specs.LogicalType.{LogicalType};
+ghost use Rattle.vortex_dtype_core.specs.View.{type_of};
+ghost use Rattle.vortex_arrays_model.specs.Layout.{Layout, array_type_of};
+ghost use Rattle.vortex_arrays_builder.specs.Types.{HasPlain, IsPlainLayout};
+ghost use Rattle.vortex_arrays_concat.specs.EndToEnd.{AreOfType, IsConcatenation, IsConcatFault};
+
+use crate::plain_types::has_plain;
+use crate::rows::{count_rows, lend, rows_of};
+use std::alloc::Global;
+use vortex_arrays_buffer::error::ArrayError;
+use vortex_arrays_builder::plain::build_plain;
+use vortex_arrays_core::array::ArrayRef;
+use vortex_arrays_struct::struct_array::StructArray;
+use vortex_dtype_core::dtype::DType;
+
+/// The call of Vortex's `StructArray` that puts arrays of records end to end.
+pub trait StructArrayConcat: Sized {
+    // The layout of a value.
+    ghost layout: { Self → Layout };
+
+    /// The records of the arrays, one array after the other, laid out plain.
+    ///
+    /// `WrongType` where there is no array, where two are of unequal types, or where a field, at
+    /// whatever depth, has a type without a plain layout: anything but truth values, integers,
+    /// texts, bytes, lists and records. Else `Total` where there are more records than can be
+    /// counted, or where the texts or the bytes of a column can't be held, as `build_plain`
+    /// answers.
+    fn try_concat(alloc: Global, arrays: &[Self]) -> Result<Self, ArrayError>
+        ensures made { IfOk result (λ a. IsConcatenation (map layout arrays.now) (layout a)) }
+        ensures layout { IfOk result (λ a. IsPlainLayout (layout a)) }
+        ensures refused { IfErr result (λ e. IsConcatFault e (map layout arrays.now)) };
+}
+
+impl StructArrayConcat for StructArray {
+    ghost layout = { λ a. a };
+
+    #[tactic(auto, using(crate::proofs::RowLemmas::of_records))]
+    fn try_concat(alloc: Global, arrays: &[StructArray]) -> Result<StructArray, ArrayError> {
+        let array = concat(alloc, arrays)?;
+        match StructArray::of_array(array) {
+            Ok(records) => Ok(records),
+            Err(_other) => unreachable!(),
+        }
+    }
+}
+
+// The records of the arrays as an array of any layout.
+#[tactic(auto, using(crate::proofs::RowLemmas::whole))]
+fn concat(alloc: Global, arrays: &[StructArray]) -> Result<ArrayRef, ArrayError>
+    ensures made { IfOk result (λ a. IsConcatenation arrays.now a) }
+    ensures layout { IfOk result (λ a. IsPlainLayout a) }
+    ensures refused { IfErr result (λ e. IsConcatFault e arrays.now) }
+{
+    let Some(dtype) = type_of_all(arrays) else {
+        return Err(ArrayError::WrongType);
+    };
+    let Some(count) = count_rows(arrays) else {
+        return Err(ArrayError::Total);
+    };
+    let rows = rows_of(alloc, arrays, count)?;
+    let lent = lend(alloc, rows.as_slice())?;
+    build_plain(alloc, dtype, lent.as_slice())
+}
+
+// The type of all arrays, where they have one and it has a plain layout.
+#[tactic(auto, using(crate::proofs::RowLemmas::typed))]
+fn type_of_all(arrays: &[StructArray]) -> Option<&DType>
+    ensures { MatchOption result ((k : LogicalType) → ¬ AreOfType arrays.now k)
+        (λ dtype. AreOfType arrays.now (type_of dtype.now)) }
+{
+    let first = arrays.first()?;
+    let dtype = first.dtype();
+    if dtype.is_struct() && has_plain(dtype) && are_of_type(arrays, dtype) {
+        return Some(dtype);
+    }
+    None
+}
+
+fn are_of_type(arrays: &[StructArray], dtype: &DType) -> bool
+    ensures { IsTrue result ↔ All (λ a. array_type_of a ≡ type_of dtype.now) arrays.now }
+{
+    for array in arrays {
+        if !is_of_type(array, dtype) {
+            return false;
+        }
+    }
+    true
+}
+
+fn is_of_type(array: &StructArray, dtype: &DType) -> bool
+    ensures { IsTrue result ↔ (array_type_of array.now ≡ type_of dtype.now) }
+{
+    *array.dtype() == *dtype
+}

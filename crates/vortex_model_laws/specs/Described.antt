@@ -1,0 +1,16 @@
+-- What a description says of a column of a group.
+use Rattle.std.specs.Prelude.{◌≡◌, ℕ, flat_map, Some, true}
+use Rattle.vortex_model.specs.LogicalType.{LogicalType}
+use Rattle.vortex_model.specs.Path.{Positions, type_at}
+use Rattle.vortex_model.specs.Kept.{is_leaf}
+use Rattle.vortex_model.specs.Statistics.{IsHonest}
+use Rattle.vortex_model.specs.ZoneMap.{ZoneMap, values_at, statistics_of}
+use Rattle.vortex_model.specs.Table.{Table, IsTable}
+use Rattle.vortex_model.specs.Reply.{chunks_of_group, Describes}
+
+-- All that is described of a leaf column of a group is honest of the group's rows, and the count of
+-- nulls is theirs.
+abbrev pub DescriptionsAreHonest : Type 0
+DescriptionsAreHonest = (t : Table) (is : Positions) (k : LogicalType) (i : ℕ) (z : ZoneMap) →
+    IsTable t → type_at t.kind is ≡ Some k → is_leaf k ≡ true → Describes t is i z →
+    IsHonest (statistics_of z) (values_at is (flat_map (λ chunk. chunk) (chunks_of_group t i)))

@@ -1,0 +1,7 @@
+pub mod Counts
+pub mod Joining
+pub mod Judging
+pub mod Keeping
+pub mod Nodes
+pub mod NotLiterals
+pub mod Roots

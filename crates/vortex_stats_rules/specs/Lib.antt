@@ -1,0 +1,5 @@
+pub mod Meanings
+pub mod Not
+pub mod NotLiterals
+pub mod Refusals
+pub mod Visits

@@ -1,0 +1,61 @@
+-- What callers' rules mean, and what their calls answer.
+use Rattle.std.specs.Prelude.{◌≡◌, List, map, Option, Some, None, Result, Ok, Err}
+use Rattle.vortex_model.specs.LogicalType.{LogicalType}
+use Rattle.vortex_model.specs.Expression.{Expression}
+use Rattle.vortex_model_rules.specs.Rules.{Rule, Root, of_literal, of_column, of_binary, of_between, of_not, of_is_null, of_is_not_null, of_is_nan, of_like, of_row_count, of_statistic, Answer, no_proof, proof, fault, answer_of, asked}
+use Rattle.vortex_model_rules.specs.Laws.{KeepsItsLaw}
+use Rattle.vortex_stats_expr.specs.declared.scalar_fn.ScalarFnId.{ScalarFnId}
+use Rattle.vortex_stats_expr.specs.declared.scalar_fn.ScalarFnId.TheVariants as function
+use Rattle.vortex_stats_stat.specs.declared.error.StatsError.{StatsError}
+use Rattle.vortex_stats_stat.specs.declared.error.StatsError.TheVariants as error
+use Rattle.vortex_stats_rules.specs.declared.answers.Claim.{Claim}
+use Rattle.vortex_stats_rules.specs.declared.answers.Claim.TheVariants as claim
+
+-- a rule whose proofs may be believed
+pub record SoundRule : Type 0 where
+  pub rule : Rule
+  pub keeps_its_law : (k : LogicalType) → KeepsItsLaw k rule
+
+-- the rules of these, where each has such a meaning
+abbrev pub rules_of : {B : Type 0} → (B → SoundRule) → List B → List Rule
+rules_of meaning bs = map (λ b. (meaning b).rule) bs
+
+abbrev pub root_in : ScalarFnId → Root
+root_in function.Literal = of_literal
+root_in function.Column = of_column
+root_in function.Binary = of_binary
+root_in function.Between = of_between
+root_in function.Not = of_not
+root_in function.IsNull = of_is_null
+root_in function.IsNotNull = of_is_not_null
+root_in function.IsNan = of_is_nan
+root_in function.Like = of_like
+root_in function.RowCount = of_row_count
+root_in function.Stat = of_statistic
+
+-- What a call of a rule answers. Want of memory says nothing.
+abbrev pub IsAnswer : Result (Option Expression) StatsError → Answer → Type 0
+IsAnswer (Ok None) a = a ≡ no_proof
+IsAnswer (Ok (Some p)) a = a ≡ proof p
+IsAnswer (Err error.Memory) a = Unit {0}
+IsAnswer (Err e) a = a ≡ fault
+
+-- an error for want of memory, or for a fault
+abbrev pub IsFault : StatsError → Answer → Type 0
+IsFault error.Memory a = Unit {0}
+IsFault error.RuleFault a = a ≡ fault
+IsFault e a = ⊥
+
+-- a proof, or none, or the refusal of a fault
+abbrev pub IsJudged : Result (Option Expression) StatsError → Answer → Type 0
+IsJudged (Ok o) a = a ≡ answer_of o
+IsJudged (Err e) a = IsFault e a
+
+-- what one rule answers at a node to the claim
+abbrev pub asked_of : Claim → LogicalType → Expression → Rule → Answer
+asked_of claim.NoRow k e rule = asked rule.root rule.falsify k e
+asked_of claim.EveryRow k e rule = asked rule.root rule.satisfy k e
+
+-- what the rules answer, in their order
+abbrev pub answers_to : Claim → LogicalType → Expression → List Rule → List Answer
+answers_to c k e rules = map (asked_of c k e) rules

@@ -1,0 +1,21 @@
+-- Why a rewrite is refused.
+use Rattle.std.specs.Prelude.{◌≡◌, true, false}
+use Rattle.vortex_model.specs.LogicalType.{LogicalType}
+use Rattle.vortex_model.specs.Expression.{Expression}
+use Rattle.vortex_model.specs.Typing.{expression_type}
+use Rattle.vortex_model.specs.Command.{is_boolean}
+use Rattle.vortex_model_rules.specs.Rules.{Answer, fault}
+use Rattle.vortex_stats_stat.specs.declared.error.StatsError.{StatsError}
+use Rattle.vortex_stats_stat.specs.declared.error.StatsError.TheVariants as error
+
+-- the values are truth values
+abbrev pub IsPredicate : LogicalType → Expression → Type 0
+IsPredicate k e = is_boolean (expression_type k e) ≡ true
+
+-- For want of memory, since the expression is no predicate, or since a rule made a fault of the
+-- answer.
+abbrev pub IsRefusal : LogicalType → Expression → Answer → StatsError → Type 0
+IsRefusal k e a error.Memory = Unit {0}
+IsRefusal k e a error.NotBoolean = is_boolean (expression_type k e) ≡ false
+IsRefusal k e a error.RuleFault = IsPredicate k e × (a ≡ fault)
+IsRefusal k e a r = ⊥

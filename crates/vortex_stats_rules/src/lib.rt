@@ -1,0 +1,10 @@
+//! Rewrite rules of callers, and the proofs that are made with them.
+#![tactic(auto)]
+
+mod answers;
+pub mod bind;
+pub mod laws;
+pub mod meter;
+pub mod negation;
+pub mod rewrite;
+pub mod rule;

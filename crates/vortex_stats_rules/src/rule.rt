@@ -1,0 +1,48 @@
+//! What a rewrite rule of a caller is.
+ghost use Rattle.std.specs.Prelude.{◌≡◌};
+ghost use Rattle.vortex_dtype_core.specs.View.{type_of};
+ghost use Rattle.vortex_stats_rules.specs.Meanings.{SoundRule, root_in, IsAnswer};
+
+use std::alloc::Global;
+use vortex_dtype_core::dtype::DType;
+use vortex_stats_expr::expression::Expression;
+use vortex_stats_expr::scalar_fn::ScalarFnId;
+use vortex_stats_stat::error::StatsError;
+
+/// A rule that makes proofs over statistics of predicates with one function at their root.
+///
+/// Its meaning says what it answers at each node over rows of each type: a proof, none, or a fault.
+/// Whoever writes a rule gives the meaning together with a proof that it keeps the law: where a
+/// proof that it answers is true of honest statistics of rows, none of them satisfies the node, and
+/// each does of `satisfy`. So callers of `falsify` and `satisfy` may rely on what these answer.
+pub trait StatsRewriteRule: Drop {
+    ghost meaning: { Self → SoundRule };
+
+    /// The function at the root of the nodes that are handed to the rule.
+    fn scalar_fn_id(&self) -> ScalarFnId
+        ensures { root_in result ≡ (meaning self.now).rule.root };
+
+    /// A proof that no row of the type satisfies the node. Want of memory is answered by `Memory`,
+    /// a fault by any other error.
+    fn falsify(
+        &self,
+        alloc: Global,
+        dtype: &DType,
+        expr: &Expression,
+    ) -> Result<Option<Expression>, StatsError>
+        ensures { IsAnswer result
+            ((meaning self.now).rule.falsify (type_of dtype.now) expr.now) };
+
+    /// A proof that every row of the type satisfies the node, and errors as for `falsify`.
+    fn satisfy(
+        &self,
+        alloc: Global,
+        dtype: &DType,
+        expr: &Expression,
+    ) -> Result<Option<Expression>, StatsError>
+        ensures { IsAnswer result
+            ((meaning self.now).rule.satisfy (type_of dtype.now) expr.now) };
+}
+
+/// A rule as it is handed in.
+pub type StatsRewriteRuleRef = Box<dyn StatsRewriteRule>;

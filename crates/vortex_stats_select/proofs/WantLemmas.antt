@@ -1,0 +1,88 @@
+-- The wanted truths of predicates by those of their parts.
+use Rattle.std.proofs.Common.{◌≡◌, refl, sym, ap, ◌∙◌, ℕ, Bool, true, false, not, List, length, map, replicate, Option, Some, None, option_map}
+use Rattle.std.specs.Prelude.{IfSome, Vec}
+use Rattle.std.specs.List.{zip}
+use Rattle.std.specs.declared.alloc.Global.{Global}
+use Rattle.vortex_model.specs.Content.{Content, boolean, is_null}
+use Rattle.std.proofs.lemmas.List.{length-map}
+use Rattle.vortex_model.specs.Path.{Positions, at}
+use Rattle.vortex_model.specs.ZoneMap.{values_at}
+use Rattle.vortex_model.specs.Expression.{Comparison, equal}
+use Rattle.vortex_model.specs.Truth.{compared, kleene_and, kleene_or, is_true}
+use Rattle.vortex_stats_bind.specs.Bound.{Bound, each, some, opposite, value_test, bound_value}
+use Rattle.vortex_stats_mask.specs.Wanted.{is_wanted, joined_by}
+use Rattle.vortex_stats_mask.proofs.Truths.{wanted_of_and, wanted_of_or, wanted_of_not}
+use Rattle.vortex_stats_select.specs.Wants.{wanted_rows, joined_masks}
+use Rattle.vortex_stats_select.proofs.PairLemmas.{paired, beside, through}
+
+-- ---- connectives
+
+joined : (want j : Bool) (op : Content → Content → Content) → ((c d : Content) → is_wanted want (op c d) ≡ joined_by j (is_wanted want c) (is_wanted want d)) →
+    (f g : Content → Content) (rows : List Content) (left right found : Option (Vec Bool Global)) →
+    IfSome left (λ m. m.items ≡ map (λ row. is_wanted want (f row)) rows) → IfSome right (λ m. m.items ≡ map (λ row. is_wanted want (g row)) rows) →
+    option_map (λ m. m.items) found ≡ joined_masks j left right → IfSome found (λ m. m.items ≡ map (λ row. is_wanted want (op (f row) (g row))) rows)
+joined want j op law f g rows left right None l r e = tt
+joined want j op law f g rows None right (Some m) l r e = absurd (cc (e))
+joined want j op law f g rows (Some x) None (Some m) l r e = absurd (cc (e))
+joined want j op law f g rows (Some x) (Some y) (Some m) l r e =
+    let same : m.items ≡ map (λ p. joined_by j p.0 p.1) (zip x.items y.items) = cc (e) in
+    same ∙ (λ i. map (λ p. joined_by j p.0 p.1) (zip (l i) (r i)))
+    ∙ paired (joined_by j) (λ row. is_wanted want (f row)) (λ row. is_wanted want (g row)) rows
+    ∙ (λ i. map (λ row. sym (law (f row) (g row)) i) rows)
+
+module _ (want : Bool) (x y : Bound) (rows : List Content) (left right found : Option (Vec Bool Global)) (l : IfSome left (λ m. m.items ≡ wanted_rows want x rows)) (r : IfSome right (λ m. m.items ≡ wanted_rows want y rows)) where
+  pub and_joined : option_map (λ m. m.items) found ≡ joined_masks want left right → IfSome found (λ m. m.items ≡ wanted_rows want (each x y) rows)
+  and_joined e = joined want want kleene_and (wanted_of_and want) (bound_value x) (bound_value y) rows left right found l r e
+
+  pub or_joined : option_map (λ m. m.items) found ≡ joined_masks (not want) left right → IfSome found (λ m. m.items ≡ wanted_rows want (some x y) rows)
+  or_joined e = joined want (not want) kleene_or (wanted_of_or want) (bound_value x) (bound_value y) rows left right found l r e
+
+pub not_turned : (want : Bool) (x : Bound) (rows : List Content) → wanted_rows (not want) x rows ≡ wanted_rows want (opposite x) rows
+not_turned want x rows = λ i. map (λ row. sym (wanted_of_not want (bound_value x row)) i) rows
+
+-- ---- tests
+
+denied : (want b : Bool) → is_wanted (not want) (boolean b) ≡ is_wanted want (boolean (not b))
+denied true true = refl
+denied true false = refl
+denied false true = refl
+denied false false = refl
+
+pub value_tested : (want : Bool) (x : Bound) (rows : List Content) → map (λ row. is_wanted (not want) (boolean (is_null (bound_value x row)))) rows ≡ wanted_rows want (value_test x) rows
+value_tested want x rows = λ i. map (λ row. denied want (is_null (bound_value x row)) i) rows
+
+pub wanted_true : (c : Content) → is_true c ≡ is_wanted true c
+wanted_true (boolean b) = refl
+wanted_true c = refl
+
+-- a truth value is the wanted one where it is equal to it
+pub equal_to_wanted : (want : Bool) (c : Content) → is_wanted true (compared equal c (boolean want)) ≡ is_wanted want c
+equal_to_wanted true (boolean true) = refl
+equal_to_wanted true (boolean false) = refl
+equal_to_wanted false (boolean true) = refl
+equal_to_wanted false (boolean false) = refl
+equal_to_wanted true c = refl
+equal_to_wanted false c = refl
+
+-- ---- predicates over operands, whose rows are the values of their expressions
+
+module _ (rows : List Content) (n : ℕ) (count : n ≡ length rows) where
+  pub many_rows : (e : Bound) (cs : List Content) → cs ≡ map (bound_value e) rows → length cs ≡ n
+  many_rows e cs h = ap length h ∙ length-map rows (bound_value e) ∙ sym count
+
+  pub truths_wanted : (want : Bool) (e : Bound) (cs : List Content) → cs ≡ map (bound_value e) rows → map (λ p. is_wanted true (compared equal p.0 p.1)) (zip cs (replicate n (boolean want))) ≡ wanted_rows want e rows
+  truths_wanted want e cs h =
+      beside (λ c d. is_wanted true (compared equal c d)) cs (boolean want) n (many_rows e cs h)
+      ∙ ap (map (λ c. is_wanted true (compared equal c (boolean want)))) h
+      ∙ through (λ c. is_wanted true (compared equal c (boolean want))) (bound_value e) rows
+      ∙ (λ i. map (λ row. equal_to_wanted want (bound_value e row) i) rows)
+
+pub comparisons_wanted : (want : Bool) (op : Comparison) (x y : Bound) (rows cs ds : List Content) → cs ≡ map (bound_value x) rows → ds ≡ map (bound_value y) rows →
+    map (λ p. is_wanted want (compared op p.0 p.1)) (zip cs ds) ≡ map (λ row. is_wanted want (compared op (bound_value x row) (bound_value y row))) rows
+comparisons_wanted want op x y rows cs ds h k =
+    (λ i. map (λ p. is_wanted want (compared op p.0 p.1)) (zip (h i) (k i)))
+    ∙ paired (λ c d. is_wanted want (compared op c d)) (bound_value x) (bound_value y) rows
+
+pub nulls_wanted : (want : Bool) (is : Positions) (rows cs : List Content) → cs ≡ values_at is rows → map (λ c. is_wanted want (boolean (is_null c))) cs ≡ map (λ row. is_wanted want (boolean (is_null (at row is)))) rows
+nulls_wanted want is rows cs h =
+    ap (map (λ c. is_wanted want (boolean (is_null c)))) h ∙ through (λ c. is_wanted want (boolean (is_null c))) (λ row. at row is) rows

@@ -1,0 +1,23 @@
+//! Rows that are read by their columns.
+ghost use Rattle.std.specs.Prelude.{◌≡◌, List, length, IfOk, IfSome};
+ghost use Rattle.vortex_model.specs.Content.{Content};
+ghost use Rattle.vortex_model.specs.ZoneMap.{values_at};
+ghost use Rattle.vortex_arrays_model.specs.Layout.{rows_of};
+
+use std::alloc::{AllocError, Global};
+use vortex_arrays_core::array::ArrayRef;
+
+/// Rows whose columns can be told.
+pub trait Columns {
+    ghost rows: { Self → List Content };
+
+    /// How many rows there are.
+    fn len(&self) -> usize
+        ensures { result ≡ length (rows self.now) };
+
+    /// The column at these positions, each the index of a field in the record before it. `None`
+    /// where there is none.
+    fn column(&self, alloc: Global, path: &[usize]) -> Result<Option<ArrayRef>, AllocError>
+        ensures { IfOk result (λ found. IfSome found
+            (λ column. rows_of column ≡ values_at path.now (rows self.now))) };
+}

@@ -1,0 +1,129 @@
+//! Comparisons of operands, row by row.
+ghost use Rattle.std.specs.Prelude.{◌≡◌, length, map, replicate, IfOk};
+ghost use Rattle.std.specs.List.{zip};
+ghost use Rattle.vortex_model.specs.Truth.{compared, is_true};
+ghost use Rattle.vortex_scalar_value.specs.View.{content_at};
+ghost use Rattle.vortex_stats_expr.specs.Tree.{comparison_of};
+ghost use Rattle.vortex_stats_mask.specs.Wanted.{is_wanted, joined_by, negated, swapped};
+ghost use Rattle.vortex_stats_select.specs.Operands.{operand_rows};
+
+use crate::operand::Operand;
+use std::alloc::{AllocError, Global};
+use vortex_scalar_value::scalar_value::ScalarValue;
+use vortex_stats_bind::value::{compare_values, read};
+use vortex_stats_expr::operator::Comparison;
+use vortex_stats_mask::compare::compare_literal;
+use vortex_stats_mask::masks::{both, either};
+use vortex_stats_mask::pairs::compare_columns;
+
+fn negated(comparison: Comparison) -> Comparison
+    ensures { comparison_of result ≡ negated (comparison_of comparison) }
+{
+    match comparison {
+        Comparison::Eq => Comparison::NotEq,
+        Comparison::NotEq => Comparison::Eq,
+        Comparison::Gt => Comparison::Lte,
+        Comparison::Gte => Comparison::Lt,
+        Comparison::Lt => Comparison::Gte,
+        Comparison::Lte => Comparison::Gt,
+    }
+}
+
+fn swapped(comparison: Comparison) -> Comparison
+    ensures { comparison_of result ≡ swapped (comparison_of comparison) }
+{
+    match comparison {
+        Comparison::Eq => Comparison::Eq,
+        Comparison::NotEq => Comparison::NotEq,
+        Comparison::Gt => Comparison::Lt,
+        Comparison::Gte => Comparison::Lte,
+        Comparison::Lt => Comparison::Gt,
+        Comparison::Lte => Comparison::Gte,
+    }
+}
+
+fn compare_constants(
+    alloc: Global,
+    comparison: Comparison,
+    left: Option<&ScalarValue>,
+    right: Option<&ScalarValue>,
+    len: usize,
+) -> Result<Vec<bool>, AllocError>
+    ensures { IfOk result (λ mask. mask.items ≡ replicate len
+        (is_true (compared (comparison_of comparison) (content_at left.entry)
+        (content_at right.entry)))) }
+{
+    let truth = compare_values(comparison, read(left), read(right));
+    Ok(vec![in alloc; truth.unwrap_or(false); len]?)
+}
+
+// Which rows of the two stand so to each other.
+fn compare_operands(
+    alloc: Global,
+    comparison: Comparison,
+    left: &Operand,
+    right: &Operand,
+    len: usize,
+) -> Result<Vec<bool>, AllocError>
+    requires left { length (operand_rows left.now len) ≡ len }
+    requires right { length (operand_rows right.now len) ≡ len }
+    ensures { IfOk result (λ mask. mask.items
+        ≡ map (λ p. is_true (compared (comparison_of comparison) p.0 p.1))
+        (zip (operand_rows left.now len) (operand_rows right.now len))) }
+{
+    match (left, right) {
+        (Operand::Column(x), Operand::Column(y)) => {
+            compare_columns(alloc, comparison, &x.as_column(), &y.as_column())
+        }
+        (Operand::Column(x), Operand::Value(y)) => {
+            compare_literal(alloc, comparison, &x.as_column(), y.as_ref())
+        }
+        (Operand::Value(x), Operand::Column(y)) => {
+            compare_literal(alloc, swapped(comparison), &y.as_column(), x.as_ref())
+        }
+        (Operand::Value(x), Operand::Value(y)) => {
+            compare_constants(alloc, comparison, x.as_ref(), y.as_ref(), len)
+        }
+    }
+}
+
+// For which rows the comparison of the two has the wanted truth.
+pub(crate) fn compare_wanted(
+    alloc: Global,
+    comparison: Comparison,
+    want: bool,
+    left: &Operand,
+    right: &Operand,
+    len: usize,
+) -> Result<Vec<bool>, AllocError>
+    requires left { length (operand_rows left.now len) ≡ len }
+    requires right { length (operand_rows right.now len) ≡ len }
+    ensures { IfOk result (λ mask. mask.items
+        ≡ map (λ p. is_wanted want (compared (comparison_of comparison) p.0 p.1))
+        (zip (operand_rows left.now len) (operand_rows right.now len))) }
+{
+    let comparison = if want {
+        comparison
+    } else {
+        negated(comparison)
+    };
+    compare_operands(alloc, comparison, left, right, len)
+}
+
+// For which rows AND has the wanted truth, where two masks tell it of its parts. OR is AND of the
+// other truths.
+pub(crate) fn join(
+    alloc: Global,
+    want: bool,
+    left: &[bool],
+    right: &[bool],
+) -> Result<Vec<bool>, AllocError>
+    ensures { IfOk result (λ mask. mask.items
+        ≡ map (λ p. joined_by want p.0 p.1) (zip left.now right.now)) }
+{
+    if want {
+        both(alloc, left, right)
+    } else {
+        either(alloc, left, right)
+    }
+}

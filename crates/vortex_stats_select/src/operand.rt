@@ -1,0 +1,104 @@
+//! What a comparison compares: one value for all rows, or a column.
+ghost use Rattle.std.specs.Prelude.{◌≡◌, length, map, IfOk, IfSome};
+ghost use Rattle.vortex_arrays_model.specs.Layout.{len_of, rows_of};
+ghost use Rattle.vortex_model.specs.ZoneMap.{values_at};
+ghost use Rattle.vortex_stats_bind.specs.Bound.{bound_value};
+ghost use Rattle.vortex_stats_select.specs.Operands.{operand_rows};
+
+use crate::columns::Columns;
+use crate::leaf::{Leaf, leaf_of};
+use std::alloc::{AllocError, Global};
+use vortex_arrays_core::array::{ArrayLayout, ArrayRef};
+use vortex_scalar_core::scalar::Scalar;
+use vortex_scalar_value::clone::clone_value;
+use vortex_scalar_value::scalar_value::ScalarValue;
+use vortex_stats_bind::bound::{BoundExpression, BoundNode};
+
+// A value that each row has, where `None` is null, or a leaf column.
+pub(crate) enum Operand {
+    Value(Option<ScalarValue>),
+    Column(Leaf),
+}
+
+impl Drop for Operand {
+    fn drop(self) {
+        match self {
+            Operand::Value(_value) => {}
+            Operand::Column(_leaf) => {}
+        }
+    }
+}
+
+// A literal or a column, and `None` of any other expression and where the column can't be compared
+// whole.
+pub(crate) fn operand_of<S: Columns>(
+    alloc: Global,
+    e: &BoundExpression,
+    columns: &S,
+) -> Result<Option<Operand>, AllocError>
+    ensures { IfOk result (λ found. IfSome found (λ operand.
+        operand_rows operand (length (S.rows columns.now))
+        ≡ map (bound_value e.now) (S.rows columns.now))) }
+{
+    match &e.node {
+        BoundNode::Literal(value) => {
+            let value = clone_value(value.as_ref())?;
+            Ok(Some(Operand::Value(value)))
+        }
+        BoundNode::Column(path) => column_operand(alloc, path, columns),
+        BoundNode::Compare(_, _, _) => Ok(None),
+        BoundNode::And(_, _) => Ok(None),
+        BoundNode::Or(_, _) => Ok(None),
+        BoundNode::Not(_) => Ok(None),
+        BoundNode::IsNull(_) => Ok(None),
+        BoundNode::IsNotNull(_) => Ok(None),
+        BoundNode::Between(_, _, _, _) => Ok(None),
+        BoundNode::Like(_, _, _) => Ok(None),
+        BoundNode::RowCount => Ok(None),
+        BoundNode::Stat(_, _) => Ok(None),
+    }
+}
+
+fn column_operand<S: Columns>(
+    alloc: Global,
+    path: &[usize],
+    columns: &S,
+) -> Result<Option<Operand>, AllocError>
+    ensures { IfOk result (λ found. IfSome found (λ operand.
+        operand_rows operand (length (S.rows columns.now))
+        ≡ values_at path.now (S.rows columns.now))) }
+{
+    match columns.column(alloc, path)? {
+        Some(column) => array_operand(alloc, &column),
+        None => Ok(None),
+    }
+}
+
+fn array_operand(alloc: Global, column: &ArrayRef) -> Result<Option<Operand>, AllocError>
+    ensures { IfOk result (λ found. IfSome found (λ operand.
+        operand_rows operand (len_of column.now) ≡ rows_of column.now)) }
+{
+    match column.layout() {
+        ArrayLayout::Constant(scalar, _) => {
+            let value = clone_value(scalar.value())?;
+            Ok(Some(Operand::Value(value)))
+        }
+        ArrayLayout::Bool(_, _) => leaf_operand(alloc, column),
+        ArrayLayout::Primitive(_, _) => leaf_operand(alloc, column),
+        ArrayLayout::VarBinView(_, _, _, _) => leaf_operand(alloc, column),
+        ArrayLayout::Dict(_, _, _) => Ok(None),
+        ArrayLayout::FixedSizeList(_, _, _, _) => Ok(None),
+        ArrayLayout::ListView(_, _, _, _, _) => Ok(None),
+        ArrayLayout::Struct(_, _, _, _) => Ok(None),
+    }
+}
+
+fn leaf_operand(alloc: Global, column: &ArrayRef) -> Result<Option<Operand>, AllocError>
+    ensures { IfOk result (λ found. IfSome found (λ operand.
+        operand_rows operand (len_of column.now) ≡ rows_of column.now)) }
+{
+    match leaf_of(alloc, column)? {
+        Some(leaf) => Ok(Some(Operand::Column(leaf))),
+        None => Ok(None),
+    }
+}

@@ -1,0 +1,68 @@
+//! Validities, a byte for each row.
+ghost use Rattle.std.specs.Prelude.{◌≡◌, ℕ, true, false, length, map, slice_index_or, IfOk, MatchOption};
+ghost use Rattle.std.specs.List.{range_with_len};
+ghost use Rattle.vortex_arrays_model.specs.Layout.{is_valid, by_array, len_of, HasLength};
+ghost use Rattle.vortex_arrays_core.specs.LayoutOf.{valid_of};
+
+use std::alloc::{AllocError, Global};
+use vortex_arrays_buffer::BitBuffer;
+use vortex_arrays_core::array::{ArrayLayout, ArrayRef, Validity};
+use vortex_stats_mask::masks::no_rows;
+
+// A byte for each bit.
+pub(crate) fn unpacked(alloc: Global, bits: &BitBuffer) -> Result<Vec<bool>, AllocError>
+    ensures { IfOk result (λ items. items.items
+        ≡ map (λ i. slice_index_or bits.now i false) (range_with_len 0 (length bits.now))) }
+{
+    (0..bits.len()).map(|i| bits.value(i)).collect(alloc)
+}
+
+// Which rows of an array of truth values are true, by a look at each row.
+fn looked_up(alloc: Global, rows: &ArrayRef) -> Result<Vec<bool>, AllocError>
+    ensures { IfOk result (λ truths. truths.items
+        ≡ map (is_valid (by_array rows.now)) (range_with_len 0 (len_of rows.now))) }
+{
+    (0..rows.len()).map(|i| rows.truth(i)).collect(alloc)
+}
+
+fn truths_of(alloc: Global, rows: &ArrayRef) -> Result<Vec<bool>, AllocError>
+    requires { HasLength (by_array rows.now) (len_of rows.now) }
+    ensures { IfOk result (λ truths. truths.items
+        ≡ map (is_valid (by_array rows.now)) (range_with_len 0 (len_of rows.now))) }
+{
+    match rows.layout() {
+        ArrayLayout::Bool(bits, _) => unpacked(alloc, bits),
+        ArrayLayout::Primitive(_, _) => looked_up(alloc, rows),
+        ArrayLayout::VarBinView(_, _, _, _) => looked_up(alloc, rows),
+        ArrayLayout::Constant(_, _) => looked_up(alloc, rows),
+        ArrayLayout::Dict(_, _, _) => looked_up(alloc, rows),
+        ArrayLayout::FixedSizeList(_, _, _, _) => looked_up(alloc, rows),
+        ArrayLayout::ListView(_, _, _, _, _) => looked_up(alloc, rows),
+        ArrayLayout::Struct(_, _, _, _) => looked_up(alloc, rows),
+    }
+}
+
+// Which rows of so many are valid, and `None` where all are known to be.
+pub(crate) fn valid_rows_of(
+    alloc: Global,
+    validity: &Validity,
+    len: usize,
+) -> Result<Option<Vec<bool>>, AllocError>
+    requires { HasLength (valid_of validity.now) len }
+    ensures { IfOk result (λ found. MatchOption found
+        ((i : ℕ) → is_valid (valid_of validity.now) i ≡ true)
+        (λ rows. rows.items ≡ map (is_valid (valid_of validity.now)) (range_with_len 0 len))) }
+{
+    match validity {
+        Validity::NonNullable => Ok(None),
+        Validity::AllValid => Ok(None),
+        Validity::AllInvalid => {
+            let rows = no_rows(alloc, len)?;
+            Ok(Some(rows))
+        }
+        Validity::Array(rows) => {
+            let rows = truths_of(alloc, rows)?;
+            Ok(Some(rows))
+        }
+    }
+}

@@ -1,0 +1,3 @@
+mod BoundValues
+pub mod Checks
+mod FormedLiterals

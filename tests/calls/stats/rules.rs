@@ -1,0 +1,244 @@
+//! Rewrite rules of callers: proofs that are made with them, nodes that are counted, and faults.
+
+use crate::checks::Checks;
+use crate::values::{Done, WITHOUT, number, numbers, record, text};
+use std::alloc::{AllocError, Global};
+use vortex_dtype::{DType, FieldName, FieldNames};
+use vortex_scalar::{Scalar, ScalarError};
+use vortex_stats::{
+    Expression, LikeOptions, Meter, Never, NotLiteral, ScalarFnId, StatsError, StatsRewriteRule,
+    StatsRewriteRuleRef, and, between, col, falsify, gt, like, lit, not, or, satisfy,
+    BetweenOptions, StrictComparison,
+};
+use vortex_stats_expr::expression::Node;
+
+type Answer = Result<Option<Expression>, StatsError>;
+
+/// What a faulty rule answers.
+#[derive(Clone, Copy, Drop)]
+enum Fault {
+    Error(StatsError),
+    Number,
+    Column,
+    Backslash,
+}
+
+/// A rule for NOT that keeps no law.
+#[derive(Drop)]
+struct Faulty {
+    fault: Fault,
+}
+
+impl Faulty {
+    fn answer(&self, alloc: Global) -> Result<Option<Expression>, StatsError> {
+        match self.fault {
+            Fault::Error(error) => Err(error),
+            Fault::Number => Ok(Some(of_value(constant(7))?)),
+            Fault::Column => Ok(Some(column(alloc, "b")?)),
+            Fault::Backslash => Ok(Some(escaped(alloc)?)),
+        }
+    }
+}
+
+// Nothing here is proved, so the ghost members say nothing.
+impl StatsRewriteRule for Faulty {
+    ghost use Rattle.vortex_stats_rules.specs.Not.{never_is_sound};
+
+    ghost meaning = { λ _. never_is_sound };
+
+    fn scalar_fn_id(&self) -> ScalarFnId {
+        ScalarFnId::Not
+    }
+
+    fn falsify(
+        &self,
+        alloc: Global,
+        _dtype: &DType,
+        _expr: &Expression,
+    ) -> Result<Option<Expression>, StatsError> {
+        self.answer(alloc)
+    }
+
+    fn satisfy(
+        &self,
+        alloc: Global,
+        _dtype: &DType,
+        _expr: &Expression,
+    ) -> Result<Option<Expression>, StatsError> {
+        self.answer(alloc)
+    }
+}
+
+fn of_value(made: Result<Expression, ScalarError>) -> Result<Expression, StatsError> {
+    match made {
+        Ok(made) => Ok(made),
+        Err(ScalarError::Memory) => Err(StatsError::Memory),
+        Err(_) => Err(StatsError::InvalidStat),
+    }
+}
+
+fn column(alloc: Global, name: &str) -> Result<Expression, AllocError> {
+    let mut names = Vec::new(alloc);
+    names.push(FieldName::new(alloc, name)?)?;
+    Ok(col(FieldNames::new(names)))
+}
+
+fn constant(value: i16) -> Result<Expression, ScalarError> {
+    Ok(lit(Scalar::try_new(numbers(WITHOUT), number(value))?))
+}
+
+fn truth(value: bool) -> Expression {
+    lit(Scalar::from(value))
+}
+
+/// A LIKE whose pattern holds a backslash.
+fn escaped(alloc: Global) -> Result<Expression, StatsError> {
+    let value = Scalar::try_new(DType::Utf8(WITHOUT), text("a"));
+    let pattern = Scalar::try_new(DType::Utf8(WITHOUT), text("\\a"));
+    match (value, pattern) {
+        (Ok(value), Ok(pattern)) => {
+            let options = LikeOptions {
+                negated: false,
+                case_insensitive: false,
+            };
+            Ok(like(alloc, lit(value), lit(pattern), options)?)
+        }
+        _ => Err(StatsError::Memory),
+    }
+}
+
+/// The rules for NOT, in this order.
+fn two_rules(alloc: Global) -> Result<Vec<StatsRewriteRuleRef>, AllocError> {
+    let mut rules: Vec<StatsRewriteRuleRef> = Vec::new(alloc);
+    rules.push(Box::new(alloc, Never)?)?;
+    rules.push(Box::new(alloc, NotLiteral)?)?;
+    Ok(rules)
+}
+
+/// Whether it is the literal of the truth value.
+fn is_truth(e: &Expression, wanted: bool) -> bool {
+    match &e.node {
+        Node::Literal(value) => value.value().and_then(|v| v.as_bool()) == Some(wanted),
+        _ => false,
+    }
+}
+
+/// Whether it is `false OR true`.
+fn is_false_or_true(answer: &Result<Option<Expression>, StatsError>) -> bool {
+    match answer {
+        Ok(Some(proof)) => match &proof.node {
+            Node::Or(x, y) => is_truth(x, false) && is_truth(y, true),
+            _ => false,
+        },
+        _ => false,
+    }
+}
+
+/// Whether an answer is there; refused memory is handed on.
+fn judged(answer: Result<Option<Expression>, StatsError>) -> Result<StatsError, ScalarError> {
+    match answer {
+        Ok(_) => Ok(StatsError::NoOverlap),
+        Err(StatsError::Memory) => Err(ScalarError::Memory),
+        Err(error) => Ok(error),
+    }
+}
+
+pub fn run(alloc: Global, checks: &mut Checks<'_>) -> Done {
+    let dtype = record(
+        alloc,
+        ["a", "b"],
+        [numbers(WITHOUT), DType::Bool(WITHOUT)],
+        WITHOUT,
+    )?;
+    of_two_rules(alloc, checks, &dtype)?;
+    visits(alloc, checks, &dtype)?;
+    let faults = [
+        Fault::Error(StatsError::NotEvaluable),
+        Fault::Number,
+        Fault::Column,
+        Fault::Backslash,
+    ];
+    for (i, fault) in faults.iter().enumerate() {
+        faulty(alloc, checks, &dtype, i, *fault)?;
+    }
+    Ok(())
+}
+
+/// The answer, or want of memory as one of values.
+fn settled(answer: Answer) -> Result<Answer, ScalarError> {
+    match answer {
+        Ok(proof) => Ok(Ok(proof)),
+        Err(StatsError::Memory) => Err(ScalarError::Memory),
+        Err(error) => Ok(Err(error)),
+    }
+}
+
+fn of_two_rules(alloc: Global, checks: &mut Checks<'_>, dtype: &DType) -> Done {
+    let rules = two_rules(alloc)?;
+    let mut meter = Meter::new();
+    let never = settled(falsify(alloc, dtype, &not(alloc, truth(true))?, &rules, &mut meter))?;
+    checks.holds("NOT true is true of no row", is_false_or_true(&never));
+    let always = settled(satisfy(alloc, dtype, &not(alloc, truth(false))?, &rules, &mut meter))?;
+    checks.holds("NOT false is true of every row", is_false_or_true(&always));
+    checks.holds("two nodes", meter.visits == 2 && meter.proofs == 0 && meter.rows_tested == 0);
+    judged(never)?;
+    judged(always)?;
+    let alone = settled(falsify(alloc, dtype, &not(alloc, truth(true))?, &[], &mut meter))?;
+    checks.holds("no rule for NOT", matches!(alone, Ok(None)));
+    let side = and(alloc, not(alloc, truth(true))?, truth(true))?;
+    let side = settled(falsify(alloc, dtype, &side, &rules, &mut meter))?;
+    checks.holds("a side of AND", matches!(&side, Ok(Some(_))));
+    judged(side)?;
+    let refused = judged(falsify(alloc, dtype, &column(alloc, "a")?, &rules, &mut meter))?;
+    checks.holds("no predicate", refused == StatsError::NotBoolean);
+    Ok(())
+}
+
+/// Sixteen comparisons, joined by fifteen ORs, and a BETWEEN.
+fn visits(alloc: Global, checks: &mut Checks<'_>, dtype: &DType) -> Done {
+    let mut chain = gt(alloc, column(alloc, "a")?, constant(0)?)?;
+    for i in 1..16_i16 {
+        let test = gt(alloc, column(alloc, "a")?, constant(i)?)?;
+        chain = or(alloc, chain, test)?;
+    }
+    let mut meter = Meter::new();
+    judged(falsify(alloc, dtype, &chain, &[], &mut meter))?;
+    checks.holds("each node once", meter.visits == 31);
+    let options = BetweenOptions {
+        lower_strict: StrictComparison::NonStrict,
+        upper_strict: StrictComparison::Strict,
+    };
+    let within = between(alloc, column(alloc, "a")?, constant(1)?, constant(9)?, options)?;
+    let mut meter = Meter::new();
+    judged(falsify(alloc, dtype, &within, &[], &mut meter))?;
+    checks.holds("a BETWEEN, its AND and two comparisons", meter.visits == 4);
+    let mut full = Meter {
+        rows_tested: 1,
+        proofs: 2,
+        visits: u64::MAX,
+    };
+    judged(satisfy(alloc, dtype, &within, &[], &mut full))?;
+    checks.holds("it stays at the greatest", full.visits == u64::MAX && full.proofs == 2);
+    Ok(())
+}
+
+fn faulty(
+    alloc: Global,
+    checks: &mut Checks<'_>,
+    dtype: &DType,
+    number: usize,
+    fault: Fault,
+) -> Done {
+    let mut rules = two_rules(alloc)?;
+    rules.push(Box::new(alloc, Faulty { fault })?)?;
+    let mut meter = Meter::new();
+    let predicate = not(alloc, column(alloc, "b")?)?;
+    let none = judged(falsify(alloc, dtype, &predicate, &rules, &mut meter))?;
+    checks.holds_at("a fault", number, none == StatsError::RuleFault);
+    let all = judged(satisfy(alloc, dtype, &predicate, &rules, &mut meter))?;
+    checks.holds_at("a fault for every row", number, all == StatsError::RuleFault);
+    let other = gt(alloc, column(alloc, "a")?, constant(3)?)?;
+    let other = judged(falsify(alloc, dtype, &other, &rules, &mut meter))?;
+    checks.holds_at("another root", number, other == StatsError::NoOverlap);
+    Ok(())
+}
