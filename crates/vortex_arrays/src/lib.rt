@@ -51,6 +51,7 @@ pub use vortex_arrays_parts::struct_array_ext::StructArrayExt;
 pub use vortex_arrays_parts::var_bin_view_array_ext::{VarBinViewArrayExt, VarBinViewDataParts};
 pub use vortex_arrays_rebuild::density::ListViewArrayExt;
 pub use vortex_arrays_rebuild::rebuild::{ListViewRebuild, ListViewRebuildMode};
+pub use vortex_arrays_strings::var_bin_view_array_iter::VarBinViewArrayIter;
 pub use vortex_arrays_struct::column::column_at;
 pub use vortex_arrays_struct::fields::StructDataParts;
 pub use vortex_arrays_struct::mask::mask;

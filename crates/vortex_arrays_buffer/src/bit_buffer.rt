@@ -1,5 +1,5 @@
 //! A shared list of bits, cut with no copy.
-ghost use Rattle.std.specs.Prelude.{◌≡◌, ◌<◌, ◌≤◌, ◌↔◌, ◌*◌, ◌/◌, ◌&&◌, ◌||◌, ℕ, [], true, false, not, length, map, count_by, replicate, slice_index_or, slice_range, IsTrue, IfOk, All};
+ghost use Rattle.std.specs.Prelude.{◌≡◌, ◌<◌, ◌≤◌, ◌↔◌, ◌-◌, ◌*◌, ◌/◌, ◌&&◌, ◌||◌, ℕ, [], true, false, not, length, map, count_by, replicate, slice_index_or, slice_range, IsTrue, IfOk, All};
 ghost use Rattle.std.specs.List.{zip};
 ghost use Rattle.vortex_arrays_buffer.specs.Bits.{bits_of, bits_at, positions_of};
 
@@ -27,6 +27,15 @@ impl Model for BitBuffer {
     ghost view = { λ b. bits_of b.bytes b.start b.len };
 
     ghost invariant = { λ b. (b.start + b.len ≤ 8 * length b.bytes) × (b.start + b.len < 2 ^ 64) };
+}
+
+// The bits of the bytes from a place to another, a byte for each.
+fn unpack(alloc: Global, bytes: &[u8], start: usize, end: usize) -> Result<Vec<bool>, AllocError>
+    requires order { start ≤ end }
+    requires within { end ≤ 8 * length bytes.now }
+    ensures { IfOk result (λ items. items.items ≡ bits_of bytes.now start (end - start)) }
+{
+    (start..end).map(|i| bit(bytes, i)).collect(alloc)
 }
 
 impl BitBuffer {
@@ -136,6 +145,19 @@ impl BitBuffer {
         ensures { result ≡ slice_index_or self.now i false }
     {
         bit(self.bytes.as_slice(), self.start + i)
+    }
+
+    /// The bits, a byte for each.
+    #[tactic(auto, using(crate::proofs::BitLemmas::bits))]
+    pub fn to_bools(&self, alloc: Global) -> Result<Vec<bool>, AllocError>
+        ensures { IfOk result (λ items. items.items ≡ self.now) }
+    {
+        unpack(
+            alloc,
+            self.bytes.as_slice(),
+            self.start,
+            self.start + self.len,
+        )
     }
 
     /// How many bits are true.

@@ -2,4 +2,5 @@ pub mod Fits
 pub mod Items
 pub mod Plain
 pub mod Strings
+pub mod TooLarge
 pub mod Types

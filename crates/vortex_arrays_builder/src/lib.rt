@@ -8,4 +8,5 @@ pub mod laws;
 pub mod leaves;
 mod nested;
 pub mod plain;
+pub mod rows;
 pub mod strings;

@@ -1,3 +1,4 @@
 pub mod CastLemmas
+pub mod EvenLemmas
 pub mod ListLemmas
 pub mod NumberLemmas

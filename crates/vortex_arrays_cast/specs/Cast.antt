@@ -1,6 +1,7 @@
 -- Arrays cast to another type.
-use Rattle.std.specs.Prelude.{◌≡◌, ◌<◌, ℕ, ℤ, pos, cond, true}
+use Rattle.std.specs.Prelude.{◌≡◌, ◌<◌, ◌*◌, ℕ, ℤ, pos, cond, true}
 use Rattle.vortex_model.specs.LogicalType.{LogicalType, Fields, no_fields, field, IntKind}
+use Rattle.vortex_model.specs.Content.{integer}
 use Rattle.vortex_model.specs.Convert.{converts}
 use Rattle.vortex_model.specs.Valid.{in_range}
 use Rattle.vortex_arrays_model.specs.Layout.{Layout, Columns, no_columns, column, len_of, array_type_of, content_at, IsSound}
@@ -24,3 +25,10 @@ AreCast gs cs ds = ⊥
 -- the integer where the kind holds it, and else 0
 abbrev pub held_or_zero : IntKind → ℤ → ℤ
 held_or_zero k z = cond (in_range k z) z (pos 0)
+
+-- of these elements, each list has so many, and the lists stand end to end
+pub record StandEvenly (elements offsets sizes : Layout) (s : ℕ) : Type 0 where
+  pub all : len_of elements ≡ len_of offsets * s
+  pub many : len_of sizes ≡ len_of offsets
+  pub offset : (i : ℕ) → i < len_of offsets → content_at offsets i ≡ integer (pos (i * s))
+  pub size : (i : ℕ) → i < len_of offsets → content_at sizes i ≡ integer (pos s)

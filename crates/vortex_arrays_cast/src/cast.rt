@@ -11,7 +11,7 @@ ghost use Rattle.vortex_arrays_builder.specs.Types.{IsPlainLayout};
 ghost use Rattle.vortex_arrays_cast.specs.Cast.{IsCast, AreCast};
 
 use crate::leaves::{cast_bools, cast_numbers, cast_strings, cast_validity};
-use crate::lists::are_laid_out;
+use crate::lists::{are_laid_out, even_offsets, even_sizes, stand_evenly};
 use crate::records::of_columns;
 use std::alloc::{AllocError, Global};
 use vortex_arrays_core::array::{ArrayLayout, ArrayRef, Validity};
@@ -24,7 +24,8 @@ use vortex_dtype_ptype::field_names::FieldNames;
 ///
 /// `None` where that can't be done, and a caller has to look at the rows themselves: some value
 /// may be one that the type can't hold, also one that lies behind a null, or some column is laid
-/// out in another way, or its lists become lists of one size or the other way round.
+/// out in another way, or its lists become lists of one size, or the other way round, and some list
+/// has to move.
 #[tactic(auto, using(crate::proofs::CastLemmas::rows))]
 pub fn cast_array(
     alloc: Global,
@@ -57,10 +58,10 @@ fn cast_part(
             cast_strings(alloc, *kind, views, buffers, validity, target)
         }
         ArrayLayout::FixedSizeList(elements, size, len, validity) => {
-            cast_fixed_lists(alloc, elements, *size, *len, validity, target)
+            cast_any_fixed_lists(alloc, elements, *size, *len, validity, target)
         }
         ArrayLayout::ListView(elements, offsets, sizes, follow, validity) => {
-            cast_lists(alloc, elements, offsets, sizes, *follow, validity, target)
+            cast_any_lists(alloc, elements, offsets, sizes, *follow, validity, target)
         }
         ArrayLayout::Struct(names, fields, len, validity) => {
             cast_records(alloc, names, fields, *len, validity, target)
@@ -195,4 +196,57 @@ fn cast_lists(
     let sizes = sizes.clone()?;
     let cast = ArrayRef::of_list_views(alloc, elements, offsets, sizes, follow, validity)?;
     Ok(Some(cast))
+}
+
+// Lists of one size as lists of this size or of any.
+#[cycle(cast)]
+#[tactic(auto, using(crate::proofs::EvenLemmas::views))]
+fn cast_any_fixed_lists(
+    alloc: Global,
+    elements: &ArrayRef,
+    size: u32,
+    len: usize,
+    validity: &Validity,
+    target: &DType,
+) -> Result<Option<ArrayRef>, AllocError>
+    requires { IsSound (fixed_lists elements.now size len (valid_of validity.now)) }
+    ensures { IfOk result (λ cast. IfSome cast (IsCast (type_of target.now)
+        (fixed_lists elements.now size len (valid_of validity.now)))) }
+{
+    if !target.is_list() {
+        return cast_fixed_lists(alloc, elements, size, len, validity, target);
+    }
+    // Tells the proof how many elements there can be.
+    let _count = elements.len();
+    let offsets = even_offsets(alloc, size, len)?;
+    let sizes = even_sizes(alloc, size, len)?;
+    // Tells the proof that these are u64.
+    let _counts = (offsets.len(), sizes.len());
+    cast_lists(alloc, elements, &offsets, &sizes, true, validity, target)
+}
+
+// List views as lists of any size or of one.
+#[cycle(cast)]
+#[tactic(auto, using(crate::proofs::EvenLemmas::fixed))]
+fn cast_any_lists(
+    alloc: Global,
+    elements: &ArrayRef,
+    offsets: &ArrayRef,
+    sizes: &ArrayRef,
+    follow: bool,
+    validity: &Validity,
+    target: &DType,
+) -> Result<Option<ArrayRef>, AllocError>
+    requires { IsSound
+        (list_views elements.now offsets.now sizes.now follow (valid_of validity.now)) }
+    ensures { IfOk result (λ cast. IfSome cast (IsCast (type_of target.now)
+        (list_views elements.now offsets.now sizes.now follow (valid_of validity.now)))) }
+{
+    let DType::FixedSizeList(_, size, _) = target else {
+        return cast_lists(alloc, elements, offsets, sizes, follow, validity, target);
+    };
+    if !stand_evenly(elements, offsets, sizes, *size) {
+        return Ok(None);
+    }
+    cast_fixed_lists(alloc, elements, *size, offsets.len(), validity, target)
 }

@@ -1,10 +1,10 @@
 -- Rows of arrays end to end.
-use Rattle.std.proofs.Common.{◌≡◌, ◌<◌, ◌≤◌, ◌+◌, ◌^◌, ◌↔◌, ℕ, true, false, IsTrue, None, List, [], ◌∷◌, ◌++◌, length, map, take, drop, get_or, Option, Bor, inl, inr, refl, sym, ap, subst, ◌∙◌, append_assoc, add-one, arith}
-use Rattle.std.specs.List.{All}
+use Rattle.std.proofs.Common.{◌≡◌, ◌<◌, ◌≤◌, ◌+◌, ◌^◌, ◌↔◌, ℕ, true, false, ◌&&◌, IsTrue, None, List, [], ◌∷◌, ◌++◌, length, map, take, drop, get_or, Option, Bor, inl, inr, refl, sym, ap, subst, ◌∙◌, append_assoc, add-one, arith}
+use Rattle.std.specs.List.{All, list_all}
 use Rattle.std.proofs.lemmas.List.{length-map, map-append, get_or-map, take_more, take_all, drop_all, append-nil, map-id}
 use Rattle.std.proofs.lemmas.List.Concat.{flat_map-append}
 use Rattle.std.proofs.lemmas.List.Sums.{sum_by-cons}
-use Rattle.std.proofs.lemmas.List.Elements.{All-nil, All-append, All-cons}
+use Rattle.std.proofs.lemmas.List.Elements.{All-nil, All-append, All-cons, All-tail}
 use Rattle.std.proofs.Math.Seq.{drop-cons}
 use Rattle.vortex_model.specs.LogicalType.{LogicalType}
 use Rattle.vortex_model.specs.Content.{content_of}
@@ -187,6 +187,12 @@ concat_made ls k vs bs a t r e f g = record {
   rows = g ∙ sym (contents_of bs) ∙ ap (map content_of) e ∙ contents_in vs ∙ r;
 }
 
+all_valid : (k : LogicalType) (vs : List Value) → AreOf k vs → list_all (valid k) (map raw_in vs) ≡ true
+all_valid k [] h = refl
+all_valid k (v ∷ vs) h =
+    let first : 0 < length (v ∷ vs) = omega arith in
+    λ i. h 0 None first i && all_valid k vs (All-tail (λ row. valid k (raw_in row) ≡ true) v vs h) i
+
 pub concat_fault : (e : ArrayError) (ls : List Layout) (k : LogicalType) (vs : List Value) (bs : List Lent) → AreOfType ls k → map content_in vs ≡ rows_of_arrays ls → map raw_at bs ≡ map raw_in vs → AreOf k vs → IsPlainFault e k (map raw_at bs) → IsConcatFault e ls
 concat_fault error.Memory ls k vs bs t r e v h = tt
 concat_fault error.Total ls k vs bs t r e v h = (
@@ -195,9 +201,7 @@ concat_fault error.Total ls k vs bs t r e v h = (
   inr (record {
     values = map raw_at bs;
     are_rows = ap (map content_of) e ∙ contents_in vs ∙ r;
-    are_valid = subst (All (λ x. valid k x ≡ true)) (sym e) (λ i d l.
-        let m : i < length vs = let n = length-map vs raw_in in omega (arith, n, l) in
-        subst (λ x. valid k x ≡ true) (sym (get_or-map raw_in vs i None d m)) (v i None m));
+    are_valid = ap (list_all (valid k)) e ∙ all_valid k vs v;
     too_large = h;
   }),
 )

@@ -2,8 +2,7 @@
 use Rattle.std.specs.Prelude.{◌≡◌, ◌<◌, ◌≤◌, ◌^◌, ◌⊎◌, ℕ, List, [], ◌∷◌, length, map, flat_map, sum, true, All}
 use Rattle.std.specs.List.{list_all}
 use Rattle.vortex_model.specs.LogicalType.{LogicalType, Nullability, non_nullable, either_nullable}
-use Rattle.vortex_model.specs.Content.{Content, content_of, Raw}
-use Rattle.vortex_model.specs.Valid.{valid}
+use Rattle.vortex_model.specs.Content.{Content}
 use Rattle.vortex_dtype_core.specs.Parts.{is_struct_type}
 use Rattle.vortex_arrays_buffer.specs.declared.error.ArrayError.{ArrayError}
 use Rattle.vortex_arrays_buffer.specs.declared.error.ArrayError.TheVariants as error
@@ -11,7 +10,7 @@ use Rattle.vortex_arrays_model.specs.Layout.{Layout, Valid, len_of, array_type_o
 use Rattle.vortex_arrays_core.specs.LayoutOf.{valid_of}
 use Rattle.vortex_arrays_core.specs.declared.array.Validity.{Validity}
 use Rattle.vortex_arrays_validity.specs.Validities.{valid_rows, rows_of_all, lengths_of_all, shows_no_null, shows_all_null}
-use Rattle.vortex_arrays_builder.specs.Plain.{IsTooLarge}
+use Rattle.vortex_arrays_builder.specs.TooLarge.{AreTooLarge}
 use Rattle.vortex_arrays_builder.specs.Types.{HasPlain}
 
 -- ---- validities
@@ -68,14 +67,6 @@ pub record AreOfType (arrays : List Layout) (k : LogicalType) : Type 0 where
 pub record IsConcatenation (arrays : List Layout) (r : Layout) : Type 0 where
   pub kinds : AreOfType arrays (array_type_of r)
   pub rows : rows_of r ≡ rows_of_arrays arrays
-
--- As values of the type, the rows have texts or bytes in some column that its views and buffers
--- can't hold.
-pub record AreTooLarge (k : LogicalType) (rows : List Content) : Type 0 where
-  pub values : List Raw
-  pub are_rows : map content_of values ≡ rows
-  pub are_valid : All (λ r. valid k r ≡ true) values
-  pub too_large : IsTooLarge k values
 
 -- The types go first. There are more rows than can be counted, or too large ones.
 abbrev pub IsConcatFault : ArrayError → List Layout → Type 0

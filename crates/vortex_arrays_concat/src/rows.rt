@@ -1,13 +1,13 @@
 //! The rows of arrays of records, one array after the other.
-ghost use Rattle.std.specs.Prelude.{◌≡◌, ◌<◌, ◌≤◌, ◌^◌, ◌++◌, true, map, length, IfOk, OnOk, MatchOption, All};
+ghost use Rattle.std.specs.Prelude.{◌≡◌, ◌≤◌, ◌^◌, ◌++◌, true, map, length, IfOk, OnOk, MatchOption, All};
 ghost use Rattle.vortex_model.specs.Valid.{valid};
 ghost use Rattle.vortex_model.specs.LogicalType.{LogicalType};
 ghost use Rattle.vortex_scalar_value.specs.View.{raw_in, raw_at, content_in};
-ghost use Rattle.vortex_arrays_model.specs.Layout.{len_of, array_type_of, content_at, rows_of};
+ghost use Rattle.vortex_arrays_model.specs.Layout.{array_type_of, rows_of};
 ghost use Rattle.vortex_arrays_concat.specs.EndToEnd.{rows_of_arrays, rows_in_all};
 
 use std::alloc::{AllocError, Global};
-use vortex_arrays_buffer::error::ArrayError;
+use vortex_arrays_builder::rows::row_value;
 use vortex_arrays_core::array::ArrayRef;
 use vortex_arrays_struct::struct_array::StructArray;
 use vortex_scalar_value::scalar_value::ScalarValue;
@@ -66,21 +66,6 @@ fn push_rows(
         rows.push(row)?;
     }
     Ok(())
-}
-
-fn row_value(alloc: Global, array: &ArrayRef, i: usize) -> Result<Option<ScalarValue>, AllocError>
-    requires { i < len_of array.now }
-    ensures content { IfOk result (λ row. content_in row ≡ content_at array.now i) }
-    ensures valid { IfOk result (λ row. valid (array_type_of array.now) (raw_in row) ≡ true) }
-{
-    match array.execute_scalar(alloc, i) {
-        Ok(scalar) => {
-            let (_, row) = scalar.into_parts();
-            Ok(row)
-        }
-        Err(ArrayError::Memory) => Err(AllocError),
-        Err(_) => unreachable!(),
-    }
 }
 
 /// The values as they are lent.

@@ -1,20 +1,18 @@
 -- One value in each row.
-use Rattle.std.proofs.Common.{◌≡◌, ◌<◌, ◌&&◌, ℕ, ℤ, pos, zero, suc, Bool, true, false, cond, List, [], ◌∷◌, length, get_or, map, replicate, Some, None, option_map, option_and_then, refl, sym, ap, subst, ◌∙◌, arith, lit<}
+use Rattle.std.proofs.Common.{◌≡◌, ◌<◌, ◌&&◌, ℕ, ℤ, pos, zero, suc, Bool, true, false, cond, List, length, get_or, map, replicate, Some, refl, sym, ap, subst, ◌∙◌, arith, lit<}
 use Rattle.std.specs.List.{All}
 use Rattle.std.proofs.lemmas.Int.{ints}
 use Rattle.std.proofs.lemmas.List.{length-map, length-replicate, get_or-map, get_or-replicate}
 use Rattle.vortex_model.specs.LogicalType.{Nullability, non_nullable, nullable, LogicalType, struct, Fields, no_fields, field, u8, nullability_of, either_nullable, with_nullability, nullable_inside, is_nullable}
 use Rattle.vortex_model.specs.Content.{Content, null, integer, nth, content_of, contents_of, Raw, raw_null, raw_tuple, Raws, no_raws, raw_first}
-use Rattle.vortex_model.specs.Path.{position_named, field_at, part_of, type_at, positions, type_of_column}
+use Rattle.vortex_model.specs.Path.{field_at, part_of}
 use Rattle.vortex_model.specs.Valid.{InRange, valid, fields_have}
 use Rattle.vortex_dtype_core.specs.Parts.{fields_in_type}
 use Rattle.vortex_scalar_ops.proofs.Nullable.{nullable_has, null_is_there}
 use Rattle.vortex_arrays_model.specs.Layout.{numbers, constant, dictionary, Valid, nullability_by, is_valid, pick, IsCode, IsSound, HasLength}
-use Rattle.vortex_arrays_model.specs.Column.{IsColumn, IsMasked}
+use Rattle.vortex_arrays_model.specs.Column.{IsMasked}
 use Rattle.vortex_arrays_model.proofs.PicksLemmas.{no_flag}
 use Rattle.vortex_arrays_model.proofs.SomeLemmas.{type_within}
-use Rattle.vortex_arrays_model.proofs.ColumnLemmas.{part_named}
-use Rattle.vortex_arrays_core.proofs.Constructors.{valid_so}
 use Rattle.vortex_scalar_value.specs.Parts.{raw_nth, raw_part}
 use Rattle.vortex_arrays_struct.specs.ZeroCodes.{zero_codes}
 
@@ -101,7 +99,7 @@ content_of-nth no_raws i = refl
 content_of-nth (raw_first r rs) zero = refl
 content_of-nth (raw_first r rs) (suc i) = content_of-nth rs i
 
-content_of-part : (r : Raw) (i : ℕ) → content_of (raw_part r i) ≡ part_of (content_of r) i
+pub content_of-part : (r : Raw) (i : ℕ) → content_of (raw_part r i) ≡ part_of (content_of r) i
 content_of-part (raw_tuple rs) i = content_of-nth rs i
 content_of-part r i = refl
 
@@ -112,7 +110,7 @@ swapped nullable non_nullable = refl
 swapped nullable nullable = refl
 
 -- the type of a field that is null also where the record is
-within_record : (n : Nullability) (t : LogicalType) → with_nullability (either_nullable (nullability_of t) n) t ≡ nullable_inside n t
+pub within_record : (n : Nullability) (t : LogicalType) → with_nullability (either_nullable (nullability_of t) n) t ≡ nullable_inside n t
 within_record n t = ap (λ m. with_nullability m t) (swapped (nullability_of t) n) ∙ type_within n t
 
 pub field_valid : (k : LogicalType) (fs : Fields) (r : Raw) (i : ℕ) (t : LogicalType) → Some fs ≡ fields_in_type k → Some t ≡ field_at fs i → valid k r ≡ true → valid (with_nullability (either_nullable (nullability_of t) (nullability_of k)) t) (raw_part r i) ≡ true
@@ -120,43 +118,3 @@ field_valid (struct gs n) fs r i t e f h =
     let same : fs ≡ gs = cc (e) in
     ap (λ l. valid l (raw_part r i)) (within_record n t) ∙ part_valid gs n r i t h (f ∙ ap (λ g. field_at g i) same)
 field_valid k fs r i t e f h = absurd (cc (e))
-
-column_at_place : (fs : Fields) (n : Nullability) (r q : Raw) (x : List ℕ) (i : ℕ) (t : LogicalType) (m : ℕ) → position_named fs x ≡ Some i → field_at fs i ≡ Some t → valid (nullable_inside n t) q ≡ true → content_of q ≡ part_of (content_of r) i → IsColumn (constant (struct fs n) r m) (x ∷ []) (constant (nullable_inside n t) q m)
-column_at_place fs n r q x i t m e f h c = part_named (constant (struct fs n) r m) (x ∷ []) (i ∷ []) (constant (nullable_inside n t) q m)
-    (ap (λ o. option_and_then (λ j. option_and_then (λ part. option_map (λ is. j ∷ is) (positions part [])) (field_at fs j)) o) e ∙ ap (λ o. option_and_then (λ part. option_map (λ is. i ∷ is) (positions part [])) o) f)
-    (record {
-      sound = valid_so (nullable_inside n t) q h;
-      len = refl;
-      kind = ap (λ o. option_map (nullable_inside n) (option_and_then (λ part. type_at part []) o)) f;
-      content = λ j l. c;
-    })
-
-pub column_of_constant : (k : LogicalType) (fs : Fields) (r q : Raw) (x : List ℕ) (i : ℕ) (t u : LogicalType) (m : ℕ) → Some fs ≡ fields_in_type k → Some i ≡ position_named fs x → Some t ≡ field_at fs i → valid k r ≡ true → u ≡ with_nullability (either_nullable (nullability_of t) (nullability_of k)) t → q ≡ raw_part r i → IsColumn (constant k r m) (x ∷ []) (constant u q m)
-column_of_constant (struct gs n) fs r q x i t u m e p f h made taken =
-    let same : fs ≡ gs = cc (e) in
-    let there : Some t ≡ field_at gs i = f ∙ ap (λ g. field_at g i) same in
-    let kind : u ≡ nullable_inside n t = made ∙ within_record n t in
-    subst (λ l. IsColumn (constant (struct gs n) r m) (x ∷ []) (constant l q m)) (sym kind)
-    (column_at_place gs n r q x i t m (ap (λ g. position_named g x) (sym same) ∙ sym p) (sym there)
-    (ap (valid (nullable_inside n t)) taken ∙ part_valid gs n r i t h there)
-    (ap content_of taken ∙ content_of-part r i))
-column_of_constant k fs r q x i t u m e p f h made taken = absurd (cc (e))
-
-pub no_record : (k : LogicalType) (x : List ℕ) → None ≡ fields_in_type k → type_of_column k (x ∷ []) ≡ None
-no_record (struct fs n) x e = absurd (cc (e))
-no_record k x e = refl
-
-pub no_such_name : (k : LogicalType) (fs : Fields) (x : List ℕ) → Some fs ≡ fields_in_type k → None ≡ position_named fs x → type_of_column k (x ∷ []) ≡ None
-no_such_name (struct gs n) fs x e p =
-    let same : fs ≡ gs = cc (e) in
-    ap (λ o. option_and_then (type_at (struct gs n)) (option_and_then (λ i. option_and_then (λ part. option_map (λ is. i ∷ is) (positions part [])) (field_at gs i)) o)) (ap (λ g. position_named g x) (sym same) ∙ sym p)
-no_such_name k fs x e p = absurd (cc (e))
-
-pub no_type_there : (k : LogicalType) (fs : Fields) (x : List ℕ) (i : ℕ) → Some fs ≡ fields_in_type k → Some i ≡ position_named fs x → None ≡ field_at fs i → type_of_column k (x ∷ []) ≡ None
-no_type_there (struct gs n) fs x i e p f =
-    let same : fs ≡ gs = cc (e) in
-    ap (λ o. option_and_then (type_at (struct gs n)) (option_and_then (λ i. option_and_then (λ part. option_map (λ is. i ∷ is) (positions part [])) (field_at gs i)) o)) (ap (λ g. position_named g x) (sym same) ∙ sym p)
-    ∙ ap (λ o. option_and_then (type_at (struct gs n)) (option_and_then (λ part. option_map (λ is. i ∷ is) (positions part [])) o)) (ap (λ g. field_at g i) (sym same) ∙ sym f)
-no_type_there k fs x i e p f = absurd (cc (e))
-
-pub ruleset picked = (field_valid, column_of_constant, no_record, no_such_name, no_type_there)

@@ -3,11 +3,11 @@
 
 pub mod check;
 pub mod column;
-mod constant;
 pub mod edit;
 pub mod fields;
 pub mod mask;
 pub mod pairs;
+pub mod part;
 pub mod push;
 pub mod slices;
 pub mod struct_array;

@@ -1,8 +1,15 @@
 //! The statistics of a leaf column that is an array.
+ghost use Rattle.std.specs.Prelude.{◌≡◌};
+ghost use Rattle.vortex_model.specs.Typing.{sum_kind};
+ghost use Rattle.vortex_dtype_core.specs.View.{type_of};
+ghost use Rattle.vortex_stats_array.specs.Sums.{int_kind_of};
 
+use vortex_dtype_core::dtype::DType;
+use vortex_dtype_ptype::ptype::PType;
 use vortex_scalar_value::pvalue::PValue;
 use vortex_scalar_value::scalar_value::ScalarValue;
 use vortex_stats_bound::precision::Precision;
+use vortex_stats_stat::stat::sum_dtype;
 
 /// The statistics of the rows of an array, as a zone of Vortex's zone maps has them.
 #[derive(Drop)]
@@ -21,4 +28,15 @@ pub struct ArrayStats {
     pub sum: Option<PValue>,
     /// Whether all rows are null, or all are one value.
     pub is_constant: bool,
+}
+
+/// The kind of numbers of the sum of such a column, where it has one. Of floats no sum is kept.
+#[tactic(auto, using(crate::proofs::SumKinds::of_sums))]
+pub fn sum_ptype(dtype: &DType) -> Option<PType>
+    ensures { int_kind_of result ≡ sum_kind (type_of dtype.now) }
+{
+    match sum_dtype(dtype) {
+        Some(sum) => sum.as_ptype_opt(),
+        None => None,
+    }
 }

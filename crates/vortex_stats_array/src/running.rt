@@ -2,24 +2,20 @@
 ghost use Rattle.std.specs.Prelude.{◌≡◌, ◌<◌, ◌≤◌, ◌+◌, ◌-◌, ◌^◌, ◌∷◌, [], ℕ, List, length, map, option_map, IfOk};
 ghost use Rattle.std.specs.List.{range_with_len};
 ghost use Rattle.vortex_model.specs.Content.{Content};
-ghost use Rattle.vortex_model.specs.Typing.{sum_kind};
 ghost use Rattle.vortex_model.specs.ZoneMap.{zone_of};
 ghost use Rattle.vortex_dtype_core.specs.View.{type_of};
 ghost use Rattle.vortex_arrays_model.specs.Layout.{len_of, content_at, rows_of};
 ghost use Rattle.vortex_stats_array.specs.Running.{content_or_null, ReadsRows, lesser, greater, in_front, DoCompare, IsSeen, FitsRows, constant_by};
-ghost use Rattle.vortex_stats_array.specs.Sums.{int_kind_of};
 ghost use Rattle.vortex_stats_array.specs.Zones.{bound_content, zone_in, low_at, high_at};
 
-use crate::array_stats::ArrayStats;
+use crate::array_stats::{ArrayStats, sum_ptype};
 use crate::leaf_value::LeafValue;
 use crate::running_sum::RunningSum;
 use std::alloc::{AllocError, Global};
 use vortex_arrays_core::array::{ArrayLayout, ArrayRef};
 use vortex_dtype_core::dtype::DType;
-use vortex_dtype_ptype::ptype::PType;
 use vortex_scalar_value::scalar_value::ScalarValue;
 use vortex_stats_bound::precision::Precision;
-use vortex_stats_stat::stat::sum_dtype;
 
 /// The least and the greatest of the values seen so far, how many rows are null, and the sum.
 #[derive(Clone, Copy, Drop)]
@@ -209,16 +205,5 @@ impl<V: LeafValue> Running<V> {
             sum: self.sum.of_type(sum_ptype(dtype)),
             is_constant: self.is_constant(),
         })
-    }
-}
-
-// The type of the sum of such a column. That of floats holds none.
-#[tactic(auto, using(crate::proofs::SumKinds::of_sums))]
-fn sum_ptype(dtype: &DType) -> Option<PType>
-    ensures { int_kind_of result ≡ sum_kind (type_of dtype.now) }
-{
-    match sum_dtype(dtype) {
-        Some(sum) => sum.as_ptype_opt(),
-        None => None,
     }
 }

@@ -4,10 +4,11 @@
 //! other character for itself, so letters keep their case. Nothing is allocated. A pattern is met
 //! piece by piece, where a piece ends at a `%`: since the next piece may stand anywhere further on,
 //! the first place where a piece fits is as good as each later one, and no earlier piece is tried
-//! again. So the time is at worst the length of the text times that of the pattern.
+//! again. So the time is at worst the length of the text times that of the pattern. The characters
+//! that a piece begins with, up to its first sign, are searched for as a text.
 ghost use Rattle.std.specs.Prelude.{◌≡◌, chars};
 ghost use Rattle.vortex_model.specs.Like.{is_like, has_backslash, matches, some_end};
-ghost use Rattle.vortex_stats_like.specs.Pieces.{Meets};
+ghost use Rattle.vortex_stats_like.specs.Pieces.{IsBefore, IsHead, Meets, GoesOn};
 
 /// How a pattern meets a text, up to the first `%` of the pattern.
 enum Piece<'a, 'b> {
@@ -47,6 +48,33 @@ fn meet<'a, 'b>(pattern: &'a str, text: &'b str) -> Piece<'a, 'b>
     }
 }
 
+// The pattern before the first such sign, and the whole where there is none.
+fn before(pattern: &str, sign: char) -> &str
+    ensures { IsBefore sign pattern.now result.now }
+{
+    match pattern.find(sign) {
+        Some(place) => &pattern[..place],
+        None => pattern,
+    }
+}
+
+// The characters that the pattern begins with before its first sign.
+fn head_of(pattern: &str) -> &str
+    ensures { IsHead pattern.now result.now }
+{
+    before(before(pattern, '%'), '_')
+}
+
+// The text from the first place on where the head of the pattern stands: no end before it matches.
+fn next_place<'t>(pattern: &str, text: &'t str) -> Option<&'t str>
+    ensures { GoesOn (chars pattern.now) (chars text.now) result }
+{
+    match text.find(head_of(pattern)) {
+        Some(place) => Some(&text[place..]),
+        None => None,
+    }
+}
+
 // Whether some end of the text, the whole and the empty one too, matches the pattern.
 fn has_end_like(pattern: &str, text: &str) -> bool
     ensures { result ≡ some_end (matches (chars pattern.now)) (chars text.now) }
@@ -58,7 +86,10 @@ fn has_end_like(pattern: &str, text: &str) -> bool
         if pattern.is_empty() {
             return true;
         }
-        match meet(pattern, text) {
+        let Some(place) = next_place(pattern, text) else {
+            return false;
+        };
+        match meet(pattern, place) {
             Piece::IsWhole => return true,
             Piece::Wildcard {
                 pattern: behind,
@@ -68,7 +99,7 @@ fn has_end_like(pattern: &str, text: &str) -> bool
                 text = left;
             }
             Piece::Differs => {
-                let mut letters = text.chars();
+                let mut letters = place.chars();
                 match letters.next() {
                     None => return false,
                     Some(_) => text = letters.as_str(),

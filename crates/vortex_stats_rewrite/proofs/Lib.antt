@@ -1,6 +1,5 @@
 pub mod Falsifiers
 pub mod Outside
-pub mod Placeholders
 pub mod Rounds
 pub mod Signs
 pub mod StatsOfLiterals

@@ -1,4 +1,3 @@
-pub mod Classes
 pub mod Guards
 pub mod Literals
 pub mod Patterns

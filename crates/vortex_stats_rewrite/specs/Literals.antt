@@ -1,17 +1,8 @@
--- Literals: what they are, and the proofs from them, by what they say.
-use Rattle.std.specs.Prelude.{ℕ, List, Option, Some, None, Bool, true, false, not}
-use Rattle.vortex_model.specs.Content.{Content, boolean, text}
-use Rattle.vortex_model.specs.Expression.{Expression, literal}
+-- The proofs from literals, by what they say.
+use Rattle.std.specs.Prelude.{Option, Some, None, not}
+use Rattle.vortex_model.specs.Content.{Content, boolean}
+use Rattle.vortex_model.specs.Expression.{Expression}
 use Rattle.vortex_model.specs.Rewrite.{boolean_literal}
-
-abbrev pub is_literal : Expression → Bool
-is_literal (literal k c) = true
-is_literal e = false
-
--- the text that a literal is
-abbrev pub text_of_literal : Expression → Option (List ℕ)
-text_of_literal (literal k (text t)) = Some t
-text_of_literal e = None
 
 abbrev pub literal_falsifier : Content → Option Expression
 literal_falsifier (boolean b) = Some (boolean_literal (not b))

@@ -15,14 +15,15 @@ ghost use Rattle.vortex_stats_stat.specs.Aggregate.{aggregate_of};
 ghost use Rattle.vortex_stats_rewrite.specs.Guards.{guard_of, kept_from_nan};
 
 use crate::joined::{either_proof, join_proofs, one, two};
-use crate::stats::{as_literal, bound, count, placeholder};
-use crate::typing::{has_bounds, is_of_floats};
+use crate::stats::{bound, count, placeholder};
 use std::alloc::{AllocError, Global};
 use vortex_dtype_core::dtype::DType;
 use vortex_stats_expr::expression::{Expression, and, compare, eq, or};
 use vortex_stats_expr::operator::Comparison;
 use vortex_stats_expr::options::BetweenOptions;
 use vortex_stats_stat::aggregate::AggregateFn;
+use vortex_stats_typing::classes::{has_bounds, is_of_floats};
+use vortex_stats_typing::literal::as_literal;
 
 /// The proof of BETWEEN is that of AND of its comparisons with the lower and the upper end, as
 /// Vortex's `BetweenStatsRewrite`.

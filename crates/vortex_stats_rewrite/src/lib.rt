@@ -8,4 +8,3 @@ mod like_variant;
 mod nulls;
 pub mod rewrite;
 mod stats;
-pub mod typing;

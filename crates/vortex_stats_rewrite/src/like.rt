@@ -1,12 +1,11 @@
 //! Proofs that a LIKE is true of no row.
-ghost use Rattle.std.specs.Prelude.{◌≡◌, Some, IfOk, chars, string_bytes, option_copied};
+ghost use Rattle.std.specs.Prelude.{◌≡◌, Some, IfOk, chars, string_bytes};
 ghost use Rattle.vortex_model.specs.Expression.{at_least};
 ghost use Rattle.vortex_model.specs.Rewrite.{exact_text, beginning, shape_of, shape_falsifier, outside, like_falsifier};
 ghost use Rattle.vortex_stats_expr.specs.Tree.{comparison_of};
-ghost use Rattle.vortex_stats_rewrite.specs.Literals.{text_of_literal};
 
 use crate::like_variant::{LikeVariant, like_variant};
-use crate::stats::{as_literal, bound, text};
+use crate::stats::{bound, text};
 use std::alloc::{AllocError, Global};
 use std::string::String;
 use vortex_dtype_core::BufferString;
@@ -15,6 +14,7 @@ use vortex_stats_expr::expression::{Expression, compare, lt, or};
 use vortex_stats_expr::operator::Comparison;
 use vortex_stats_expr::options::LikeOptions;
 use vortex_stats_stat::aggregate::AggregateFn;
+use vortex_stats_typing::literal::literal_text;
 
 /// Vortex's `LikeStatsRewrite`. `None` where the LIKE is negated or ignores case, where its pattern
 /// is no literal text or ends in a lone backslash, and where it begins with a wildcard or with a
@@ -31,16 +31,10 @@ pub(crate) fn falsify_like(
     if options.negated || options.case_insensitive {
         return Ok(None);
     }
-    match text_of_literal(pattern) {
+    match literal_text(pattern) {
         Some(pattern) => falsify_pattern(alloc, x, pattern.as_str()),
         None => Ok(None),
     }
-}
-
-fn text_of_literal(e: &Expression) -> Option<&BufferString>
-    ensures { option_copied result ≡ text_of_literal e.now }
-{
-    as_literal(e)?.value()?.as_utf8()
 }
 
 fn falsify_pattern(

@@ -7,11 +7,11 @@ ghost use Rattle.vortex_dtype_core.specs.View.{type_of};
 
 use crate::joined::two;
 use crate::stats::{count, nan_count, null_count, placeholder};
-use crate::typing::is_of_floats;
 use std::alloc::{AllocError, Global};
 use vortex_dtype_core::dtype::DType;
 use vortex_stats_expr::expression::{Expression, eq, row_count};
 use vortex_stats_stat::aggregate::AggregateFn;
+use vortex_stats_typing::classes::is_of_floats;
 
 /// No value is null. This falsifies IS NULL, by Vortex's `IsNullNullCountStatsRewrite` and
 /// `IsNullAllNonNullStatsRewrite`, and satisfies IS NOT NULL, by `IsNotNullNullCountStatsRewrite`

@@ -1,11 +1,9 @@
 //! Statistics of expressions, as proofs ask for them. Those of a literal are known; placeholders
 //! stand for all others.
-ghost use Rattle.std.specs.Prelude.{◌≡◌, IfOk, IfSome, is_some};
-ghost use Rattle.vortex_model.specs.Expression.{literal, statistic};
+ghost use Rattle.std.specs.Prelude.{◌≡◌, IfOk};
+ghost use Rattle.vortex_model.specs.Expression.{statistic};
 ghost use Rattle.vortex_model.specs.Rewrite.{boolean_literal, count_literal, text_literal, bound_expression, null_count_expression, nan_count_expression};
-ghost use Rattle.vortex_scalar_core.specs.Scalar.{scalar_type, scalar_content};
 ghost use Rattle.vortex_stats_stat.specs.Aggregate.{aggregate_of};
-ghost use Rattle.vortex_stats_rewrite.specs.Literals.{is_literal};
 
 use std::alloc::{AllocError, Global};
 use vortex_dtype_core::BufferString;
@@ -16,30 +14,9 @@ use vortex_scalar_builders::constructors::ScalarConstructors;
 use vortex_scalar_core::scalar::Scalar;
 use vortex_scalar_value::pvalue::PValue;
 use vortex_scalar_value::scalar_value::ScalarValue;
-use vortex_stats_expr::expression::{Expression, Node, lit, stat};
+use vortex_stats_expr::expression::{Expression, lit, stat};
 use vortex_stats_stat::aggregate::AggregateFn;
-
-pub(crate) fn as_literal(e: &Expression) -> Option<&Scalar>
-    ensures form { is_some result ≡ is_literal e.now }
-    ensures value { IfSome result
-        (λ value. e.now ≡ literal (scalar_type value.now) (scalar_content value.now)) }
-{
-    match &e.node {
-        Node::Literal(value) => Some(value),
-        Node::Column(_) => None,
-        Node::Compare(_, _, _) => None,
-        Node::And(_, _) => None,
-        Node::Or(_, _) => None,
-        Node::Not(_) => None,
-        Node::IsNull(_) => None,
-        Node::IsNotNull(_) => None,
-        Node::IsNan(_) => None,
-        Node::Between(_, _, _, _) => None,
-        Node::Like(_, _, _) => None,
-        Node::RowCount => None,
-        Node::Stat(_, _) => None,
-    }
-}
+use vortex_stats_typing::literal::as_literal;
 
 /// The least or the greatest value. Each of a literal is the literal itself.
 #[tactic(auto, using(crate::proofs::StatsOfLiterals::bounds))]

@@ -18,5 +18,3 @@ packed bits (by_array a) e = absurd (cc (e))
 
 pub none_valid : (n : ℕ) → replicate n false ≡ map (is_valid all_null) (range_with_len 0 n)
 none_valid n = splat_is_map (range_with_len 0 n) n false (length-range_with_len 0 n)
-
-pub ruleset ordered = (in_order)

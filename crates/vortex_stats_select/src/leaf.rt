@@ -6,7 +6,7 @@ ghost use Rattle.vortex_arrays_view.specs.Views.{value_of};
 ghost use Rattle.vortex_stats_mask.specs.Columns.{contents_of, column_of};
 ghost use Rattle.vortex_stats_select.specs.Leaves.{leaf_values, leaf_rows};
 
-use crate::validity::{unpacked, valid_rows_of};
+use crate::validity::valid_rows_of;
 use bytes::Bytes;
 use std::alloc::{AllocError, Global};
 use std::rc::Rc;
@@ -85,7 +85,7 @@ pub(crate) fn leaf_of(alloc: Global, array: &ArrayRef) -> Result<Option<Leaf>, A
     match array.layout() {
         ArrayLayout::Bool(bits, validity) => {
             let validity = valid_rows_of(alloc, validity, bits.len())?;
-            let items = LeafItems::Bools(unpacked(alloc, bits)?);
+            let items = LeafItems::Bools(bits.to_bools(alloc)?);
             Ok(Some(Leaf { items, validity }))
         }
         ArrayLayout::Primitive(numbers, validity) => {

@@ -1,21 +1,12 @@
 //! Validities, a byte for each row.
-ghost use Rattle.std.specs.Prelude.{◌≡◌, ℕ, true, false, length, map, slice_index_or, IfOk, MatchOption};
+ghost use Rattle.std.specs.Prelude.{◌≡◌, ℕ, true, map, IfOk, MatchOption};
 ghost use Rattle.std.specs.List.{range_with_len};
 ghost use Rattle.vortex_arrays_model.specs.Layout.{is_valid, by_array, len_of, HasLength};
 ghost use Rattle.vortex_arrays_core.specs.LayoutOf.{valid_of};
 
 use std::alloc::{AllocError, Global};
-use vortex_arrays_buffer::BitBuffer;
 use vortex_arrays_core::array::{ArrayLayout, ArrayRef, Validity};
 use vortex_stats_mask::masks::no_rows;
-
-// A byte for each bit.
-pub(crate) fn unpacked(alloc: Global, bits: &BitBuffer) -> Result<Vec<bool>, AllocError>
-    ensures { IfOk result (λ items. items.items
-        ≡ map (λ i. slice_index_or bits.now i false) (range_with_len 0 (length bits.now))) }
-{
-    (0..bits.len()).map(|i| bits.value(i)).collect(alloc)
-}
 
 // Which rows of an array of truth values are true, by a look at each row.
 fn looked_up(alloc: Global, rows: &ArrayRef) -> Result<Vec<bool>, AllocError>
@@ -31,7 +22,7 @@ fn truths_of(alloc: Global, rows: &ArrayRef) -> Result<Vec<bool>, AllocError>
         ≡ map (is_valid (by_array rows.now)) (range_with_len 0 (len_of rows.now))) }
 {
     match rows.layout() {
-        ArrayLayout::Bool(bits, _) => unpacked(alloc, bits),
+        ArrayLayout::Bool(bits, _) => bits.to_bools(alloc),
         ArrayLayout::Primitive(_, _) => looked_up(alloc, rows),
         ArrayLayout::VarBinView(_, _, _, _) => looked_up(alloc, rows),
         ArrayLayout::Constant(_, _) => looked_up(alloc, rows),

@@ -1,3 +1,4 @@
 pub mod Columns
 pub mod Patterns
+pub mod Placeholders
 pub mod Typed

@@ -1,14 +1,13 @@
 -- Patterns that are literal texts.
 use Rattle.std.proofs.Common.{◌≡◌, Some, None, true, not, refl}
-use Rattle.vortex_model.specs.LogicalType.{LogicalType}
-use Rattle.vortex_model.specs.Content.{Raw, raw_text, content_of}
-use Rattle.vortex_model.specs.Expression.{literal}
+use Rattle.vortex_model.specs.Content.{text}
+use Rattle.vortex_model.specs.Expression.{Expression, literal}
 use Rattle.vortex_model.specs.Like.{has_backslash}
 use Rattle.vortex_model.specs.Truth.{is_free_of_backslash}
-use Rattle.vortex_scalar_value.specs.Parts.{text_in}
+use Rattle.vortex_stats_typing.specs.Literals.{text_of_literal}
 
-pub by_text : (k : LogicalType) (r : Raw) → is_free_of_backslash (literal k (content_of r)) ≡ elim (text_in r) [ None ↦ true | Some bs ↦ not (has_backslash bs) ]
-by_text k (raw_text bs) = refl
-by_text k r = refl
+pub by_text : (e : Expression) → is_free_of_backslash e ≡ elim (text_of_literal e) [ None ↦ true | Some bs ↦ not (has_backslash bs) ]
+by_text (literal k (text bs)) = refl
+by_text e = refl
 
 pub ruleset literal_texts = (by_text)

@@ -3,5 +3,7 @@
 
 mod aggregate;
 pub mod check;
+pub mod classes;
 mod column;
+pub mod literal;
 mod pattern;

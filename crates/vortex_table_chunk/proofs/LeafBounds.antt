@@ -124,3 +124,12 @@ found_bounds L (js ∷ leaves) (d ∷ bounds) rows is b h e = by_test (eq_positi
         (bounds_at leaves bounds is ≡ Some b → IsBoundsOf (L is) b (values_at is rows)) → IsBoundsOf (L is) b (values_at is rows)
     by_test true at s f = subst (λ x. IsBoundsOf (L is) x (values_at is rows)) (same d b s) (subst (λ ks. IsBoundsOf (L ks) d (values_at ks rows)) (positions_so js is at) h.0)
     by_test false at s f = f s
+
+-- what stands at a place are the bounds of the leaf at that place
+pub placed_bounds : (lengths : List ℕ) (leaves : List Positions) (bounds : List ColumnBounds) (rows : List Content) (i L : ℕ) (is : Positions) (b : ColumnBounds) → AreBoundsOf lengths leaves bounds rows →
+    i < length bounds → L ≡ get_or lengths i L → is ≡ get_or leaves i is → b ≡ get_or bounds i b → IsBoundsOf L b (values_at is rows)
+placed_bounds [] [] [] rows i L is b h l p q r = absurd (omega (arith, l))
+placed_bounds (M ∷ lengths) (js ∷ leaves) (d ∷ bounds) rows zero L is b h l p q r =
+    subst (λ n. IsBoundsOf n b (values_at is rows)) (sym p) (subst (λ ks. IsBoundsOf M b (values_at ks rows)) (sym q) (subst (λ x. IsBoundsOf M x (values_at js rows)) (sym r) h.0))
+placed_bounds (M ∷ lengths) (js ∷ leaves) (d ∷ bounds) rows (suc i) L is b h l p q r = placed_bounds lengths leaves bounds rows i L is b h.1 (omega (arith, l)) p q r
+placed_bounds lengths leaves bounds rows i L is b h l p q r = absurd h

@@ -5,6 +5,5 @@ pub mod JoinLists
 pub mod JoinedLemmas
 pub mod LeafBounds
 pub mod LeafPlaces
-pub mod Parts
 pub mod ProvenAlike
 pub mod TypedRows

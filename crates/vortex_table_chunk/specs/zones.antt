@@ -1,5 +1,6 @@
 pub mod Bounds
 pub mod Constancy
 pub mod Join
+pub mod Kinds
 pub mod StatValue
 pub mod Sums

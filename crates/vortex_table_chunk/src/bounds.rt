@@ -13,16 +13,20 @@ ghost use Rattle.vortex_table_chunk.specs.zones.Bounds.{IsBoundsOf};
 ghost use Rattle.vortex_table_chunk.specs.zones.Sums.{int_kind_of};
 ghost use Rattle.vortex_table_chunk.specs.Bounds.{AreBoundsOf, are_sums_of};
 
-use crate::part::part_at_positions;
 use crate::zones::bounds::ColumnBounds;
 use std::alloc::{AllocError, Global};
 use vortex_arrays_core::array::ArrayRef;
+use vortex_arrays_struct::part::part_at_positions;
 use vortex_stats_array::array_stats::ArrayStats;
 use vortex_stats_array::of_array::array_stats;
 use vortex_table_schema::leaves::LeafPath;
 
-// The column of the leaf at these positions.
-fn leaf_column(alloc: Global, array: &ArrayRef, leaf: &[usize]) -> Result<ArrayRef, AllocError>
+/// The column of the leaf at these positions.
+pub(crate) fn leaf_column(
+    alloc: Global,
+    array: &ArrayRef,
+    leaf: &[usize],
+) -> Result<ArrayRef, AllocError>
     requires { is_leaf_at (array_type_of array.now) leaf.now ≡ true }
     ensures part { IfOk result (λ column. IsPart array.now leaf.now column) }
     ensures leaf { IfOk result (λ column. is_leaf (array_type_of column) ≡ true) }
@@ -33,7 +37,12 @@ fn leaf_column(alloc: Global, array: &ArrayRef, leaf: &[usize]) -> Result<ArrayR
     Ok(column)
 }
 
-fn leaf_stats(alloc: Global, column: &ArrayRef, max_length: usize) -> Result<ArrayStats, AllocError>
+/// The statistics of a leaf column, taken from its rows.
+pub(crate) fn leaf_stats(
+    alloc: Global,
+    column: &ArrayRef,
+    max_length: usize,
+) -> Result<ArrayStats, AllocError>
     requires { is_leaf (array_type_of column.now) ≡ true }
     ensures { IfOk result (λ stats. zone_in stats
         ≡ zone_of (array_type_of column.now) max_length (rows_of column.now)) }

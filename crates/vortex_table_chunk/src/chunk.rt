@@ -35,9 +35,36 @@ pub struct Chunk {
             (rows_of array) },
 }
 
+/// The chunk of these rows, with statistics that are theirs.
+#[tactic(auto, using(crate::proofs::TypedRows::passed))]
+pub(crate) fn with_bounds(
+    leaves: &Rc<Vec<LeafPath>>,
+    lengths: &Rc<Vec<usize>>,
+    array: ArrayRef,
+    bounds: Vec<ColumnBounds>,
+) -> Result<Chunk, AllocError>
+    requires { AreBoundsOf lengths.now.value.items leaves.now.value.items bounds.items
+        (rows_of array) }
+    ensures array { IfOk result (λ chunk. chunk.array ≡ array) }
+    ensures leaves { IfOk result (λ chunk. chunk.leaves.value.items ≡ leaves.now.value.items) }
+    ensures lengths { IfOk result (λ chunk. chunk.lengths.value.items ≡ lengths.now.value.items) }
+    ensures bounds { IfOk result (λ chunk. chunk.bounds.items ≡ bounds.items) }
+{
+    let leaves = leaves.clone()?;
+    let lengths = lengths.clone()?;
+    // Both tell the proof that the rows are of the array's type.
+    let _ = array.len();
+    tests_of_validity_are_right();
+    Ok(Chunk {
+        array,
+        leaves,
+        lengths,
+        bounds,
+    })
+}
+
 /// A chunk of these rows, whose type has these leaf columns. A bound that is a text or bytes is
 /// shortened to as many bytes as `lengths` has for its leaf column.
-#[tactic(auto, using(crate::proofs::TypedRows::passed))]
 pub fn new_chunk(
     alloc: Global,
     leaves: &Rc<Vec<LeafPath>>,
@@ -53,17 +80,8 @@ pub fn new_chunk(
         (are_sums_of (array_type_of array) chunk.leaves.value.items chunk.bounds.items)) }
 {
     let bounds = all_bounds(alloc, &array, leaves, lengths)?;
-    let leaves = leaves.clone()?;
-    let lengths = lengths.clone()?;
-    // Both tell the proof that the rows are of the array's type.
-    let _ = array.len();
-    tests_of_validity_are_right();
-    Ok(Chunk {
-        array,
-        leaves,
-        lengths,
-        bounds,
-    })
+    let chunk = with_bounds(leaves, lengths, array, bounds)?;
+    Ok(chunk)
 }
 
 /// The statistics of the column at this path, and `None` where it is no leaf column. `bounds` has

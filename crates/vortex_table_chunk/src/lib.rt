@@ -3,5 +3,5 @@
 
 pub mod bounds;
 pub mod chunk;
-pub mod part;
+pub mod retyped;
 pub mod zones;

@@ -1,5 +1,5 @@
 //! Statistics of one leaf column in the rows of a chunk.
 pub mod bounds;
+pub mod carried;
 pub mod join;
 mod order;
-mod sum_type;

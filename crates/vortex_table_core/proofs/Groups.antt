@@ -69,6 +69,9 @@ all_behind p zero xs h = h
 all_behind p (suc n) [] h = refl
 all_behind p (suc n) (x ∷ xs) h = all_behind p n xs (true_right (p x) (list_all p xs) h)
 
+pub formed_among : (p : Chunk → Bool) (first count : ℕ) (xs : List Chunk) → list_all p xs ≡ true → list_all p (take count (drop first xs)) ≡ true
+formed_among p first count xs h = all_in_front p count (drop first xs) (all_behind p first xs h)
+
 pub formed_in : (p : Chunk → Bool) (g : Group) (xs : List Chunk) → list_all p xs ≡ true → list_all p (chunks_of xs g) ≡ true
 formed_in p g xs h = all_in_front p g.chunks (drop g.first xs) (all_behind p g.first xs h)
 
@@ -270,12 +273,19 @@ module _ (plan : Scan) where
     groups = plan.table.now.grouped;
   }
 
+  pub starts_with_none : (a : ScanAnswer) (none : a ≡ no_answer (k plan) (paths plan)) → (at_start a none).start ≡ 0
+  unfolding at_start
+  starts_with_none a none = refl
+
   module _ (j : ℕ) (g : Group) (a : ScanAnswer) (inside : j < length groups) (is : g ≡ get_or groups j g) (reached : Reached plan j a) where
     next : drop j groups ≡ g ∷ drop (suc j) groups
     next = drop-cons groups j g inside ∙ ap (λ x. x ∷ drop (suc j) groups) (sym is)
 
     here : AreGroups (k plan) (bound_length (t plan)) reached.start (g ∷ drop (suc j) groups) (drop reached.start chunks)
     here = subst (λ gs. AreGroups (k plan) (bound_length (t plan)) reached.start gs (drop reached.start chunks)) next reached.groups
+
+    pub first_here : g.first ≡ reached.start
+    first_here = here.0
 
     same_chunks : take g.chunks (drop reached.start chunks) ≡ chunks_of chunks g
     same_chunks = ap (λ n. take g.chunks (drop n chunks)) (sym here.0)
@@ -330,6 +340,10 @@ module _ (plan : Scan) where
           subst (λ m. AreGroups (k plan) (bound_length (t plan)) behind (drop m groups) (drop behind chunks)) (sym (add-one j))
           (subst (λ cs. AreGroups (k plan) (bound_length (t plan)) behind (drop (suc j) groups) cs) (drop_on reached.start g.chunks chunks) here.2);
     }
+
+    pub starts_behind : (b : ScanAnswer) (made : b ≡ with_group (t plan) (paths plan) (e plan) g.first own a) → (one_on b made).start ≡ reached.start + g.chunks
+    unfolding one_on
+    starts_behind b made = refl
 
   pub at_end : (j : ℕ) (a : ScanAnswer) → length groups ≤ j → Reached plan j a → a ≡ scanned (t plan) (paths plan) (e plan)
   at_end j a done reached =

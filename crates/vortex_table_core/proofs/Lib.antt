@@ -7,6 +7,7 @@ pub mod Progress
 pub mod Proven
 pub mod PushedGroups
 pub mod Rows
+pub mod Stretches
 pub mod Groups
 pub mod OwnType
 pub mod Rearrayed

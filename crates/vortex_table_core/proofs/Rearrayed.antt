@@ -17,6 +17,8 @@ use Rattle.vortex_table_chunk.specs.Formed.{is_formed, eq_leaves, are_lengths_of
 use Rattle.vortex_table_chunk.specs.Joined.{AreJoined, rows_in}
 use Rattle.vortex_table_chunk.specs.declared.chunk.Chunk.{Chunk}
 use Rattle.vortex_table_chunk.specs.declared.zones.bounds.ColumnBounds.{ColumnBounds}
+use Rattle.vortex_table_chunk.proofs.TypedRows.{chunk_counted}
+use Rattle.vortex_table_zonemaps.specs.Zones.{zone_of}
 use Rattle.vortex_table_layout.specs.Compacted.{IsCompacted, HasTooManyItems}
 use Rattle.vortex_table_core.specs.Arrays.{AreAllCompacted, AnyHasTooManyItems}
 use Rattle.vortex_table_core.specs.Group.{HasStatistics, IsGroup, AreGroups}
@@ -142,6 +144,17 @@ bounds_again [] [] (d ∷ new) w = absurd w
 bounds_again [] (a ∷ arrays) new w = absurd w
 bounds_again (c ∷ old) [] new w = absurd w
 bounds_again (c ∷ old) (a ∷ arrays) [] w = absurd w
+
+pub zones_again : (old : List Chunk) (arrays : List Layout) (new : List Chunk) → AreWithArrays old arrays new → map chunk_rows new ≡ map chunk_rows old → map zone_of new ≡ map zone_of old
+zones_again [] [] [] w e = refl
+zones_again (c ∷ old) (a ∷ arrays) (d ∷ new) w e =
+    let rows = heads (chunk_rows d) (chunk_rows c) (map chunk_rows new) (map chunk_rows old) e in
+    let rest = tails (chunk_rows d) (chunk_rows c) (map chunk_rows new) (map chunk_rows old) e in
+    λ i. ((w.0.bounds i).items, (sym (chunk_counted d) ∙ ap length rows ∙ chunk_counted c) i) ∷ zones_again old arrays new w.1 rest i
+zones_again [] [] (d ∷ new) w e = absurd w
+zones_again [] (a ∷ arrays) new w e = absurd w
+zones_again (c ∷ old) [] new w e = absurd w
+zones_again (c ∷ old) (a ∷ arrays) [] w e = absurd w
 
 pub rows_fused : (chunks : List Chunk) → map rows_of (map (λ (c : Chunk). c.array) chunks) ≡ map chunk_rows chunks
 rows_fused [] = refl

@@ -1,5 +1,5 @@
 -- What is made of a scan once, before its chunks.
-use Rattle.std.specs.Prelude.{◌≡◌, List, None}
+use Rattle.std.specs.Prelude.{◌≡◌, ℕ, List, None, Bool, map, take, drop}
 use Rattle.vortex_model.specs.LogicalType.{LogicalType}
 use Rattle.vortex_model.specs.Content.{Content}
 use Rattle.vortex_model.specs.Path.{Names}
@@ -12,8 +12,11 @@ use Rattle.vortex_model.specs.Table as model
 use Rattle.vortex_dtype_core.specs.View.{type_of}
 use Rattle.vortex_stats_bind.specs.Bound.{bound_value}
 use Rattle.vortex_table_chunk.specs.Proved.{IsBoundProof}
+use Rattle.vortex_table_chunk.specs.declared.chunk.Chunk.{Chunk}
 use Rattle.vortex_table_schema.specs.Leaves.{leaf_positions}
 use Rattle.vortex_table_schema.specs.Cut.{paths_of, tree_of, kept_by}
+use Rattle.vortex_table_zonemaps.specs.Stretch.{proved_at}
+use Rattle.vortex_table_zonemaps.specs.Zones.{zone_of}
 use Rattle.vortex_table_zones.specs.Zone.{IsResolved}
 use Rattle.vortex_table_core.specs.TableView.{table_of}
 use Rattle.vortex_table_core.specs.declared.plan.Scan.{Scan}
@@ -48,3 +51,17 @@ pub record IsPlan (plan : Scan) : Type 0 where
       plan.prepared.now.proofs.falsifier plan.falsifier
   pub satisfier : IsResolved (leaf_positions (table_in plan).kind)
       plan.prepared.now.proofs.satisfier plan.satisfier
+
+-- ---- neighbouring chunks
+
+abbrev pub stretch_of : Scan → ℕ → ℕ → List Chunk
+stretch_of plan first count = take count (drop first plan.table.now.chunks.items)
+
+-- whether the statistics of a chunk make the falsifier true
+abbrev pub falsified_by : Scan → Chunk → Bool
+falsified_by plan chunk =
+    proved_at (leaf_positions (table_in plan).kind) plan.falsifier (zone_of chunk)
+
+-- the same of each
+abbrev pub falsified_in : Scan → List Chunk → List Bool
+falsified_in plan chunks = map (falsified_by plan) chunks

@@ -66,7 +66,7 @@ impl Scan<'_> {
     ghost use Rattle.vortex_table_chunk.specs.Chunk.{chunk_rows};
     ghost use Rattle.vortex_table_zones.specs.Zone.{zone_proved};
     ghost use Rattle.vortex_table_core.specs.Outcome.{outcome_of};
-    ghost use Rattle.vortex_table_core.specs.Plan.{IsPlan, table_in, paths_in, predicate_in};
+    ghost use Rattle.vortex_table_core.specs.Plan.{IsPlan, table_in, paths_in, predicate_in, falsified_by};
     ghost use Rattle.vortex_table_core.specs.Progress.{with_chunk, found_rows, proofs_at};
     ghost use Rattle.vortex_table_chunk.specs.Formed.{is_formed};
 
@@ -84,19 +84,19 @@ impl Scan<'_> {
     }
 
     // The satisfier is asked only where the falsifier fails.
-    fn outcome(&self, chunk: &Chunk) -> Pruning
+    fn outcome(&self, chunk: &Chunk, falsified: bool) -> Pruning
         requires plan { IsPlan self.now }
         requires formed { IsTrue
             (is_formed (bound_length (table_in self.now)) (table_in self.now).kind chunk.now) }
+        requires falsified { falsified ≡ falsified_by self.now chunk.now }
         ensures { outcome_of result ≡ chunk_outcome (table_in self.now)
             (predicate_in self.now) (chunk_rows chunk.now) }
     {
-        let bounds = chunk.bounds.as_slice();
-        let rows = chunk.array.len();
-        let falsified = self.proves(bounds, rows, &self.falsifier);
         if falsified {
             return Pruning::Skip;
         }
+        let bounds = chunk.bounds.as_slice();
+        let rows = chunk.array.len();
         let satisfied = self.proves(bounds, rows, &self.satisfier);
         if satisfied {
             return Pruning::TakeAll;
@@ -158,17 +158,19 @@ impl Scan<'_> {
     }
 
     /// Adds to the answer the selected rows of the chunk, and its counts. `number` is the index of
-    /// the chunk in the table.
+    /// the chunk in the table, and `falsified` whether its statistics make the falsifier true.
     pub fn add_chunk(
         &self,
         alloc: Global,
         number: usize,
         chunk: &Chunk,
+        falsified: bool,
         answer: &mut ScanAnswer,
     ) -> Result<(), AllocError>
         requires plan { IsPlan self.now }
         requires formed { IsTrue
             (is_formed (bound_length (table_in self.now)) (table_in self.now).kind chunk.now) }
+        requires falsified { falsified ≡ falsified_by self.now chunk.now }
         requires typed { All (λ row. scalar_type row ≡ type_of self.now.prepared.now.cut.dtype)
             answer.old.rows.items }
         ensures found { OnOk result (answer_of answer.new ≡ with_chunk (table_in self.now).kind
@@ -179,7 +181,7 @@ impl Scan<'_> {
             (All (λ row. scalar_type row ≡ type_of self.now.prepared.now.cut.dtype)
             answer.new.rows.items) }
     {
-        let outcome = self.outcome(chunk);
+        let outcome = self.outcome(chunk, falsified);
         self.find_rows(alloc, chunk, outcome, &mut answer.rows)?;
         push_if(outcome.is_skipped(), number, &mut answer.skipped)?;
         push_if(outcome.is_whole(), number, &mut answer.whole)?;

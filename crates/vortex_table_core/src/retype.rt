@@ -19,6 +19,7 @@ use vortex_table_chunk::chunk::Chunk;
 use vortex_table_chunk::zones::bounds::ColumnBounds;
 use vortex_table_retype::retyping::Retyping;
 use vortex_table_schema::leaves::{LeafPath, leaf_positions};
+use vortex_table_zonemaps::zone_maps::ZoneMaps;
 
 // The statistics of the group's converted chunks, which are among these. One chunk has its own.
 fn joined_again(
@@ -182,11 +183,13 @@ impl Table {
         let leaves = leaf_positions(alloc, &dtype)?;
         let lengths = self.bound_lengths.of_leaves(alloc, &leaves)?;
         let (chunks, groups) = self.converted(alloc, &dtype, &leaves, &lengths)?;
+        let zones = ZoneMaps::of_chunks(alloc, leaves.len(), &chunks)?;
         self.dtype = dtype;
         self.leaves = leaves;
         self.lengths = lengths;
         self.chunks = chunks;
         self.groups = groups;
+        self.zones = zones;
         Ok(())
     }
 }

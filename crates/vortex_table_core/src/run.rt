@@ -8,6 +8,7 @@ use crate::plan::Scan;
 use std::alloc::{AllocError, Global};
 use vortex_table_chunk::chunk::Chunk;
 use vortex_table_schema::answer::ScanAnswer;
+use vortex_table_zonemaps::proved::{Stretch, proved_zones};
 
 // Adds the numbers of so many chunks, of which the first has the number `first`.
 fn push_numbers(first: usize, count: usize, numbers: &mut Vec<usize>) -> Result<(), AllocError>
@@ -32,7 +33,7 @@ impl Scan<'_> {
     ghost use Rattle.vortex_table_chunk.specs.Chunk.{chunk_rows};
     ghost use Rattle.vortex_table_chunk.specs.declared.chunk.Chunk.{Chunk};
     ghost use Rattle.vortex_table_core.specs.Group.{IsGroup, chunks_of};
-    ghost use Rattle.vortex_table_core.specs.Plan.{IsPlan, table_in, paths_in, predicate_in};
+    ghost use Rattle.vortex_table_core.specs.Plan.{IsPlan, table_in, paths_in, predicate_in, stretch_of, falsified_in};
     ghost use Rattle.vortex_table_core.specs.Progress.{with_chunks, with_group, is_group_skipped};
     ghost use Rattle.vortex_table_chunk.specs.Formed.{is_formed};
 
@@ -66,24 +67,44 @@ impl Scan<'_> {
         }
     }
 
-    fn chunks_of<'a>(&'a self, group: &Group) -> &'a [Chunk]
-        requires { group.now.first + group.now.chunks ≤ length self.now.table.now.chunks.items }
-        ensures { result.now ≡ chunks_of self.now.table.now.chunks.items group.now }
+    // So many neighbouring chunks, of which the first has the number `first`.
+    fn chunks_in<'a>(&'a self, first: usize, count: usize) -> &'a [Chunk]
+        requires { first + count ≤ length self.now.table.now.chunks.items }
+        ensures { result.now ≡ stretch_of self.now first count }
     {
-        &self.table.chunks.as_slice()[group.first..group.first + group.chunks]
+        &self.table.chunks.as_slice()[first..first + count]
     }
 
-    // `first` is the number of the first of the chunks.
+    // In which of so many neighbouring chunks the statistics make the falsifier true.
+    fn falsified(&self, alloc: Global, first: usize, count: usize) -> Result<Vec<bool>, AllocError>
+        requires { first + count ≤ length self.now.table.now.chunks.items }
+        ensures { IfOk result (λ mask. mask.items
+            ≡ falsified_in self.now (stretch_of self.now first count)) }
+    {
+        let stretch = Stretch {
+            leaves: self.table.leaves.as_slice(),
+            maps: &self.table.zones,
+            chunks: self.table.chunks.as_slice(),
+            first,
+            count,
+        };
+        proved_zones(alloc, &self.falsifier, &stretch)
+    }
+
+    // `first` is the number of the first of the chunks, and `falsified` tells of each whether its
+    // statistics make the falsifier true.
     fn add_chunks(
         &self,
         alloc: Global,
         first: usize,
         chunks: &[Chunk],
+        falsified: &[bool],
         answer: &mut ScanAnswer,
     ) -> Result<(), AllocError>
         requires plan { IsPlan self.now }
         requires formed { IsTrue (list_all
             (is_formed (bound_length (table_in self.now)) (table_in self.now).kind) chunks.now) }
+        requires falsified { falsified.now ≡ falsified_in self.now chunks.now }
         requires fits { first + length chunks.now < 2 ^ 64 }
         requires typed { All (λ row. scalar_type row ≡ type_of self.now.prepared.now.cut.dtype)
             answer.old.rows.items }
@@ -96,8 +117,34 @@ impl Scan<'_> {
             answer.new.rows.items) }
     {
         for (offset, chunk) in chunks.iter().enumerate() {
-            self.add_chunk(alloc, first + offset, chunk, answer)?;
+            self.add_chunk(alloc, first + offset, chunk, falsified[offset], answer)?;
         }
+        Ok(())
+    }
+
+    // Adds so many neighbouring chunks. Their proofs are evaluated at once.
+    fn add_stretch(
+        &self,
+        alloc: Global,
+        first: usize,
+        count: usize,
+        answer: &mut ScanAnswer,
+    ) -> Result<(), AllocError>
+        requires plan { IsPlan self.now }
+        requires within { first + count ≤ length self.now.table.now.chunks.items }
+        requires typed { All (λ row. scalar_type row ≡ type_of self.now.prepared.now.cut.dtype)
+            answer.old.rows.items }
+        ensures found { OnOk result (answer_of answer.new ≡ with_chunks (table_in self.now).kind
+            (paths_in self.now) (predicate_in self.now)
+            (chunk_outcome (table_in self.now) (predicate_in self.now)) first
+            (map chunk_rows (stretch_of self.now first count)) (answer_of answer.old)) }
+        ensures typed { OnOk result
+            (All (λ row. scalar_type row ≡ type_of self.now.prepared.now.cut.dtype)
+            answer.new.rows.items) }
+    {
+        let falsified = self.falsified(alloc, first, count)?;
+        let chunks = self.chunks_in(first, count);
+        self.add_chunks(alloc, first, chunks, &falsified, answer)?;
         Ok(())
     }
 
@@ -130,8 +177,7 @@ impl Scan<'_> {
             push_numbers(group.first, group.chunks, &mut answer.skipped)?;
             return Ok(());
         }
-        let chunks = self.chunks_of(group);
-        self.add_chunks(alloc, group.first, chunks, answer)?;
+        self.add_stretch(alloc, group.first, group.chunks, answer)?;
         Ok(())
     }
 
@@ -151,9 +197,20 @@ impl Scan<'_> {
             proofs: 0,
         };
         let mut groups = self.table.groups.walk();
+        // The chunks of neighbouring groups of one chunk each, which are added together.
+        let mut first = 0;
+        let mut count = 0;
         while let Some(group) = groups.next_item() {
-            self.add_group(alloc, group, &mut answer)?;
+            if group.joined.is_some() {
+                self.add_stretch(alloc, first, count, &mut answer)?;
+                self.add_group(alloc, group, &mut answer)?;
+                first = group.first + group.chunks;
+                count = 0;
+            } else {
+                count += 1;
+            }
         }
+        self.add_stretch(alloc, first, count, &mut answer)?;
         Ok(answer)
     }
 }

@@ -1,5 +1,5 @@
 //! Tables, and the commands that make and fill them.
-ghost use Rattle.std.specs.Prelude.{◌≡◌, IsTrue, is_none};
+ghost use Rattle.std.specs.Prelude.{◌≡◌, IsTrue, is_none, map};
 ghost use Rattle.std.specs.List.{list_all};
 ghost use Rattle.vortex_model.specs.Kept.{type_fault};
 ghost use Rattle.vortex_dtype_core.specs.View.{type_of};
@@ -8,6 +8,7 @@ ghost use Rattle.vortex_table_schema.specs.Leaves.{leaf_positions};
 ghost use Rattle.vortex_table_core.specs.Group.{AreGroups, AreGroups-prop};
 ghost use Rattle.vortex_table_chunk.specs.Formed.{is_formed, eq_leaves, are_lengths_of};
 ghost use Rattle.vortex_table_check.specs.Lengths.{length_in};
+ghost use Rattle.vortex_table_zonemaps.specs.Zones.{zone_of, AreZoneMaps, AreZoneMaps-prop};
 
 use crate::group::Group;
 use std::alloc::Global;
@@ -27,6 +28,7 @@ use vortex_table_chunk::chunk::{Chunk, new_chunk};
 use vortex_table_layout::lay_out::lay_out;
 use vortex_table_schema::layout::Layout;
 use vortex_table_schema::leaves::{LeafPath, leaf_positions};
+use vortex_table_zonemaps::zone_maps::ZoneMaps;
 
 /// A table: rows of one type in chunks, each the rows of one append, and the chunks in groups of
 /// neighbours. It has statistics of the leaf columns of each chunk and of each group.
@@ -40,6 +42,8 @@ pub struct Table {
     pub(crate) len: usize,
     pub(crate) chunks: Vec<Chunk>,
     pub(crate) groups: BlockList<Group>,
+    // The statistics of the chunks that scans read, by leaf.
+    pub(crate) zones: ZoneMaps,
     pub ghost kept: { IsTrue (is_none (type_fault (type_of dtype))) },
     pub ghost led: { IsTrue (eq_leaves leaves.value.items (leaf_positions (type_of dtype))) },
     pub ghost measured: { IsTrue (are_lengths_of (length_in bound_lengths) (type_of dtype)
@@ -50,6 +54,8 @@ pub struct Table {
     pub ghost grouped: { AreGroups (type_of dtype) (length_in bound_lengths) 0 groups
         chunks.items } by { AreGroups-prop (type_of dtype) (length_in bound_lengths) 0 groups
             chunks.items },
+    pub ghost zoned: { AreZoneMaps zones (map zone_of chunks.items) } by { AreZoneMaps-prop zones
+        (map zone_of chunks.items) },
 }
 
 impl Table {
@@ -94,6 +100,7 @@ impl Table {
         let bound_lengths = check_lengths(alloc, &dtype, default, lengths)?;
         let leaves = leaf_positions(alloc, &dtype)?;
         let lengths = bound_lengths.of_leaves(alloc, &leaves)?;
+        let zones = ZoneMaps::new(alloc, leaves.len())?;
         Ok(Table {
             dtype,
             bound_lengths,
@@ -102,6 +109,7 @@ impl Table {
             len: 0,
             chunks: Vec::new(alloc),
             groups: BlockList::new(alloc),
+            zones,
         })
     }
 
@@ -208,15 +216,18 @@ impl Table {
         if rows == 0 {
             return Ok(());
         }
+        let index = self.chunks.len();
         let group = Group {
-            first: self.chunks.len(),
+            first: index,
             chunks: 1,
             rows,
             joined: None,
         };
         let chunk = new_chunk(alloc, &self.leaves, &self.lengths, array)?;
-        // Once there is room for the chunk, its group is the last that memory can be short of.
+        // Once there is room for the chunk, its group is the last that memory can be short of. A
+        // zone that is put behind those of the chunks counts from then on.
         self.chunks.reserve(1)?;
+        self.zones.put(index, &chunk.bounds, rows)?;
         self.groups.push(group)?;
         self.chunks.push(chunk)?;
         self.len = len;

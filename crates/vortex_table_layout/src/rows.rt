@@ -7,7 +7,7 @@ ghost use Rattle.vortex_table_schema.specs.Rows.{row_content};
 ghost use Rattle.vortex_arrays_model.specs.Layout.{len_of, array_type_of, content_at, rows_of};
 
 use std::alloc::{AllocError, Global};
-use vortex_arrays_buffer::error::ArrayError;
+use vortex_arrays_builder::rows::row_value;
 use vortex_arrays_core::array::ArrayRef;
 use vortex_scalar_value::scalar_value::ScalarValue;
 
@@ -38,20 +38,5 @@ pub fn record_at(alloc: Global, array: &ArrayRef, i: usize) -> Result<ScalarValu
     match row_value(alloc, array, i)? {
         Some(row) => Ok(row),
         None => unreachable!(),
-    }
-}
-
-fn row_value(alloc: Global, array: &ArrayRef, i: usize) -> Result<Option<ScalarValue>, AllocError>
-    requires { i < len_of array.now }
-    ensures content { IfOk result (λ row. content_in row ≡ content_at array.now i) }
-    ensures valid { IfOk result (λ row. valid (array_type_of array.now) (raw_in row) ≡ true) }
-{
-    match array.execute_scalar(alloc, i) {
-        Ok(scalar) => {
-            let (_, row) = scalar.into_parts();
-            Ok(row)
-        }
-        Err(ArrayError::Memory) => Err(AllocError),
-        Err(_) => unreachable!(),
     }
 }

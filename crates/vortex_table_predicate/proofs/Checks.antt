@@ -1,7 +1,7 @@
 -- Faults of predicates, arm by arm.
 use Rattle.std.proofs.Common.{◌≡◌, ◌≢◌, ◌⊎◌, inl, inr, Option, Some, None, Result, Ok, Err, Bool, true, false, not, ◌&&◌, refl, sym, ap, ◌∙◌, subst}
 use Rattle.vortex_model.specs.LogicalType.{LogicalType, boolean_type, integer_type, float, decimal, utf8, binary, nullable, eq_int_kind, IntKind, u8, u16, u32, u64, i8, i16, i32, i64}
-use Rattle.vortex_model.specs.Content.{Content, text, Raw, raw_text, content_of}
+use Rattle.vortex_model.specs.Content.{Content, text}
 use Rattle.vortex_model.specs.Like.{has_backslash}
 use Rattle.vortex_model.specs.Refusal.{Refusal, or_else, not_boolean, unequal_types, not_a_leaf, unsupported_like, unsupported_predicate}
 use Rattle.vortex_model.specs.Path.{Names, type_of_column}
@@ -14,9 +14,8 @@ use Rattle.vortex_dtype_ptype.specs.View.{number_kind_of}
 use Rattle.vortex_dtype_ptype.specs.declared.ptype.PType.{PType}
 use Rattle.vortex_dtype_ptype.specs.declared.ptype.PType.TheVariants as ptype
 use Rattle.vortex_table_check.specs.Error.{refusal_of}
-use Rattle.vortex_table_predicate.specs.Faults.{IsReason, IsChecked, AreChecked, IsSameOf, IsRangeOf, truth_of, truths_of, literal_text, like_of}
-use Rattle.vortex_stats_bind.specs.OperandValue.{text_in}
-use Rattle.vortex_scalar_value.specs.Parts.{text_in as raw_text_in}
+use Rattle.vortex_table_predicate.specs.Faults.{IsReason, IsChecked, AreChecked, IsSameOf, IsRangeOf, truth_of, truths_of, like_of}
+use Rattle.vortex_stats_typing.specs.Literals.{text_of_literal}
 use Rattle.vortex_stats_expr.specs.Types.{IsOfLeaf, IsOfClass, IsClass, IsLeaf}
 use Rattle.vortex_table_check.specs.declared.error.TableError.{TableError}
 use Rattle.vortex_table_check.specs.declared.error.TableError.TheVariants as error
@@ -327,22 +326,12 @@ like_refused k x form n i e h =
     (or_else (unless (is_utf8_type (expression_type k x) && is_utf8_type (expression_type k form)) unequal_types) (unless (is_supported_like form i) unsupported_like)) h
 
 -- a literal text without a backslash, where case is kept
-pub supported_by_text : (form : Expression) (i : Bool) → is_supported_like form i ≡ elim (literal_text form) [ None ↦ false | Some bs ↦ not i && not (has_backslash bs) ]
+pub supported_by_text : (form : Expression) (i : Bool) → is_supported_like form i ≡ elim (text_of_literal form) [ None ↦ false | Some bs ↦ not i && not (has_backslash bs) ]
 supported_by_text (literal k (text bs)) i = refl
 supported_by_text (literal k c) i = refl
 supported_by_text e i = refl
 
 pub ruleset supported = (supported_by_text)
-
-pub text_of_literal : (k : LogicalType) (c : Content) → literal_text (literal k c) ≡ text_in c
-text_of_literal k (text bs) = refl
-text_of_literal k c = refl
-
-pub text_said : (r : Raw) → raw_text_in r ≡ text_in (content_of r)
-text_said (raw_text bs) = refl
-text_said r = refl
-
-pub ruleset literal_texts = (text_of_literal, text_said)
 
 -- ---- the whole predicate
 

@@ -1,9 +1,8 @@
 -- What a refusal of a predicate says.
-use Rattle.std.specs.Prelude.{◌≡◌, ◌≢◌, ◌⊎◌, Bool, true, false, List, ℕ, Option, Some, None, Result, Ok, Err}
+use Rattle.std.specs.Prelude.{◌≡◌, ◌≢◌, ◌⊎◌, Bool, true, false, Option, None, Result, Ok, Err}
 use Rattle.vortex_model.specs.LogicalType.{LogicalType}
 use Rattle.vortex_model.specs.Refusal.{Refusal, or_else}
-use Rattle.vortex_model.specs.Content.{text}
-use Rattle.vortex_model.specs.Expression.{Expression, literal}
+use Rattle.vortex_model.specs.Expression.{Expression}
 use Rattle.vortex_model.specs.Typing.{expression_type}
 use Rattle.vortex_model.specs.Command.{expression_fault}
 use Rattle.vortex_table_check.specs.Error.{Explains}
@@ -47,11 +46,6 @@ IsSameOf a b (Err r) = (r ≡ error.UnequalTypes) × (a ≢ b)
 abbrev pub IsRangeOf : Leaf → Leaf → Leaf → Result Leaf TableError → Type 0
 IsRangeOf a b c (Ok l) = (l ≡ leaf.Bool) × (a ≡ b) × (a ≡ c)
 IsRangeOf a b c (Err r) = (r ≡ error.UnequalTypes) × ((a ≢ b) ⊎ (a ≢ c))
-
--- the text of an expression that is a literal text
-abbrev pub literal_text : Expression → Option (List ℕ)
-literal_text (literal k (text bs)) = Some bs
-literal_text e = None
 
 -- the type of a LIKE of a value and a pattern, which is supported or not
 abbrev pub like_of : Leaf → Leaf → Bool → Result Leaf TableError

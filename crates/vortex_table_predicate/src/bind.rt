@@ -1,7 +1,7 @@
 //! Predicates of scans: their faults over the rows of a table, and their columns as positions.
 //!
 //! `bind` is called once for a scan, so that no name is looked up while rows are tested.
-ghost use Rattle.std.specs.Prelude.{◌≡◌, IfOk, IfErr, OnOk, option_copied, None};
+ghost use Rattle.std.specs.Prelude.{◌≡◌, IfOk, IfErr, OnOk, None};
 ghost use Rattle.vortex_model.specs.LogicalType.{LogicalType};
 ghost use Rattle.vortex_model.specs.Content.{Content};
 ghost use Rattle.vortex_model.specs.Expression.{literal, column, HasFormedLiterals};
@@ -11,12 +11,10 @@ ghost use Rattle.vortex_model.specs.Command.{predicate_fault, is_supported_like}
 ghost use Rattle.vortex_dtype_core.specs.View.{type_of};
 ghost use Rattle.vortex_scalar_core.specs.Scalar.{scalar_type, scalar_content};
 ghost use Rattle.vortex_stats_bind.specs.Bound.{bound_value};
-ghost use Rattle.vortex_stats_bind.specs.OperandValue.{text_in};
 ghost use Rattle.vortex_table_check.specs.Error.{Explains};
-ghost use Rattle.vortex_table_predicate.specs.Faults.{IsChecked, AreChecked, IsSameOf, IsRangeOf, truth_of, truths_of, literal_text, like_of};
+ghost use Rattle.vortex_table_predicate.specs.Faults.{IsChecked, AreChecked, IsSameOf, IsRangeOf, truth_of, truths_of, like_of};
 
 use std::alloc::Global;
-use vortex_dtype_core::BufferString;
 use vortex_dtype_core::dtype::DType;
 use vortex_dtype_ptype::field_names::FieldNames;
 use vortex_scalar_core::scalar::Scalar;
@@ -26,6 +24,7 @@ use vortex_stats_expr::expression::{Expression, Node};
 use vortex_stats_expr::options::LikeOptions;
 use vortex_stats_expr::types::{Leaf, TypeClass, class_of, column_class};
 use vortex_stats_like::matching::has_backslash;
+use vortex_stats_typing::literal::literal_text;
 use vortex_table_check::error::TableError;
 
 /// Resolves the columns of a predicate over rows of this type. The predicate is copied, in time
@@ -207,41 +206,9 @@ fn check_like(
 fn is_supported(pattern: &Expression, options: LikeOptions) -> bool
     ensures { result ≡ is_supported_like pattern.now options.case_insensitive }
 {
-    match text_of(pattern) {
+    match literal_text(pattern) {
         Some(text) => !options.case_insensitive && !has_backslash(text.as_str()),
         None => false,
-    }
-}
-
-// The text of an expression that is a literal text.
-#[tactic(auto, using(crate::proofs::Checks::literal_texts))]
-fn text_of(e: &Expression) -> Option<&BufferString>
-    ensures { option_copied result ≡ literal_text e.now }
-{
-    match &e.node {
-        Node::Literal(value) => literal_utf8(value),
-        Node::Column(_) => None,
-        Node::Compare(_, _, _) => None,
-        Node::And(_, _) => None,
-        Node::Or(_, _) => None,
-        Node::Not(_) => None,
-        Node::IsNull(_) => None,
-        Node::IsNotNull(_) => None,
-        Node::IsNan(_) => None,
-        Node::Between(_, _, _, _) => None,
-        Node::Like(_, _, _) => None,
-        Node::RowCount => None,
-        Node::Stat(_, _) => None,
-    }
-}
-
-#[tactic(auto, using(crate::proofs::Checks::literal_texts))]
-fn literal_utf8(value: &Scalar) -> Option<&BufferString>
-    ensures { option_copied result ≡ text_in (scalar_content value.now) }
-{
-    match value.value() {
-        Some(value) => value.as_utf8(),
-        None => None,
     }
 }
 

@@ -21,7 +21,8 @@ use Rattle.vortex_table_check.specs.declared.error.TableError.{TableError}
 use Rattle.vortex_table_check.specs.declared.error.TableError.TheVariants as error
 use Rattle.vortex_table_check.proofs.Appends.{judged}
 use Rattle.vortex_table_check.proofs.Explained.{explained_first}
-use Rattle.vortex_table_retype.specs.TooLarge.{AreTooLarge, AnyTooLarge}
+use Rattle.vortex_arrays_builder.specs.TooLarge.{AreTooLarge}
+use Rattle.vortex_table_retype.specs.TooLarge.{AnyTooLarge}
 
 -- one more of which the test holds
 pub all_pushed : {X : Type 0} (p : X → Bool) (old new : List X) (x : X) → new ≡ old ++ x ∷ [] → list_all p old ≡ true → p x ≡ true → list_all p new ≡ true

@@ -14,7 +14,7 @@ use Rattle.vortex_arrays_model.specs.Layout.{Layout, rows_of}
 use Rattle.vortex_scalar_value.specs.View.{raw_of, raw_at, content_at}
 use Rattle.vortex_scalar_value.specs.declared.scalar_value.ScalarValue.{ScalarValue}
 use Rattle.vortex_table_schema.specs.Rows.{row_content}
-use Rattle.vortex_table_retype.specs.TooLarge.{AreTooLarge}
+use Rattle.vortex_arrays_builder.specs.TooLarge.{AreTooLarge}
 
 abbrev Values : Type 0
 Values = List (Option (Bor ScalarValue))

@@ -5,7 +5,8 @@ use std::rc::Rc;
 use vortex_dtype_core::dtype::DType;
 use vortex_table_check::error::TableError;
 use vortex_table_check::lengths::BoundLengths;
-use vortex_table_chunk::chunk::{Chunk, new_chunk};
+use vortex_table_chunk::chunk::Chunk;
+use vortex_table_chunk::retyped::retyped_chunk;
 use vortex_table_schema::leaves::LeafPath;
 
 /// A conversion of the chunks of a table to another type.
@@ -33,7 +34,8 @@ impl Retyping<'_> {
     ghost use Rattle.vortex_table_check.specs.Error.{Explains};
     ghost use Rattle.vortex_table_check.specs.declared.error.TableError.TheVariants.{Total};
     ghost use Rattle.vortex_table_retype.specs.Retyping.{IsRetyping, source_of, target_of, lengths_of};
-    ghost use Rattle.vortex_table_retype.specs.TooLarge.{AreTooLarge, AnyTooLarge};
+    ghost use Rattle.vortex_arrays_builder.specs.TooLarge.{AreTooLarge};
+    ghost use Rattle.vortex_table_retype.specs.TooLarge.{AnyTooLarge};
 
     // `first` is the index of the chunk's first row in the table.
     fn retype_chunk(&self, alloc: Global, first: usize, chunk: &Chunk) -> Result<Chunk, TableError>
@@ -50,7 +52,7 @@ impl Retyping<'_> {
             (source_of self.now) (target_of self.now) (chunk_rows chunk.now)) e) }
     {
         let array = convert_array(alloc, self.target, first, &chunk.array)?;
-        let new = new_chunk(alloc, self.leaves, self.lengths, array)?;
+        let new = retyped_chunk(alloc, chunk, self.leaves, self.lengths, array)?;
         Ok(new)
     }
 

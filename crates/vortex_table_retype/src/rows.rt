@@ -13,7 +13,7 @@ ghost use Rattle.vortex_scalar_core.specs.Scalar.{scalar_type, scalar_content};
 ghost use Rattle.vortex_scalar_value.specs.View.{raw_of, raw_at};
 ghost use Rattle.vortex_table_schema.specs.Rows.{row_content};
 ghost use Rattle.vortex_table_check.specs.Error.{Explains};
-ghost use Rattle.vortex_table_retype.specs.TooLarge.{AreTooLarge};
+ghost use Rattle.vortex_arrays_builder.specs.TooLarge.{AreTooLarge};
 
 use std::alloc::{AllocError, Global};
 use vortex_arrays_buffer::error::ArrayError;

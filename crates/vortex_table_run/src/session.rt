@@ -19,10 +19,11 @@ use vortex_scalar_value::scalar_value::ScalarValue;
 use vortex_stats_expr::expression::Expression;
 use vortex_table_core::table::Table;
 use vortex_table_io::{LineHandler, Response};
-use vortex_table_request::{Command, ParseError, read_command};
+use vortex_table_request::{Command, ParseError};
 use vortex_table_response::{bad_line, push_scan, without_table};
 use vortex_table_schema::answer::ScanAnswer;
 use vortex_table_schema::layout::Layout;
+use vortex_table_tokens::read_command;
 
 /// Writes the line of a scan's answer in place of what the buffer holds.
 fn write_found(alloc: Global, answer: &ScanAnswer, out: &mut Vec<u8>) -> Result<(), AllocError>

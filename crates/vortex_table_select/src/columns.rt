@@ -1,8 +1,8 @@
 //! The columns of an array of records, by positions.
 use std::alloc::{AllocError, Global};
 use vortex_arrays_core::array::ArrayRef;
+use vortex_arrays_struct::part::part_at_positions;
 use vortex_stats_select::columns::Columns;
-use vortex_table_chunk::part::part_at_positions;
 
 // The rows of an array.
 #[derive(Clone, Copy)]
@@ -20,7 +20,7 @@ impl Columns for ArrayColumns<'_> {
         self.array.len()
     }
 
-    #[tactic(auto, using(vortex_table_chunk::proofs::Parts::part_rows))]
+    #[tactic(auto, using(vortex_arrays_struct::proofs::Parts::part_rows))]
     fn column(&self, alloc: Global, path: &[usize]) -> Result<Option<ArrayRef>, AllocError> {
         part_at_positions(alloc, self.array, path)
     }

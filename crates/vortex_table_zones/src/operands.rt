@@ -22,12 +22,8 @@ fn bound_operand<'a>(bound: &'a Option<Bound>) -> Value<'a>
     }
 }
 
-// `rows` is the number of rows of the zone.
-pub(crate) fn statistic<'a>(
-    bounds: &'a ColumnBounds,
-    rows: usize,
-    aggregate: AggregateFn,
-) -> Value<'a>
+/// A statistic of a leaf column in a zone of so many rows.
+pub fn statistic<'a>(bounds: &'a ColumnBounds, rows: usize, aggregate: AggregateFn) -> Value<'a>
     ensures { operand_value result ≡ stat_value bounds.now rows (aggregate_of aggregate) }
 {
     match aggregate {

@@ -163,15 +163,15 @@ impl Operand<'_> {
     }
 }
 
-// The integer, where the operand is a stored one.
-fn number_of(value: Value) -> Option<PValue>
+/// The integer, where the operand is known to be one.
+pub fn number_of(value: Value) -> Option<PValue>
     ensures { IfSome result (λ number. operand_value value.entry ≡ integer (integer_of number)) }
 {
     match value {
         Value::Stored(value) => value.as_primitive(),
         Value::Null => None,
         Value::Truth(_) => None,
-        Value::Count(_) => None,
+        Value::Count(count) => Some(PValue::U64(count)),
     }
 }
 

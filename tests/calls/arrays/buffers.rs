@@ -58,6 +58,11 @@ fn bits(alloc: Global, checks: &mut Checks<'_>) -> Result<(), DTypeError> {
     let less = part.slice(4..9)?;
     are(checks, "slice of a slice of bits", &less, &wanted[7..12]);
     are(checks, "clone of bits", &less.clone()?, &wanted[7..12]);
+    checks.holds(
+        "to_bools",
+        buffer.to_bools(alloc)?.as_slice() == wanted.as_slice()
+            && less.to_bools(alloc)?.as_slice() == &wanted[7..12],
+    );
     are(
         checks,
         "new_set",

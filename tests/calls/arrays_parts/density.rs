@@ -1,7 +1,7 @@
 //! Which elements lists have.
 
 use crate::checks::Checks;
-use crate::make::{answered, numbers, valid_where};
+use crate::make_arrays::{answered, numbers, valid_where};
 use std::alloc::Global;
 use vortex_arrays::{ListViewArray, ListViewArrayExt, Validity};
 use vortex_dtype::DTypeError;

@@ -1,12 +1,13 @@
-//! Calls what makes arrays of integers narrower, tells which elements lists have, and puts records
-//! together anew.
+//! Calls what makes arrays of integers narrower, tells which elements lists have, puts records
+//! together anew, and makes texts and bytes of iterators.
 #![tactic(auto)]
 
 mod checks;
 mod density;
-mod make;
+mod make_arrays;
 mod numbers;
 mod records;
+mod strings;
 
 use crate::checks::Checks;
 use std::alloc::Global;
@@ -20,6 +21,8 @@ fn run(alloc: Global, checks: &mut Checks<'_>) -> Result<(), DTypeError> {
     checks.end_part("lists tell their elements");
     records::run(alloc, checks)?;
     checks.end_part("records have other columns");
+    strings::run(alloc, checks)?;
+    checks.end_part("texts and bytes are made of their values");
     Ok(())
 }
 

@@ -1,7 +1,7 @@
 //! Integers in the narrowest kind, as buffers, and truth values as a mask.
 
 use crate::checks::Checks;
-use crate::make::{holds, numbers, valid_where};
+use crate::make_arrays::{holds, numbers, valid_where};
 use std::alloc::Global;
 use vortex_arrays::{
     BitBuffer, BoolArray, BoolArrayExt, Buffer, PrimitiveArray, PrimitiveArrayExt, Validity,

@@ -1,7 +1,7 @@
 //! Records with other columns.
 
 use crate::checks::Checks;
-use crate::make::{answered, holds, numbers, valid_where};
+use crate::make_arrays::{answered, holds, numbers, valid_where};
 use std::alloc::Global;
 use std::rc::Rc;
 use vortex_arrays::{ArrayError, ArrayRef, StructArray, Validity};

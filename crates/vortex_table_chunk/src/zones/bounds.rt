@@ -8,12 +8,11 @@ ghost use Rattle.vortex_stats_array.specs.Zones.{zone_in, bound_content as known
 ghost use Rattle.vortex_table_chunk.specs.zones.Bounds.{bound_in, IsBoundsOf};
 ghost use Rattle.vortex_table_chunk.specs.zones.Sums.{int_kind_of};
 
-use crate::zones::sum_type::sum_type;
 use vortex_dtype_core::dtype::DType;
 use vortex_dtype_ptype::ptype::PType;
 use vortex_scalar_value::pvalue::PValue;
 use vortex_scalar_value::scalar_value::ScalarValue;
-use vortex_stats_array::array_stats::ArrayStats;
+use vortex_stats_array::array_stats::{ArrayStats, sum_ptype};
 use vortex_stats_bound::precision::Precision;
 
 /// A bound of the values of a column.
@@ -37,7 +36,7 @@ pub struct ColumnBounds {
     /// The number of rows that are null here.
     pub null_count: usize,
     /// The type of the column's sum: `I64` of signed integers, `U64` of unsigned ones and of
-    /// booleans, and `None` of other columns.
+    /// booleans. None of the other columns that a table keeps has a sum.
     pub sum_type: Option<PType>,
     /// The sum, in which null counts 0 and true 1. `None` where its type can't hold it.
     pub sum: Option<PValue>,
@@ -68,7 +67,7 @@ impl ColumnBounds {
             low: bound_of(stats.min),
             high: bound_of(stats.max),
             null_count: stats.null_count,
-            sum_type: sum_type(dtype),
+            sum_type: sum_ptype(dtype),
             sum: stats.sum,
             constant: Some(stats.is_constant),
         }

@@ -1,4 +1,5 @@
-use Rattle.std.proofs.Common.{◌≡◌, ◌∙◌, refl, ap, sym, subst, length, IfSome, arith}
+use Rattle.std.proofs.Common.{◌≡◌, ◌∙◌, refl, ap, sym, subst, length, IfSome, arith, true}
+use Rattle.std.proofs.lemmas.Result.{IfOk-weaker}
 use Rattle.vortex_model.specs.LogicalType.{list, fixed_list, struct}
 use Rattle.vortex_dtype_ptype.specs.View.{nullability_of_flag}
 use Rattle.vortex_dtype_core.specs.View.{type_of, fields_of, fields_in}
@@ -10,6 +11,7 @@ use Rattle.vortex_arrays_core.specs.LayoutOf.{valid_of}
 use Rattle.vortex_arrays_validity.specs.Validities.{IsRecast}
 use Rattle.vortex_arrays_cast.specs.Cast.{IsCast, AreCast}
 use Rattle.vortex_arrays_cast.proofs.CastLemmas.{cast_records, first_named, first_fit}
+use Rattle.vortex_arrays_cast.proofs.EvenLemmas.{made_sound, made_back, some_weaker}
 use Rattle.vortex_arrays_cast.proofs.ListLemmas.{cast_fixed_lists, cast_list_views}
 use Rattle.vortex_arrays_cast.proofs.cast.+cast.Goals as goal
 
@@ -69,3 +71,17 @@ cast_records-returns t c =
     let cast : AreCast gs cs (columns_of (names_of gs) xs) = subst (λ fs. AreCast fs cs (columns_of (names_of fs) xs)) c.as_slice.ensures.fields inside in
     subst (λ j. IsCast j (records cs n v) r) (sym whole)
     (subst (IsCast (struct gs m) (records cs n v)) (sym c.in_ok-cast.ensures) (cast_records gs cs (columns_of (names_of gs) xs) n v w m cast c.requires.fit recast))
+
+pub cast_any_fixed_lists-cast_lists-requires : goal.cast_any_fixed_lists-cast_lists-requires
+cast_any_fixed_lists-cast_lists-requires t c = (
+  omega (arith, c.decreases),
+  made_sound c.args.elements.now c.in_ok-offsets.offsets c.in_ok-sizes.sizes c.args.size c.args.len (valid_of c.args.validity.now)
+      c.in_ok-offsets.ensures c.in_ok-sizes.ensures c.requires c.len.ensures.sound c.len-2.ensures.sound,
+)
+
+pub cast_any_fixed_lists-returns : goal.cast_any_fixed_lists-returns
+cast_any_fixed_lists-returns t c =
+    let e = c.args.elements.now in let o = c.in_ok-offsets.offsets in let z = c.in_ok-sizes.sizes in let s = c.args.size in let n = c.args.len in let v = valid_of c.args.validity.now in
+    let k = type_of c.args.target.now in
+    IfOk-weaker c.cast_lists.result _ _ (λ cast found. some_weaker cast (IsCast k (list_views e o z true v)) (IsCast k (fixed_lists e s n v))
+    (λ r. made_back e o z s n v c.in_ok-offsets.ensures c.in_ok-sizes.ensures c.requires k r) found) c.cast_lists.ensures

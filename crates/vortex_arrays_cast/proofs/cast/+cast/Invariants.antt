@@ -19,5 +19,11 @@ decreases-cast_fixed_lists l = 3 * size_of l.elements.now + 1
 abbrev pub decreases-cast_lists : goal.decreases-cast_lists
 decreases-cast_lists l = 3 * size_of l.elements.now + 1
 
+abbrev pub decreases-cast_any_fixed_lists : goal.decreases-cast_any_fixed_lists
+decreases-cast_any_fixed_lists l = 3 * size_of l.elements.now + 2
+
+abbrev pub decreases-cast_any_lists : goal.decreases-cast_any_lists
+decreases-cast_any_lists l = 3 * size_of l.elements.now + 2
+
 abbrev pub invariant-cast_fields-loop-i : goal.invariant-cast_fields-loop-i
 invariant-cast_fields-loop-i l = FirstCast l.targets l.fields.items l.i l.columns.items

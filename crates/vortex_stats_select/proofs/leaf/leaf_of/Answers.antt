@@ -6,14 +6,13 @@ use Rattle.vortex_arrays_view.specs.Views.{value_of}
 use Rattle.vortex_arrays_core.specs.LayoutOf.{layout_of, valid_of, strings_of}
 use Rattle.vortex_stats_select.specs.Leaves.{shown_by}
 use Rattle.vortex_stats_select.proofs.LeafLemmas.{bools_shown, numbers_shown, strings_shown}
-use Rattle.vortex_stats_select.proofs.ValidityLemmas.{in_order}
 use Rattle.vortex_stats_select.proofs.leaf.leaf_of.Goals as goal
 
-pub returns-in_ok-unpacked-in-Bool : goal.returns-in_ok-unpacked-in-Bool
-returns-in_ok-unpacked-in-Bool c =
+pub returns-in_ok-to_bools-in-Bool : goal.returns-in_ok-to_bools-in-Bool
+returns-in_ok-to_bools-in-Bool c =
     let same = sym c.layout.ensures.layout ∙ ap layout_of c.in-Bool.is in
     let o = c.in_ok-validity-in-Bool.validity in let bits = c.in-Bool.bits in
-    (λ i. shown_by o (map boolean ((c.in_ok-unpacked-in-Bool.ensures ∙ in_order bits) i)))
+    (λ i. shown_by o (map boolean ((c.in_ok-to_bools-in-Bool.ensures) i)))
     ∙ bools_shown (valid_of c.in-Bool.validity) c.len.result o c.in_ok-validity-in-Bool.ensures bits (sym c.len.ensures)
     ∙ (λ i. rows_of (sym same i))
 

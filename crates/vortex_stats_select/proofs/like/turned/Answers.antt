@@ -1,4 +1,4 @@
-use Rattle.std.proofs.Common.{◌≡◌, ◌∙◌, sym, map}
+use Rattle.std.proofs.Common.{◌∙◌, sym, map}
 use Rattle.vortex_stats_select.specs.Wants.{wanted_match}
 use Rattle.vortex_stats_select.proofs.LikeLemmas.{as_is, as_is_negated}
 use Rattle.vortex_stats_select.proofs.like.turned.Goals as goal

@@ -1,15 +1,11 @@
-use Rattle.std.proofs.Common.{◌≡◌, sym, ap, subst, ◌∙◌}
+use Rattle.std.proofs.Common.{◌≡◌, ap, subst, ◌∙◌}
 use Rattle.vortex_arrays_model.specs.Layout.{rows_of}
 use Rattle.vortex_table_chunk.specs.Bounds.{AreBoundsOf}
-use Rattle.vortex_table_chunk.proofs.TypedRows.{rows_pass}
 use Rattle.vortex_table_chunk.proofs.chunk.new_chunk.Goals as goal
 
-pub invariant_of-result : goal.invariant_of-result
-invariant_of-result c =
-    let bounds = c.in_ok-bounds.bounds.items in let rows = rows_of c.args.array in let leaves = c.in_ok-leaves.leaves.value.items in
-    let same_leaves : c.deref-2.result.now ≡ leaves = c.deref-2.ensures.value ∙ ap (λ v. v.items) c.deref.ensures ∙ ap (λ v. v.items) (sym c.in_ok-leaves.ensures.cases) in
-    let same_lengths : c.deref-4.result.now ≡ c.in_ok-lengths.lengths.value.items = c.deref-4.ensures.value ∙ ap (λ v. v.items) c.deref-3.ensures ∙ ap (λ v. v.items) (sym c.in_ok-lengths.ensures.cases) in record {
-      sound = ∣ c.len.ensures.sound ∣₁;
-      typed = rows_pass c.args.array c.tests_of_validity_are_right.ensures c.len.ensures.sound;
-      honest = subst (λ ns. AreBoundsOf ns leaves bounds rows) same_lengths (subst (λ ls. AreBoundsOf c.deref-4.result.now ls bounds rows) same_leaves c.in_ok-bounds.ensures.statistics);
-    }
+pub with_bounds-requires : goal.with_bounds-requires
+with_bounds-requires c =
+    let bounds = c.in_ok-bounds.bounds.items in let rows = rows_of c.args.array in
+    let same_leaves : c.deref-2.result.now ≡ c.args.leaves.now.value.items = c.deref-2.ensures.value ∙ ap (λ v. v.items) c.deref.ensures in
+    let same_lengths : c.deref-4.result.now ≡ c.args.lengths.now.value.items = c.deref-4.ensures.value ∙ ap (λ v. v.items) c.deref-3.ensures in
+    subst (λ ns. AreBoundsOf ns c.args.leaves.now.value.items bounds rows) same_lengths (subst (λ ls. AreBoundsOf c.deref-4.result.now ls bounds rows) same_leaves c.in_ok-bounds.ensures.statistics)

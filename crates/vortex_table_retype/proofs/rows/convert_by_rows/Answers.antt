@@ -4,7 +4,7 @@ use Rattle.vortex_arrays_model.specs.Layout.{array_type_of, rows_of}
 use Rattle.vortex_dtype_core.specs.View.{type_of}
 use Rattle.vortex_table_check.specs.Error.{Explains}
 use Rattle.vortex_table_schema.specs.Rows.{row_content}
-use Rattle.vortex_table_retype.specs.TooLarge.{AreTooLarge}
+use Rattle.vortex_arrays_builder.specs.TooLarge.{AreTooLarge}
 use Rattle.vortex_table_retype.proofs.ConvertedRows.{explained_more}
 use Rattle.vortex_table_retype.proofs.rows.convert_by_rows.Goals as goal
 

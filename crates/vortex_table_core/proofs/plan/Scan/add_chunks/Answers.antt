@@ -1,6 +1,8 @@
-use Rattle.std.proofs.Common.{◌∙◌}
+use Rattle.std.proofs.Common.{◌∙◌, false}
 use Rattle.vortex_table_schema.specs.Answer.{answer_of}
+use Rattle.vortex_table_core.specs.Plan.{falsified_by}
 use Rattle.vortex_table_core.proofs.Groups.{one_ahead}
+use Rattle.vortex_table_core.proofs.Stretches.{mask_within, mask_at}
 use Rattle.vortex_table_core.proofs.plan.Scan.add_chunks.Goals as goal
 
 pub loop-offset-preserved : goal.loop-offset-preserved
@@ -11,3 +13,12 @@ loop-offset-preserved c = record {
       ∙ c.loop-offset.invariant.left;
   typed = c.in_ok-add_chunk.ensures.typed;
 }
+
+pub bounds-falsified-offset : goal.bounds-falsified-offset
+bounds-falsified-offset c =
+    mask_within (falsified_by c.args.self.now) c.args.falsified.now c.args.chunks.now c.loop-offset.offset c.requires.falsified c.loop-offset-test.true
+
+pub add_chunk-requires-clause-falsified : goal.add_chunk-requires-clause-falsified
+add_chunk-requires-clause-falsified c =
+    mask_at (falsified_by c.args.self.now) c.args.falsified.now c.args.chunks.now c.loop-offset.offset c.index-chunks-offset.result false
+    c.requires.falsified c.loop-offset-test.true c.index-chunks-offset.is

@@ -1,14 +1,13 @@
-use Rattle.std.proofs.Common.{◌≡◌, refl, sym, ap, subst, ◌∙◌, ◌+◌, ◌*◌, map, true, Option, Some, None}
+use Rattle.std.proofs.Common.{◌≡◌, refl, sym, ap, ◌∙◌, ◌+◌, ◌*◌, map, Option, Some, None}
 use Rattle.std.specs.Prelude.{is_some, option_map}
-use Rattle.std.specs.List.{list_all}
 use Rattle.vortex_model.specs.Table.{bound_length}
-use Rattle.vortex_model.specs.Scan.{saturated, one_if, is_many, chunk_outcome}
+use Rattle.vortex_model.specs.Scan.{saturated, one_if, is_many}
 use Rattle.vortex_table_schema.specs.Answer.{answer_of}
 use Rattle.vortex_table_chunk.specs.Chunk.{chunk_rows}
 use Rattle.vortex_table_chunk.proofs.ProvenAlike.{is_there}
 use Rattle.vortex_table_core.specs.Group.{chunks_of}
 use Rattle.vortex_table_core.specs.Plan.{table_in, paths_in, predicate_in}
-use Rattle.vortex_table_core.specs.Progress.{with_chunks, group_proofs}
+use Rattle.vortex_table_core.specs.Progress.{group_proofs}
 use Rattle.vortex_table_chunk.specs.Formed.{is_formed}
 use Rattle.vortex_table_core.proofs.Added.{stopped}
 use Rattle.vortex_table_core.proofs.Groups.{formed_in, group_skipped, group_entered}
@@ -29,12 +28,6 @@ returns-then-skipped-clause-found c =
     group_skipped plan c.requires.plan g own formed c.requires.group (answer_of old) _ (sym (c.is_skipped-skipped.ensures own formed c.requires.group) ∙ c.if-skipped.true)
     c.requires.counted refl refl c.in_ok-push_numbers.ensures refl refl
     (c.saturating_add-answer.ensures ∙ stopped (old.proofs + c.proofs_at_group.result) ∙ ap (λ m. saturated (old.proofs + m)) (c.proofs_at_group.ensures ∙ tried))
-
-pub add_chunks-requires-clause-formed : goal.add_chunks-requires-clause-formed
-add_chunks-requires-clause-formed c =
-    let plan = c.args.self.now in let t = table_in plan in
-    subst (λ cs. list_all (is_formed (bound_length t) t.kind) cs ≡ true) (sym c.chunks_of-chunks.ensures)
-    (formed_in (is_formed (bound_length t) t.kind) c.args.group.now plan.table.now.chunks.items plan.table.now.formed)
 
 pub returns-clause-found : goal.returns-clause-found
 returns-clause-found c =
@@ -63,5 +56,4 @@ returns-clause-found c =
       rows_tested = a.rows_tested;
       proofs = proofs i;
     })
-    (c.in_ok-add_chunks.ensures.found
-    ∙ ap (λ cs. with_chunks t.kind (paths_in plan) (predicate_in plan) (chunk_outcome t (predicate_in plan)) g.first (map chunk_rows cs) mid) c.chunks_of-chunks.ensures)
+    c.in_ok-add_stretch.ensures.found

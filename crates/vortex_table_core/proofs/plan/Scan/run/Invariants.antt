@@ -3,14 +3,14 @@ use Rattle.vortex_dtype_core.specs.View.{type_of}
 use Rattle.vortex_scalar_core.specs.Scalar.{scalar_type}
 use Rattle.vortex_table_blocks.specs.Blocks.{left_in}
 use Rattle.vortex_table_schema.specs.Answer.{answer_of}
-use Rattle.vortex_table_core.proofs.Groups.{Reached}
+use Rattle.vortex_table_core.proofs.Stretches.{Waiting}
 use Rattle.vortex_table_core.proofs.plan.Scan.run.Given as goal
 
 abbrev pub invariant-loop-group : goal.invariant-loop-group
 invariant-loop-group l = record {
   index : ℕ;
   left : left_in l.groups ≡ drop index l.self.table.now.groups;
-  reached : Reached l.self index (answer_of l.answer);
+  waiting : Waiting l.self index l.first l.count (answer_of l.answer);
   typed : All (λ row. scalar_type row ≡ type_of l.self.prepared.now.cut.dtype) l.answer.rows.items;
 }
 

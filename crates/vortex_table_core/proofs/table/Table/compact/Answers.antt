@@ -6,9 +6,10 @@ use Rattle.vortex_table_chunk.specs.Chunk.{chunk_rows}
 use Rattle.vortex_table_chunk.specs.Joined.{rows_in}
 use Rattle.vortex_table_chunk.specs.declared.chunk.Chunk.{Chunk}
 use Rattle.vortex_table_chunk.proofs.TypedRows.{all_counted}
+use Rattle.vortex_table_zonemaps.specs.Zones.{AreZoneMaps}
 use Rattle.vortex_table_core.specs.Arrays.{AreAllCompacted}
 use Rattle.vortex_table_core.specs.TableView.{table_of}
-use Rattle.vortex_table_core.proofs.Rearrayed.{rows_again, arrays_again, bounds_again, formed_again, groups_again, rows_fused, kinds_fused}
+use Rattle.vortex_table_core.proofs.Rearrayed.{rows_again, arrays_again, bounds_again, zones_again, formed_again, groups_again, rows_fused, kinds_fused}
 use Rattle.vortex_table_core.proofs.table.Table.compact.Goals as goal
 
 pub put_arrays-requires : goal.put_arrays-requires
@@ -28,6 +29,7 @@ invariant_of-self c =
       formed = formed_again k L old arrays new w rows (c.in_ok-arrays.ensures.types ∙ kinds_fused old) t.formed;
       counted = sym (all_counted new) ∙ ap rows_in same ∙ all_counted old ∙ t.counted;
       grouped = groups_again k L 0 t.groups old new same t.grouped;
+      zoned = subst (AreZoneMaps t.zones) (sym (zones_again old arrays new w same)) t.zoned;
     }
 
 pub returns-clause-compacted : goal.returns-clause-compacted

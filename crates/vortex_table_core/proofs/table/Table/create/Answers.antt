@@ -4,6 +4,7 @@ use Rattle.vortex_dtype_core.specs.View.{type_of}
 use Rattle.vortex_table_chunk.specs.Chunk.{row_count}
 use Rattle.vortex_table_schema.specs.Leaves.{leaf_positions}
 use Rattle.vortex_table_check.specs.Lengths.{length_in}
+use Rattle.vortex_table_zonemaps.specs.Zones.{zone_of, AreZoneMaps}
 use Rattle.vortex_table_core.specs.Group.{AreGroups}
 use Rattle.vortex_table_chunk.specs.Formed.{is_formed}
 use Rattle.vortex_table_chunk.proofs.EqualLeaves.{leaves_same}
@@ -17,9 +18,10 @@ invariant_of-result c =
       led = leaves_same c.in_ok-leaves.leaves.value.items (leaf_positions k) c.in_ok-leaves.ensures;
       measured = lengths_same L k c.in_ok-lengths.lengths.value.items
           (c.in_ok-lengths.ensures ∙ ap (map L) (c.deref-2.ensures.value ∙ ap (λ v. v.items) c.deref.ensures ∙ c.in_ok-leaves.ensures));
-      formed = ap (list_all (is_formed L k)) c.new.ensures.items;
-      counted = ap row_count c.new.ensures.items;
+      formed = ap (list_all (is_formed L k)) c.new-2.ensures.items;
+      counted = ap row_count c.new-2.ensures.items;
       grouped =
-          subst (λ gs. AreGroups k L 0 gs c.new.result.items) (sym c.new-2.ensures)
-          (subst (λ cs. AreGroups k L 0 [] cs) (sym c.new.ensures.items) tt);
+          subst (λ gs. AreGroups k L 0 gs c.new-2.result.items) (sym c.new-3.ensures)
+          (subst (λ cs. AreGroups k L 0 [] cs) (sym c.new-2.ensures.items) tt);
+      zoned = subst (λ cs. AreZoneMaps c.in_ok-zones.zones (map zone_of cs)) (sym c.new-2.ensures.items) c.in_ok-zones.ensures;
     }

@@ -14,6 +14,7 @@ use Rattle.vortex_table_chunk.specs.declared.chunk.Chunk.{Chunk}
 use Rattle.vortex_table_chunk.proofs.EqualLeaves.{leaves_so}
 use Rattle.vortex_table_chunk.proofs.Formed.{lengths_so, formed_so}
 use Rattle.vortex_table_check.specs.Lengths.{length_in}
+use Rattle.vortex_table_zonemaps.specs.Zones.{zone_of, AreZoneMaps}
 use Rattle.vortex_table_core.specs.Group.{AreGroups}
 use Rattle.vortex_table_core.specs.TableView.{table_of}
 use Rattle.vortex_table_core.specs.declared.group.Group.{Group}
@@ -57,9 +58,9 @@ invariant_of-self-2 c =
     let sums : are_sums_of k chunk.leaves.value.items chunk.bounds.items ≡ true = ap (λ x. are_sums_of x chunk.leaves.value.items chunk.bounds.items) (sym c.requires) ∙ made.sums in
     let one : is_formed L k chunk ≡ true = formed_so L k chunk some (ap array_type_of made.array ∙ c.requires)
     (made.leaves ∙ leaves_so t.leaves.value.items (leaf_positions k) t.led) (made.lengths ∙ lengths_so L k t.lengths.value.items t.measured) sums in
-    let g : Group = record { first = c.len.result; chunks = 1; rows = c.len-rows.result; joined = None } in
+    let g : Group = record { first = c.len-index.result; chunks = 1; rows = c.len-rows.result; joined = None } in
     let count : g.rows ≡ len_of chunk.array = n ∙ sym len in
-    let size = c.len.ensures in let same = t.chunks.ok.0 in
+    let size = c.len-index.ensures in let same = t.chunks.ok.0 in
     let first : g.first ≡ 0 + length t.chunks.items = omega (arith, size, same) in
     let all : ℕ = row_count c.push-2.new.self.items in let before : ℕ = row_count t.chunks.items in let m : ℕ = len_of chunk.array in
     let pushed : c.push-2.new.self.items ≡ t.chunks.items ++ chunk ∷ [] = c.in_ok-push-2.ensures.items ∙ ap (λ cs. cs ++ chunk ∷ []) c.in_ok-reserve.ensures.items in
@@ -74,6 +75,12 @@ invariant_of-self-2 c =
       grouped = subst (λ gs. AreGroups k L 0 gs c.push-2.new.self.items) (sym c.in_ok-push.ensures.pushed)
           (subst (λ cs. AreGroups k L 0 (t.groups ++ g ∷ []) cs) (sym pushed)
           (group_pushed k L g chunk refl count refl 0 t.groups t.chunks.items t.grouped first));
+      zoned =
+          (let mapped = length-map t.chunks.items zone_of in
+          let many : length (map zone_of t.chunks.items) ≡ c.len-index.result = omega (arith, mapped, size, same) in
+          subst (AreZoneMaps c.put.new.self)
+          ((λ i. map zone_of t.chunks.items ++ (c.deref.ensures.value i, count i) ∷ []) ∙ sym (ap (map zone_of) pushed ∙ map-append zone_of t.chunks.items (chunk ∷ [])))
+          (c.in_ok-put.ensures.put (map zone_of t.chunks.items) many t.zoned));
     }
 
 pub returns-clause-appended : goal.returns-clause-appended
@@ -83,7 +90,7 @@ returns-clause-appended c =
     let rows = rows_of c.args.array in
     let n = c.len-rows.ensures.count in let counted = rows_counted c.args.array in
     let some : 0 < length rows = omega (arith, c.if-rows-eq0.false, n, counted) in
-    let g : Group = record { first = c.len.result; chunks = 1; rows = c.len-rows.result; joined = None } in
+    let g : Group = record { first = c.len-index.result; chunks = 1; rows = c.len-rows.result; joined = None } in
     let pushed : c.push-2.new.self.items ≡ t.chunks.items ++ chunk ∷ [] = c.in_ok-push-2.ensures.items ∙ ap (λ cs. cs ++ chunk ∷ []) c.in_ok-reserve.ensures.items in
     let chunks : map chunk_rows c.push-2.new.self.items ≡ map chunk_rows t.chunks.items ++ rows ∷ [] =
     ap (map chunk_rows) pushed ∙ map-append chunk_rows t.chunks.items (chunk ∷ []) ∙ ap (λ x. map chunk_rows t.chunks.items ++ x ∷ []) (ap rows_of made.array) in

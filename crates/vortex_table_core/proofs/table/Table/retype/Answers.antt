@@ -8,6 +8,7 @@ use Rattle.vortex_table_chunk.proofs.EqualLeaves.{leaves_same}
 use Rattle.vortex_table_chunk.proofs.Formed.{lengths_same}
 use Rattle.vortex_table_check.specs.Lengths.{length_in}
 use Rattle.vortex_table_check.proofs.Explained.{none_so, none_both}
+use Rattle.vortex_table_zonemaps.specs.Zones.{zone_of, AreZoneMaps}
 use Rattle.vortex_table_core.specs.TableView.{table_of}
 use Rattle.vortex_table_core.proofs.OwnType.{chunks_convert}
 use Rattle.vortex_table_core.proofs.Regrouped.{groups_again, sizes_again, counted_again}
@@ -31,6 +32,7 @@ invariant_of-self c =
       formed = made.formed;
       counted = counted_again s k L t.chunks.items chunks made.rows ∙ t.counted;
       grouped = groups_again s k L t.chunks.items chunks made.rows 0 t.groups c.in_ok-chunks.groups t.grouped made.groups;
+      zoned = subst (λ cs. AreZoneMaps c.in_ok-zones.zones (map zone_of cs)) c.deref-4.ensures.value c.in_ok-zones.ensures;
     }
 
 pub returns-clause-retyped : goal.returns-clause-retyped

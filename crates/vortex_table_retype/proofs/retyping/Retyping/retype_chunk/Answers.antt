@@ -7,7 +7,7 @@ use Rattle.vortex_table_chunk.specs.Bounds.{are_sums_of}
 use Rattle.vortex_table_chunk.specs.Chunk.{chunk_rows}
 use Rattle.vortex_table_chunk.proofs.Formed.{some_rows, of_type, formed_so}
 use Rattle.vortex_table_retype.specs.Retyping.{source_of, target_of, lengths_of}
-use Rattle.vortex_table_retype.specs.TooLarge.{AreTooLarge}
+use Rattle.vortex_arrays_builder.specs.TooLarge.{AreTooLarge}
 use Rattle.vortex_table_retype.proofs.retyping.Retyping.retype_chunk.Goals as goal
 
 pub returns-in_err-array-clause-refused : goal.returns-in_err-array-clause-refused

@@ -1,0 +1,5 @@
+pub mod FaultLemmas
+pub mod LentLemmas
+pub mod RowLemmas
+pub mod TypeLemmas
+pub mod ViewLemmas

@@ -1,0 +1,11 @@
+use Rattle.std.proofs.Common.{◌≡◌, map, take, option_map}
+use Rattle.std.specs.List.{All}
+use Rattle.vortex_arrays_model.specs.Layout.{texts}
+use Rattle.vortex_arrays_strings.specs.Values.{lent, IsHeld}
+use Rattle.vortex_arrays_strings.proofs.lend.lend_some_texts.Given as goal
+
+abbrev pub invariant-loop-item : goal.invariant-loop-item
+invariant-loop-item g l = record {
+  values : map lent l.all.items ≡ map (option_map g.T.AsStr.text) (take l.item-index l.items);
+  held : All (IsHeld texts) (map lent l.all.items);
+}

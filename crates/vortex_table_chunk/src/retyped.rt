@@ -1,0 +1,178 @@
+//! Chunks whose rows are converted to another type, with the statistics that stay.
+ghost use Rattle.std.specs.Prelude.{◌≡◌, length, true, IfOk, IfSome, IsTrue};
+ghost use Rattle.vortex_model.specs.Kept.{is_leaf, is_leaf_at};
+ghost use Rattle.vortex_model.specs.Scan.{kind_at};
+ghost use Rattle.vortex_model.specs.Statistics.{sum_of};
+ghost use Rattle.vortex_model.specs.Typing.{sum_kind};
+ghost use Rattle.vortex_model.specs.ZoneMap.{sum_in, values_at};
+ghost use Rattle.vortex_arrays_model.specs.Layout.{array_type_of, rows_of};
+ghost use Rattle.vortex_table_schema.specs.Leaves.{leaf_positions};
+ghost use Rattle.vortex_table_chunk.specs.Bounds.{AreBoundsOf, are_sums_of};
+ghost use Rattle.vortex_table_chunk.specs.Chunk.{chunk_rows};
+ghost use Rattle.vortex_table_chunk.specs.zones.Bounds.{IsBoundsOf};
+ghost use Rattle.vortex_table_chunk.specs.zones.Sums.{int_kind_of, known_sum};
+
+use crate::bounds::{leaf_bounds, leaf_column, leaf_stats};
+use crate::chunk::{Chunk, with_bounds};
+use crate::zones::bounds::ColumnBounds;
+use std::alloc::{AllocError, Global};
+use std::rc::Rc;
+use vortex_arrays_core::array::ArrayRef;
+use vortex_scalar_value::pvalue::PValue;
+use vortex_table_schema::leaves::LeafPath;
+
+// The sum of the column of which these were the statistics before. It stays where its type does,
+// and is taken anew where that changes.
+fn carried_sum(
+    alloc: Global,
+    old: &ColumnBounds,
+    column: &ArrayRef,
+    max_length: usize,
+) -> Result<Option<PValue>, AllocError>
+    requires leaf { is_leaf (array_type_of column.now) ≡ true }
+    requires old { IsBoundsOf max_length old.now (rows_of column.now) }
+    ensures { IfOk result (λ sum. known_sum sum
+        ≡ sum_in (sum_kind (array_type_of column.now)) (sum_of (rows_of column.now))) }
+{
+    if old.has_sum_of(column.dtype()) {
+        return Ok(old.sum);
+    }
+    let stats = leaf_stats(alloc, column, max_length)?;
+    Ok(stats.sum)
+}
+
+// The statistics of a leaf column that had these before.
+fn carried_bounds(
+    alloc: Global,
+    old: &ColumnBounds,
+    array: &ArrayRef,
+    leaf: &[usize],
+    max_length: usize,
+) -> Result<ColumnBounds, AllocError>
+    requires leaf { is_leaf_at (array_type_of array.now) leaf.now ≡ true }
+    requires old { IsBoundsOf max_length old.now (values_at leaf.now (rows_of array.now)) }
+    ensures statistics { IfOk result (λ bounds.
+        IsBoundsOf max_length bounds (values_at leaf.now (rows_of array.now))) }
+    ensures sums { IfOk result (λ bounds.
+        int_kind_of bounds.sum_type ≡ sum_kind (kind_at (array_type_of array.now) leaf.now)) }
+{
+    let column = leaf_column(alloc, array, leaf)?;
+    let sum = carried_sum(alloc, old, &column, max_length)?;
+    let bounds = old.carried_to(column.dtype(), sum)?;
+    Ok(bounds)
+}
+
+// The chunk's statistics of its leaf column with this index, if it stands at these positions.
+fn stays_at<'a>(
+    chunk: &'a Chunk,
+    index: usize,
+    leaf: &[usize],
+    max_length: usize,
+) -> Option<&'a ColumnBounds>
+    ensures { IfSome result (λ bounds.
+        IsBoundsOf max_length bounds.now (values_at leaf.now (chunk_rows chunk.now))) }
+{
+    let Some(place) = chunk.leaves.get(index) else {
+        return None;
+    };
+    let Some(length) = chunk.lengths.get(index) else {
+        return None;
+    };
+    let Some(bounds) = chunk.bounds.get(index) else {
+        return None;
+    };
+    if !place.equals(leaf) {
+        return None;
+    }
+    // Never so in a table, where a position keeps its bound length.
+    if *length != max_length {
+        return None;
+    }
+    Some(bounds)
+}
+
+// The index of the first of the leaves, from this one on, that doesn't stand before the positions.
+fn first_from(leaves: &[LeafPath], from: usize, positions: &[usize]) -> usize {
+    for index in from..leaves.len() {
+        if leaves[index].as_slice() >= positions {
+            return index;
+        }
+    }
+    leaves.len()
+}
+
+// The statistics of the leaf columns of the chunk's rows in an array of another type. Both types
+// have their leaves in the order of their positions, so one walk finds those that stay.
+fn all_retyped(
+    alloc: Global,
+    chunk: &Chunk,
+    array: &ArrayRef,
+    leaves: &[LeafPath],
+    max_lengths: &[usize],
+) -> Result<Vec<ColumnBounds>, AllocError>
+    requires lengths { length max_lengths.now ≡ length leaves.now }
+    requires leaves { leaves.now ≡ leaf_positions (array_type_of array.now) }
+    requires rows { rows_of array.now ≡ chunk_rows chunk.now }
+    ensures statistics { IfOk result
+        (λ all. AreBoundsOf max_lengths.now leaves.now all.items (rows_of array.now)) }
+    ensures sums { IfOk result
+        (λ all. IsTrue (are_sums_of (array_type_of array.now) leaves.now all.items)) }
+{
+    let mut all = Vec::with_capacity(alloc, leaves.len())?;
+    let mut from = 0;
+    for (index, leaf) in leaves.iter().enumerate() {
+        let positions = leaf.as_slice();
+        let max_length = max_lengths[index];
+        from = first_from(&chunk.leaves, from, positions);
+        let old = stays_at(chunk, from, positions, max_length);
+        let bounds = retyped_bounds(alloc, old, array, positions, max_length)?;
+        all.push(bounds)?;
+    }
+    Ok(all)
+}
+
+// The statistics of a leaf column: from those that it had before, and without them from its rows.
+fn retyped_bounds(
+    alloc: Global,
+    old: Option<&ColumnBounds>,
+    array: &ArrayRef,
+    leaf: &[usize],
+    max_length: usize,
+) -> Result<ColumnBounds, AllocError>
+    requires leaf { is_leaf_at (array_type_of array.now) leaf.now ≡ true }
+    requires old { IfSome old (λ bounds.
+        IsBoundsOf max_length bounds.now (values_at leaf.now (rows_of array.now))) }
+    ensures statistics { IfOk result (λ bounds.
+        IsBoundsOf max_length bounds (values_at leaf.now (rows_of array.now))) }
+    ensures sums { IfOk result (λ bounds.
+        int_kind_of bounds.sum_type ≡ sum_kind (kind_at (array_type_of array.now) leaf.now)) }
+{
+    match old {
+        Some(old) => carried_bounds(alloc, old, array, leaf, max_length),
+        None => leaf_bounds(alloc, array, leaf, max_length),
+    }
+}
+
+/// A chunk of the same rows in an array of another type, which has these leaf columns with these
+/// bound lengths. A leaf column that was one at its positions keeps its bounds and its null count,
+/// and its sum where the type of sums stays. All other statistics are taken from the rows.
+pub fn retyped_chunk(
+    alloc: Global,
+    chunk: &Chunk,
+    leaves: &Rc<Vec<LeafPath>>,
+    lengths: &Rc<Vec<usize>>,
+    array: ArrayRef,
+) -> Result<Chunk, AllocError>
+    requires lengths { length lengths.now.value.items ≡ length leaves.now.value.items }
+    requires leaves { leaves.now.value.items ≡ leaf_positions (array_type_of array) }
+    requires rows { rows_of array ≡ chunk_rows chunk.now }
+    ensures array { IfOk result (λ new. new.array ≡ array) }
+    ensures leaves { IfOk result (λ new. new.leaves.value.items ≡ leaves.now.value.items) }
+    ensures lengths { IfOk result (λ new. new.lengths.value.items ≡ lengths.now.value.items) }
+    ensures sums { IfOk result (λ new. IsTrue
+        (are_sums_of (array_type_of array) new.leaves.value.items new.bounds.items)) }
+{
+    let bounds = all_retyped(alloc, chunk, &array, leaves, lengths)?;
+    let new = with_bounds(leaves, lengths, array, bounds)?;
+    Ok(new)
+}

@@ -1,0 +1,4 @@
+pub mod Grammar
+pub mod OneToken
+pub mod Lines
+pub mod Rows

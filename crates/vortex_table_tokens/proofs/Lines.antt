@@ -1,0 +1,69 @@
+-- The append that a line is, from its members.
+use Rattle.std.proofs.Common.{◌≡◌, ℕ, List, [], ◌∷◌, Bool, true, false, Option, Some, None, if◌then◌else◌, option_map, option_and_then, codes, IsUtf8, IfSome, refl, sym, ap, ◌∙◌, subst, arith}
+use Rattle.json.specs.Token.{Token}
+use Rattle.json.specs.Json.{read_key, value}
+use Rattle.json.specs.Lex.{tokens}
+use Rattle.serde_json.specs.Data.{Data, string, object, Members, no_members, member, put}
+use Rattle.serde_json.specs.Find.{as_array, get}
+use Rattle.serde_json.specs.Read.{of_json, converted}
+use Rattle.vortex_model.specs.LogicalType.{LogicalType}
+use Rattle.vortex_model.specs.Content.{Raw}
+use Rattle.vortex_model.specs.Command.{append}
+use Rattle.vortex_table_request.specs.Kinds.{type_in}
+use Rattle.vortex_table_request.specs.Line.{layouts_in, rows_in, command_in}
+use Rattle.vortex_table_request.specs.Parsed.{data_of, keeps_whole}
+use Rattle.vortex_table_request.specs.Rows.{rows_at}
+use Rattle.vortex_table_request.proofs.Readings.{data_of-text}
+use Rattle.vortex_table_tokens.specs.Begins.{BeginsMembers}
+use Rattle.vortex_table_tokens.specs.Values.{HasValue, HasMember, IsWholeText, IsCommandOf}
+use Rattle.vortex_table_request.specs.View.{HasHintsOf}
+use Rattle.vortex_table_request.specs.declared.command.Command.{Command}
+use Rattle.vortex_table_tokens.proofs.Grammar.{begins_string, begins_object, one_member, no_more_members, whole_read}
+
+abbrev the_members : Data → Data → Members
+the_members d r = member (codes "cmd") (string (codes "append")) (member (codes "dtype") d (member (codes "rows") r no_members))
+
+in_order : (d r : Data) → put (codes "rows") r (put (codes "dtype") d (put (codes "cmd") (string (codes "append")) no_members)) ≡ the_members d r
+in_order d r = refl
+
+is_append : (d r : Data) (k : LogicalType) (rs : List Raw) → type_in d ≡ Some k → option_map (rows_at k) (as_array r) ≡ Some rs → command_in (object (the_members d r)) ≡ Some (append k rs)
+is_append d r k rs e f =
+    ap (λ (o : Option LogicalType). option_and_then (λ t. option_map (append t) (rows_in t (object (the_members d r)))) o) e ∙ ap (λ (o : Option (List Raw)). option_map (append k) o) f
+
+no_hints : (d r : Data) → layouts_in (get (codes "layouts") (object (the_members d r))) ≡ Some []
+no_hints d r = refl
+
+all_whole : (d r : Data) → keeps_whole d ≡ true → keeps_whole r ≡ true → keeps_whole (object (the_members d r)) ≡ true
+all_whole d r e f = ap (λ (b : Bool). if b then (if keeps_whole r then true else false) else false) e ∙ ap (λ (b : Bool). if b then true else false) f
+
+pub append_read : (old head mid last new : List Token) (k : LogicalType) (rs : List Raw) → old ≡ Token.begin_object ∷ Token.key (codes "cmd") ∷ Token.string (codes "append") ∷ head
+    → HasMember (codes "dtype") 126 head (λ d. type_in d ≡ Some k) mid → HasMember (codes "rows") 126 mid (λ d. option_map (rows_at k) (as_array d) ≡ Some rs) last → read_key last ≡ Some (None, new)
+    → HasValue 127 old (λ d. (command_in d ≡ Some (append k rs)) × (layouts_in (get (codes "layouts") d) ≡ Some [])) new
+append_read old head mid last new k rs is t r end =
+    let verb = string (codes "append") in
+    let d = t.2.0 in
+    let ds = r.2.0 in
+    let one = put (codes "cmd") verb no_members in
+    let two = put (codes "dtype") d one in
+    let ms = put (codes "rows") ds two in
+    let rest : BeginsMembers 126 head one ms new =
+    one_member 126 head t.0 mid new (codes "dtype") d one ms t.1 t.2.1 (one_member 126 mid r.0 last new (codes "rows") ds two ms r.1 r.2.1 (no_more_members 126 last new ms end)) in
+    let all : BeginsMembers 126 (Token.key (codes "cmd") ∷ Token.string (codes "append") ∷ head) no_members ms new =
+    one_member 126 _ (Token.string (codes "append") ∷ head) head new (codes "cmd") verb no_members ms refl (begins_string (codes "append") 126 head) rest in (
+      object ms,
+      begins_object 127 old _ new ms (omega arith) is all,
+      all_whole d ds t.2.2 r.2.2,
+      (is_append d ds k rs t.2.3 r.2.3, no_hints d ds),
+    )
+
+data_read : (line : List ℕ) (d : Data) → IsUtf8 line → converted of_json (value 127 (tokens line)) ≡ Some (d, []) → data_of line ≡ Some d
+data_read line d utf8 e = data_of-text line (Some d) utf8 (whole_read line d e)
+
+pub line_read : (line text : List ℕ) (command : Command) → text ≡ line → IsUtf8 line → IsWholeText text command → IsCommandOf line command
+line_read line text command same utf8 h =
+    let d = h.0 in
+    let begins : converted of_json (value 127 (tokens line)) ≡ Some (d, []) = ap (λ (s : List ℕ). converted of_json (value 127 (tokens s))) (sym same) ∙ h.1.0 in
+    let found = data_read line d utf8 begins in (
+      ap (option_and_then (λ x. if keeps_whole x then command_in x else None)) found ∙ ap (λ (b : Bool). if b then command_in d else None) h.2 ∙ h.3.0,
+      subst (λ o. IfSome o (λ object. HasHintsOf object command)) (sym found) h.3.1,
+    )

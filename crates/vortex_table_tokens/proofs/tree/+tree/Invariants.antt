@@ -1,0 +1,32 @@
+use Rattle.std.proofs.Common.{◌+◌, ◌*◌, List, length}
+use Rattle.json.specs.Token.{Token}
+use Rattle.serde_json.specs.Data.{Items, Members, no_members}
+use Rattle.serde_json.specs.View.{members_view}
+use Rattle.vortex_table_tokens.specs.Begins.{BeginsItems, BeginsMembers}
+use Rattle.vortex_table_tokens.proofs.Grammar.{items_before}
+use Rattle.vortex_table_tokens.proofs.tree.+tree.Given as goal
+
+abbrev pub decreases-read_tree : goal.decreases-read_tree
+decreases-read_tree l = 2 * l.depth
+
+abbrev pub decreases-read_items : goal.decreases-read_items
+decreases-read_items l = 2 * l.depth + 1
+
+abbrev pub decreases-read_members : goal.decreases-read_members
+decreases-read_members l = 2 * l.depth + 1
+
+-- whatever items are left, they are all behind those found
+abbrev pub invariant-read_items-items : goal.invariant-read_items-items
+invariant-read_items-items l =
+    (ds : Items) (new : List Token) → BeginsItems l.depth l.reader ds new → BeginsItems l.depth l.initial.reader (items_before l.found.items ds) new
+
+abbrev pub decreases-read_items-items : goal.decreases-read_items-items
+decreases-read_items-items l = length l.reader
+
+-- whatever members are all with those found, they are all
+abbrev pub invariant-read_members-members : goal.invariant-read_members-members
+invariant-read_members-members l =
+    (ms : Members) (new : List Token) → BeginsMembers l.depth l.reader (members_view l.found.entries) ms new → BeginsMembers l.depth l.initial.reader no_members ms new
+
+abbrev pub decreases-read_members-members : goal.decreases-read_members-members
+decreases-read_members-members l = length l.reader

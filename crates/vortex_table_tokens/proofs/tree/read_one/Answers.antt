@@ -1,0 +1,31 @@
+use Rattle.std.proofs.Common.{◌≡◌, sym, subst, rules}
+use Rattle.std.proofs.lemmas.Result.{IfOk-weaker}
+use Rattle.json.specs.Token.{Token}
+use Rattle.serde_json.specs.Data.{null, boolean, string}
+use Rattle.serde_json.specs.View.{view}
+use Rattle.serde_json.specs.declared.value.Value.{String, Bool, Null, the_lemmas}
+use Rattle.vortex_table_tokens.specs.Begins.{IsOne}
+use Rattle.vortex_table_tokens.proofs.Grammar.{begins_null, begins_boolean, begins_number, begins_string}
+use Rattle.vortex_table_tokens.proofs.tree.read_one.Goals as goal
+
+pub returns-in-Null : goal.returns-in-Null
+returns-in-Null c =
+    let seen : view Null ≡ null = search (rules, the_lemmas) in
+    rw c.in-Null.is (subst (λ d. IsOne Token.null d) (sym seen) begins_null)
+
+pub returns-in-Bool : goal.returns-in-Bool
+returns-in-Bool c =
+    let b = c.in-Bool.truth in
+    let seen : view (Bool b) ≡ boolean b = search (rules, the_lemmas) in
+    rw c.in-Bool.is (subst (λ d. IsOne (Token.boolean b) d) (sym seen) (begins_boolean b))
+
+pub returns-in-Number : goal.returns-in-Number
+returns-in-Number c =
+    let s = c.in-Number.text.now in
+    rw c.in-Number.is (IfOk-weaker c.read_number.result _ _ (λ v h. subst (λ d. IsOne (Token.number s) d) (sym h.2) (begins_number s h.0 h.1)) c.read_number.ensures)
+
+pub returns-in_ok-from_str-in-String : goal.returns-in_ok-from_str-in-String
+returns-in_ok-from_str-in-String c =
+    let s = c.in-String.text.now in
+    let seen : view (String c.in_ok-from_str-in-String.field-0) ≡ string s = search (rules, the_lemmas) in
+    rw c.in-String.is (subst (λ d. IsOne (Token.string s) d) (sym seen) (begins_string s))

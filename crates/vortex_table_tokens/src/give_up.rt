@@ -1,0 +1,32 @@
+//! Why a line isn't read from its tokens.
+use json::Invalid;
+use std::alloc::{AllocError, AllocFailed};
+use vortex_table_request::ParseError;
+
+/// The line is of another form, or memory ran out. It says nothing of what the line is.
+#[derive(Clone, Copy, Debug, PartialEq, Eq, Drop)]
+pub(crate) struct GiveUp;
+
+impl From<AllocError> for GiveUp {
+    fn from(_refused: AllocError) -> GiveUp {
+        GiveUp
+    }
+}
+
+impl<T: Drop> From<AllocFailed<T>> for GiveUp {
+    fn from(_refused: AllocFailed<T>) -> GiveUp {
+        GiveUp
+    }
+}
+
+impl From<ParseError> for GiveUp {
+    fn from(_refused: ParseError) -> GiveUp {
+        GiveUp
+    }
+}
+
+impl From<Invalid> for GiveUp {
+    fn from(_refused: Invalid) -> GiveUp {
+        GiveUp
+    }
+}

@@ -1,0 +1,130 @@
+//! Commands from lines.
+ghost use Rattle.std.specs.Prelude.{◌≡◌, ◌∷◌, map, codes, option_map, Some, IfOk, IfSome, OnOk};
+ghost use Rattle.json.specs.Token.{begin_object, key, string};
+ghost use Rattle.serde_json.specs.Find.{as_array};
+ghost use Rattle.vortex_dtype_core.specs.View.{type_of};
+ghost use Rattle.vortex_scalar_value.specs.View.{raw_in};
+ghost use Rattle.vortex_table_request.specs.Kinds.{type_in};
+ghost use Rattle.vortex_table_request.specs.Line.{command_in, command_of};
+ghost use Rattle.vortex_table_request.specs.Parsed.{Gives, data_of};
+ghost use Rattle.vortex_table_request.specs.Rows.{rows_at};
+ghost use Rattle.vortex_table_request.specs.View.{shown, HasHintsOf};
+ghost use Rattle.vortex_table_tokens.specs.Values.{HasValue, HasMember, IsWholeText, IsCommandOf};
+
+use crate::give_up::GiveUp;
+use crate::tokens::{next_token, take_key, take_object, take_object_end, take_text};
+use crate::tree::read_tree;
+use crate::values::take_elements;
+use json::{Reader, Scratch, Token};
+use std::alloc::Global;
+use vortex_dtype_core::dtype::DType;
+use vortex_scalar_value::scalar_value::ScalarValue;
+use vortex_table_request::{Command, ParseError, is_whole, read_dtype};
+
+/// How an append's line begins, where it is read here.
+const HEAD: &[u8] = b"{\"cmd\":\"append\",";
+
+/// How deep a line may nest.
+const MAX_DEPTH: usize = 127;
+
+/// The verb, where it is an append's.
+fn take_head(reader: &mut Reader<'_>) -> Result<(), GiveUp>
+    ensures { OnOk result (reader.old ≡ begin_object ∷ key (codes "cmd")
+        ∷ string (codes "append") ∷ reader.new) }
+{
+    take_object(reader)?;
+    take_key(reader, "cmd")?;
+    take_text(reader, "append")
+}
+
+/// The type of the rows.
+fn take_dtype(alloc: Global, reader: &mut Reader<'_>) -> Result<DType, GiveUp>
+    ensures { IfOk result (λ dtype. HasMember (codes "dtype") 126 reader.old
+        (λ d. type_in d ≡ Some (type_of dtype)) reader.new) }
+{
+    take_key(reader, "dtype")?;
+    let tree = read_tree(alloc, reader, MAX_DEPTH - 1)?;
+    if !is_whole(&tree) {
+        return Err(GiveUp);
+    }
+    let dtype = read_dtype(alloc, &tree)?;
+    Ok(dtype)
+}
+
+/// The rows, where each has a reading.
+fn take_rows(
+    alloc: Global,
+    reader: &mut Reader<'_>,
+    dtype: &DType,
+) -> Result<Vec<Option<ScalarValue>>, GiveUp>
+    ensures { IfOk result (λ v. HasMember (codes "rows") 126 reader.old
+        (λ d. option_map (rows_at (type_of dtype.now)) (as_array d) ≡ Some (map raw_in v.items))
+        reader.new) }
+{
+    take_key(reader, "rows")?;
+    let token = next_token(reader)?;
+    let Token::BeginArray = token else {
+        return Err(GiveUp);
+    };
+    let rows = take_elements(alloc, reader, MAX_DEPTH - 2, dtype)?;
+    Ok(rows)
+}
+
+/// An append without hints whose keys are in order.
+fn take_append(alloc: Global, reader: &mut Reader<'_>) -> Result<Command, GiveUp>
+    ensures { IfOk result (λ command. HasValue 127 reader.old
+        (λ d. (command_in d ≡ Some (shown command)) × HasHintsOf d command) reader.new) }
+{
+    take_head(reader)?;
+    let dtype = take_dtype(alloc, reader)?;
+    let values = take_rows(alloc, reader, &dtype)?;
+    take_object_end(reader)?;
+    Ok(Command::Append {
+        dtype,
+        values,
+        layouts: Vec::new(alloc),
+    })
+}
+
+/// The append that a text is, where nothing stands behind it.
+fn read_text(alloc: Global, text: &str, scratch: &mut Scratch) -> Result<Command, GiveUp>
+    ensures { IfOk result (IsWholeText text.now) }
+{
+    let mut reader = Reader::new(text, scratch)?;
+    let command = take_append(alloc, &mut reader)?;
+    match reader.next() {
+        None => Ok(command),
+        Some(_) => Err(GiveUp),
+    }
+}
+
+/// The append that a line is.
+fn read_append(alloc: Global, line: &[u8]) -> Result<Command, GiveUp>
+    ensures { IfOk result (IsCommandOf line.now) }
+{
+    if !line.starts_with(HEAD) {
+        return Err(GiveUp);
+    }
+    match simdutf8::basic::from_utf8(line) {
+        Ok(text) => {
+            let mut scratch = Scratch::new(alloc);
+            read_text(alloc, text, &mut scratch)
+        }
+        Err(_) => Err(GiveUp),
+    }
+}
+
+/// The command that a line is. An append without hints, whose keys come in the order `cmd`, `dtype`,
+/// `rows`, is read token by token, with no JSON value between. What isn't read so is read by
+/// `vortex_table_request`, which alone refuses.
+pub fn read_command(alloc: Global, line: &[u8]) -> Result<Command, ParseError>
+    ensures command { Gives shown result (command_of line.now) }
+    // An append's hints are those of the line.
+    ensures hints { IfOk result (λ command.
+        IfSome (data_of line.now) (λ object. HasHintsOf object command)) }
+{
+    match read_append(alloc, line) {
+        Ok(command) => Ok(command),
+        Err(_) => vortex_table_request::read_command(alloc, line),
+    }
+}

@@ -1,0 +1,97 @@
+//! JSON values from tokens.
+ghost use Rattle.std.specs.Prelude.{◌≡◌, Some, IfOk};
+ghost use Rattle.json.specs.Reads.{token_of};
+ghost use Rattle.serde_json.specs.Data.{Num, number, no_members};
+ghost use Rattle.serde_json.specs.Read.{number_of};
+ghost use Rattle.serde_json.specs.View.{view, items_view, members_view};
+ghost use Rattle.vortex_table_tokens.specs.Begins.{Begins, BeginsItems, BeginsMembers, IsOne};
+
+use crate::give_up::GiveUp;
+use crate::integers::read_integer;
+use crate::tokens::next_token;
+use json::{Reader, Token};
+use serde_json::{Map, Number, Value};
+use std::alloc::Global;
+
+fn read_number(text: &str) -> Result<Value, GiveUp>
+    ensures { IfOk result (λ v. (n : Num)
+        × (number_of text.now ≡ Some n) × (view v ≡ number n)) }
+{
+    let integer = read_integer(text)?;
+    match Number::from_i128(integer) {
+        Some(number) => Ok(Value::Number(number)),
+        None => Err(GiveUp),
+    }
+}
+
+/// The value that one token is.
+fn read_one(alloc: Global, token: Token<'_>) -> Result<Value, GiveUp>
+    ensures { IfOk result (λ v. IsOne (token_of token.entry) (view v)) }
+{
+    match token {
+        Token::Null => Ok(Value::Null),
+        Token::Bool(truth) => Ok(Value::Bool(truth)),
+        Token::Number(text) => read_number(text),
+        Token::String(text) => Ok(Value::String(String::from_str(alloc, text)?)),
+        Token::BeginObject | Token::EndObject | Token::BeginArray => Err(GiveUp),
+        Token::EndArray | Token::Key(_) | Token::Bad => Err(GiveUp),
+    }
+}
+
+/// The value that the tokens begin with, nested no deeper than this, where its numbers are integers
+/// of 64 bits.
+#[cycle(tree)]
+pub(crate) fn read_tree(
+    alloc: Global,
+    reader: &mut Reader<'_>,
+    depth: usize,
+) -> Result<Value, GiveUp>
+    ensures { IfOk result (λ v. Begins depth reader.old (view v) reader.new) }
+{
+    let token = next_token(reader)?;
+    match token {
+        Token::BeginArray => {
+            if depth == 0 {
+                return Err(GiveUp);
+            }
+            Ok(Value::Array(read_items(alloc, reader, depth - 1)?))
+        }
+        Token::BeginObject => {
+            if depth == 0 {
+                return Err(GiveUp);
+            }
+            Ok(Value::Object(read_members(alloc, reader, depth - 1)?))
+        }
+        _ => read_one(alloc, token),
+    }
+}
+
+#[cycle(tree)]
+fn read_items(alloc: Global, reader: &mut Reader<'_>, depth: usize) -> Result<Vec<Value>, GiveUp>
+    ensures { IfOk result (λ v. BeginsItems depth reader.old (items_view v.items) reader.new) }
+{
+    let mut found = Vec::new(alloc);
+    'items: while !reader.take_end_array() {
+        let item = read_tree(alloc, reader, depth)?;
+        found.push(item)?;
+    }
+    Ok(found)
+}
+
+#[cycle(tree)]
+fn read_members(
+    alloc: Global,
+    reader: &mut Reader<'_>,
+    depth: usize,
+) -> Result<Map<String, Value>, GiveUp>
+    ensures { IfOk result (λ m.
+        BeginsMembers depth reader.old no_members (members_view m.entries) reader.new) }
+{
+    let mut found = Map::new(alloc);
+    'members: while let Some(name) = reader.next_key()? {
+        let key = String::from_str(alloc, name)?;
+        let member = read_tree(alloc, reader, depth)?;
+        drop(found.insert(key, member)?);
+    }
+    Ok(found)
+}

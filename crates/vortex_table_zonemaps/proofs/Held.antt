@@ -1,0 +1,164 @@
+-- What is held of zones, with one zone more, and parts of it.
+use Rattle.std.proofs.Common.{◌≡◌, refl, sym, ap, subst, ◌∙◌, ℕ, zero, suc, ◌+◌, ◌<◌, ◌≤◌, Bool, ℤ, List, [], ◌∷◌, ◌++◌, length, map, take, drop, get_or, set, inl, inr, arith}
+use Rattle.std.specs.Prelude.{Option, Some, None, slice_get, option_map, IfSome, MatchOption}
+use Rattle.std.specs.Borrow.{Bor}
+use Rattle.std.proofs.lemmas.Bool.{cases_eq}
+use Rattle.std.proofs.lemmas.List.{length-map, length-take, length-drop, map-append, take-map, drop-map, get_or_default, get_or-set_same, get_or-set_other, length-set}
+use Rattle.vortex_model.specs.Content.{Content}
+use Rattle.vortex_model.specs.Expression.{Aggregate}
+use Rattle.vortex_table_chunk.specs.BoundStat.{stat_value_or_null}
+use Rattle.vortex_table_chunk.specs.declared.zones.bounds.ColumnBounds.{ColumnBounds}
+use Rattle.vortex_table_zonemaps.specs.Column.{IsColumnOf, IsEntryOf, AreNumbers}
+use Rattle.vortex_table_zonemaps.specs.Stretch.{IsStretch, zones_in}
+use Rattle.vortex_table_zonemaps.specs.Zones.{Zone, zone_of, leaf_stat, IsLeaf, AreLeaves}
+use Rattle.vortex_table_zonemaps.specs.declared.column.Entry.{Entry}
+use Rattle.vortex_table_zonemaps.specs.declared.column.StatColumn.{StatColumn}
+use Rattle.vortex_table_zonemaps.specs.declared.column.StatColumn.TheVariants as column
+use Rattle.vortex_table_zonemaps.specs.declared.leaf.LeafZones.{LeafZones}
+use Rattle.vortex_table_zonemaps.specs.declared.proved.Stretch.{Stretch}
+
+-- ---- columns of a statistic
+
+abbrev Kept : ℕ → StatColumn → StatColumn → Type 0
+Kept n old new = (cs : List Content) → length cs ≡ n → IsColumnOf old cs → IsColumnOf new cs
+
+abbrev Put : ℕ → Entry → StatColumn → StatColumn → Type 0
+Put n e old new = (cs : List Content) (c : Content) → length cs ≡ n → IsEntryOf e c → IsColumnOf old cs → IsColumnOf new (cs ++ c ∷ [])
+
+module _ (f : Zone → Content) (n : ℕ) (old new : StatColumn) (zones : List Zone) (many : length zones ≡ n) where
+  pub zones_kept : Kept n old new → IsColumnOf old (map f zones) → IsColumnOf new (map f zones)
+  zones_kept h is = h (map f zones) (length-map zones f ∙ many) is
+
+  pub zone_put : (e : Entry) (zone : Zone) → Put n e old new → IsEntryOf e (f zone) → IsColumnOf old (map f zones) → IsColumnOf new (map f (zones ++ zone ∷ []))
+  zone_put e zone h says is = subst (IsColumnOf new) (sym (map-append f zones (zone ∷ []))) (h (map f zones) (f zone) (length-map zones f ∙ many) says is)
+
+-- ---- leaves
+
+-- the leaves before this index are put, and the others are as they were
+pub record Putting (n : ℕ) (bounds : List ColumnBounds) (rows : ℕ) (old : List LeafZones) (i : ℕ) (now : List LeafZones) : Type 0 where
+  pub many : length now ≡ length old
+  pub done : (j : ℕ) (leaf : LeafZones) → j < i → j < length old → (zones : List Zone) → length zones ≡ n → IsLeaf j (get_or old j leaf) zones → IsLeaf j (get_or now j leaf) (zones ++ (bounds, rows) ∷ [])
+  pub kept : (j : ℕ) (leaf : LeafZones) → j < length old → (zones : List Zone) → length zones ≡ n → IsLeaf j (get_or old j leaf) zones → IsLeaf j (get_or now j leaf) zones
+  pub same : (j : ℕ) (leaf : LeafZones) → i ≤ j → get_or now j leaf ≡ get_or old j leaf
+
+module _ (n : ℕ) (bounds : List ColumnBounds) (rows : ℕ) where
+  pub put_start : (old : List LeafZones) → Putting n bounds rows old 0 old
+  put_start old = record { many = refl; done = λ j leaf l. absurd (omega (arith, l)); kept = λ j leaf l zones m is. is; same = λ j leaf l. refl }
+
+  module _ (old now : List LeafZones) (i : ℕ) (p : Putting n bounds rows old i now) where
+    pub all_kept : (zones : List Zone) → length zones ≡ n → AreLeaves old zones → AreLeaves now zones
+    all_kept zones m are = λ j leaf l. let same = p.many in let inside : j < length old = omega (arith, l, same) in p.kept j leaf inside zones m (are j leaf inside)
+
+    pub all_put : length old ≤ i → (zones : List Zone) → length zones ≡ n → AreLeaves old zones → AreLeaves now (zones ++ (bounds, rows) ∷ [])
+    all_put end zones m are = λ j leaf l. let same = p.many in let inside : j < length old = omega (arith, l, same) in p.done j leaf (omega (arith, inside, end)) inside zones m (are j leaf inside)
+
+    -- a leaf that is next, which a call keeps
+    module _ (leaf new : LeafZones) (next : List LeafZones) (inside : i < length now) (is : leaf ≡ get_or now i leaf) (set_at : next ≡ set now i new)
+        (keeps : (zones : List Zone) → length zones ≡ n → IsLeaf i leaf zones → IsLeaf i new zones) where
+      there : (d : LeafZones) → get_or next i d ≡ new
+      there d = ap (λ ls. get_or ls i d) set_at ∙ get_or-set_same now i new d inside
+
+      was : (d : LeafZones) → get_or old i d ≡ leaf
+      was d = sym (p.same i d (omega arith)) ∙ get_or_default now i d leaf inside ∙ sym is
+
+      elsewhere : (j : ℕ) (d : LeafZones) → (j ≡ i → ⊥) → get_or next j d ≡ get_or now j d
+      elsewhere j d other = ap (λ ls. get_or ls j d) set_at ∙ get_or-set_other now i j new d other
+
+      longer : length next ≡ length old
+      longer = ap length set_at ∙ length-set now i new ∙ p.many
+
+      pub still_kept : (zones : List Zone) → length zones ≡ n → AreLeaves old zones → AreLeaves next zones
+      still_kept zones m are = λ j d l. elim (cases_eq j i) [
+        | inl same ↦
+            let long = longer in let within : j < length old = omega (arith, l, long) in
+            subst (λ k. IsLeaf j (get_or next k d) zones) (sym same) (subst (λ x. IsLeaf j x zones) (sym (there d))
+            (subst (λ k. IsLeaf k new zones) (sym same) (keeps zones m (subst (λ x. IsLeaf i x zones) (was d) (subst (λ k. IsLeaf k (get_or old k d) zones) same (are j d within))))))
+        | inr other ↦
+            let long = longer in let within : j < length old = omega (arith, l, long) in
+            subst (λ x. IsLeaf j x zones) (sym (elsewhere j d other)) (p.kept j d within zones m (are j d within))
+      ]
+
+      pub one_put : ((zones : List Zone) → length zones ≡ n → IsLeaf i leaf zones → IsLeaf i new (zones ++ (bounds, rows) ∷ [])) → Putting n bounds rows old (i + 1) next
+      one_put puts = record {
+        many = longer;
+        done = λ j d l within zones m are. elim (cases_eq j i) [
+          | inl same ↦
+              subst (λ k. IsLeaf j (get_or next k d) (zones ++ (bounds, rows) ∷ [])) (sym same) (subst (λ x. IsLeaf j x (zones ++ (bounds, rows) ∷ [])) (sym (there d))
+              (subst (λ k. IsLeaf k new (zones ++ (bounds, rows) ∷ [])) (sym same) (puts zones m (subst (λ x. IsLeaf i x zones) (was d) (subst (λ k. IsLeaf k (get_or old k d) zones) same are)))))
+          | inr other ↦
+              subst (λ x. IsLeaf j x (zones ++ (bounds, rows) ∷ [])) (sym (elsewhere j d other)) (p.done j d (omega (arith, l, other)) within zones m are)
+        ];
+        kept = λ j d within zones m are. elim (cases_eq j i) [
+          | inl same ↦
+              subst (λ k. IsLeaf j (get_or next k d) zones) (sym same) (subst (λ x. IsLeaf j x zones) (sym (there d))
+              (subst (λ k. IsLeaf k new zones) (sym same) (keeps zones m (subst (λ x. IsLeaf i x zones) (was d) (subst (λ k. IsLeaf k (get_or old k d) zones) same are)))))
+          | inr other ↦ subst (λ x. IsLeaf j x zones) (sym (elsewhere j d other)) (p.kept j d within zones m are)
+        ];
+        same = λ j d l. elsewhere j d (λ e. absurd (omega (arith, l, e))) ∙ p.same j d (omega (arith, l));
+      }
+
+-- ---- stretches
+
+module _ (f : Zone → Content) (s : Stretch) (is : IsStretch s) where
+  abbrev all : List Content
+  all = map f (map zone_of s.chunks.now)
+
+  pub long_enough : s.first + s.count ≤ length all
+  long_enough =
+      let chunks = length-map s.chunks.now zone_of in let zones = length-map (map zone_of s.chunks.now) f in let within = is.within in
+      omega (arith, chunks, zones, within)
+
+  part : take s.count (drop s.first all) ≡ map f (zones_in s)
+  part =
+      ap (take s.count) (drop-map f s.first (map zone_of s.chunks.now)) ∙ take-map f s.count (drop s.first (map zone_of s.chunks.now))
+      ∙ ap (map f) (ap (take s.count) (drop-map zone_of s.first s.chunks.now) ∙ take-map zone_of s.count (drop s.first s.chunks.now))
+
+  pub within_all : (held : StatColumn) → IsColumnOf held all → (cs : List Content) × IsColumnOf held cs × (s.first + s.count ≤ length cs)
+  within_all held h = (all, h, long_enough)
+
+  pub of_part : (ns : List ℤ) (ks : List Bool) → AreNumbers ns ks (take s.count (drop s.first all)) → AreNumbers ns ks (map f (zones_in s))
+  of_part ns ks h = subst (AreNumbers ns ks) part h
+
+-- ---- of no zones anything is held
+
+nothing : (held : StatColumn) → IsColumnOf held []
+nothing (column.Numbers numbers known) = record { numbers = refl; known = refl; plain = refl }
+nothing column.Other = tt
+
+pub no_leaves : (leaves : List LeafZones) → AreLeaves leaves []
+no_leaves leaves = λ j leaf l.
+    let held = get_or leaves j leaf in record {
+      lows = nothing held.lows;
+      highs = nothing held.highs;
+      null_counts = nothing held.null_counts;
+    }
+
+-- ---- entries
+
+pub as_told : (e : Entry) (j : ℕ) (zone : Zone) (bounds : Option ColumnBounds) (rows : ℕ) (a : Aggregate) → slice_get zone.0 j ≡ bounds → zone.1 ≡ rows → IsEntryOf e (stat_value_or_null bounds rows a) → IsEntryOf e (leaf_stat j a zone)
+as_told e j zone bounds rows a at many says = subst (IsEntryOf e) (λ i. stat_value_or_null (sym at i) (sym many i) a) says
+
+pub some_weaker : {A : Type 0} {P Q : A → Type 0} (o : Option A) → ((a : A) → P a → Q a) → IfSome o P → IfSome o Q
+some_weaker None f h = tt
+some_weaker (Some a) f h = f a h
+
+none_at : {X : Type 0} (xs : List X) (i : ℕ) → length xs ≤ i → slice_get xs i ≡ None
+none_at [] i h = refl
+none_at (x ∷ xs) zero h = absurd (omega (arith, h))
+none_at (x ∷ xs) (suc i) h = none_at xs i (omega (arith, h))
+
+some_at : {X : Type 0} (xs : List X) (i : ℕ) (x : X) → i < length xs → x ≡ get_or xs i x → slice_get xs i ≡ Some x
+some_at [] i x h e = absurd (omega (arith, h))
+some_at (y ∷ xs) zero x h e = ap Some (sym e)
+some_at (y ∷ xs) (suc i) x h e = some_at xs i x (omega (arith, h)) e
+
+pub found_at : {X : Type 0} (Q : Bor X → Type 0) (xs : List X) (i : ℕ) (o : Option (Bor X)) → MatchOption o (length xs ≤ i) (λ x. (i < length xs) × Q x) → IfSome o (λ x. x.now ≡ get_or xs i x.now) →
+    slice_get xs i ≡ option_map (λ x. x.now) o
+found_at Q xs i None m f = none_at xs i m
+found_at Q xs i (Some x) m f = some_at xs i x.now m.0 f
+
+pub counted : (s : Stretch) → IsStretch s → length (zones_in s) ≡ s.count
+counted s is =
+    let mapped = length-map (take s.count (drop s.first s.chunks.now)) zone_of in let taken = length-take s.count (drop s.first s.chunks.now) in
+    let left = length-drop s.first s.chunks.now in let within = is.within in
+    omega (arith, mapped, taken, left, within)

@@ -1,0 +1,4 @@
+pub mod Column
+pub mod Side
+pub mod Stretch
+pub mod Zones

@@ -1,0 +1,104 @@
+//! The statistics of all leaf columns of zones.
+ghost use Rattle.std.specs.Prelude.{◌≡◌, ◌∷◌, ◌++◌, [], List, length, OnOk};
+ghost use Rattle.vortex_table_chunk.specs.declared.zones.bounds.ColumnBounds.{ColumnBounds};
+ghost use Rattle.vortex_table_zonemaps.specs.Zones.{Zone, AreLeaves};
+
+use crate::column::StatColumn;
+use crate::leaf::{LeafZones, count_entry};
+use std::alloc::{AllocError, Global};
+use vortex_stats_stat::aggregate::AggregateFn;
+use vortex_table_chunk::chunk::Chunk;
+use vortex_table_chunk::zones::bounds::ColumnBounds;
+
+/// What proofs read of zones, such as the chunks of a table: of each leaf column the low, the high
+/// and the null count, and the number of rows. What an array of columns is to rows, this is to
+/// zones.
+#[derive(Drop)]
+pub struct ZoneMaps {
+    pub leaves: Vec<LeafZones>,
+    pub rows: StatColumn,
+}
+
+// Puts the statistics of a zone of so many rows behind those of `count` zones.
+fn put_leaves(
+    leaves: &mut Vec<LeafZones>,
+    count: usize,
+    bounds: &[ColumnBounds],
+    rows: usize,
+) -> Result<(), AllocError>
+    ensures kept { (zones : List Zone) → length zones ≡ count
+        → AreLeaves leaves.old.items zones → AreLeaves leaves.new.items zones }
+    ensures put { OnOk result ((zones : List Zone) → length zones ≡ count
+        → AreLeaves leaves.old.items zones
+        → AreLeaves leaves.new.items (zones ++ (bounds.now, rows) ∷ [])) }
+{
+    for index in 0..leaves.len() {
+        leaves[index].put(count, bounds.get(index), rows)?;
+    }
+    Ok(())
+}
+
+impl ZoneMaps {
+    ghost use Rattle.std.specs.Prelude.{◌≡◌, ◌∷◌, ◌++◌, [], List, length, map, IfOk, OnOk, IfSome};
+    ghost use Rattle.vortex_stats_stat.specs.Aggregate.{aggregate_of};
+    ghost use Rattle.vortex_table_zonemaps.specs.Column.{IsColumnOf};
+    ghost use Rattle.vortex_table_zonemaps.specs.Zones.{Zone, zone_of, leaf_stat, AreZoneMaps};
+
+    /// Of no zones with so many leaf columns.
+    pub fn new(alloc: Global, leaves: usize) -> Result<ZoneMaps, AllocError>
+        ensures { IfOk result (λ maps. AreZoneMaps maps []) }
+    {
+        let mut held = Vec::with_capacity(alloc, leaves)?;
+        for _ in 0..leaves {
+            held.push(LeafZones::new(alloc))?;
+        }
+        Ok(ZoneMaps {
+            leaves: held,
+            rows: StatColumn::new(alloc),
+        })
+    }
+
+    /// Puts a zone behind `count` zones, which stay as they are, whether it is refused or not. Its
+    /// `bounds` are those of the leaf columns in their order. What stood behind the `count` zones,
+    /// as an earlier call left it that was refused, is given up.
+    pub fn put(
+        &mut self,
+        count: usize,
+        bounds: &[ColumnBounds],
+        rows: usize,
+    ) -> Result<(), AllocError>
+        ensures kept { (zones : List Zone) → length zones ≡ count
+            → AreZoneMaps self.old zones → AreZoneMaps self.new zones }
+        ensures put { OnOk result ((zones : List Zone) → length zones ≡ count
+            → AreZoneMaps self.old zones
+            → AreZoneMaps self.new (zones ++ (bounds.now, rows) ∷ [])) }
+    {
+        put_leaves(&mut self.leaves, count, bounds, rows)?;
+        self.rows.put(count, count_entry(rows as u64))?;
+        Ok(())
+    }
+
+    /// Of these chunks, which have so many leaf columns.
+    pub fn of_chunks(alloc: Global, leaves: usize, chunks: &[Chunk]) -> Result<ZoneMaps, AllocError>
+        ensures { IfOk result (λ maps. AreZoneMaps maps (map zone_of chunks.now)) }
+    {
+        let mut maps = ZoneMaps::new(alloc, leaves)?;
+        for (index, chunk) in chunks.iter().enumerate() {
+            maps.put(index, &chunk.bounds, chunk.array.len())?;
+        }
+        Ok(maps)
+    }
+
+    /// A statistic of the leaf column at an index, and `None` where none is held.
+    pub fn column(&self, leaf: usize, aggregate: AggregateFn) -> Option<&StatColumn>
+        ensures { (zones : List Zone) → AreZoneMaps self.now zones → IfSome result
+            (λ column. IsColumnOf column.now
+            (map (leaf_stat leaf (aggregate_of aggregate)) zones)) }
+    {
+        if leaf >= self.leaves.len() {
+            return None;
+        }
+        let held = &self.leaves[leaf];
+        held.column(aggregate)
+    }
+}
