@@ -75,7 +75,8 @@ pub(crate) fn of_bytes<T: AsSlice<u8>>(
     ensures made { IfOk result
         (λ a. IsOfValues (binary non_nullable) (map (option_map T.items) (map Some items.now)) a) }
     ensures refused { IfErr result
-        (λ e. IsValuesFault e (binary non_nullable) (map (option_map T.items) (map Some items.now))) }
+        (λ e. IsValuesFault e (binary non_nullable)
+        (map (option_map T.items) (map Some items.now))) }
 {
     let values = lend_bytes(alloc, items)?;
     of_held_values(

@@ -85,7 +85,8 @@ pub trait VarBinViewArrayIter: Sized {
             → I.IntoIter.can_next it × IsFinite (I.IntoIter.remaining it) }
         ensures made { IfOk result (λ a. (it : I.IntoIter) × (xs : List T)
             × I.into_iter_gives iter it × Drains I.IntoIter.next_gives it xs
-            × IsOfValues (binary non_nullable) (map (option_map T.items) (map Some xs)) (layout a)) }
+            × IsOfValues (binary non_nullable)
+            (map (option_map T.items) (map Some xs)) (layout a)) }
         ensures refused { IfErr result (λ e. (e ≡ Memory)
             ⊎ ((it : I.IntoIter) × (xs : List T)
             × I.into_iter_gives iter it × Drains I.IntoIter.next_gives it xs

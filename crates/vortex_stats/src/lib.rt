@@ -41,7 +41,9 @@ pub use vortex_stats_provider::stat_fn::{StatFn, StatOptions};
 pub use vortex_stats_provider::stat_scalar::stat_scalar;
 pub use vortex_stats_provider::stats_set_ext::StatsSetExt;
 pub use vortex_stats_rules::bind::bind;
-pub use vortex_stats_rules::laws::{falsifiers_are_sound, satisfiers_are_sound};
+pub use vortex_stats_rules::laws::{
+    comparisons_are_visited_once, falsifiers_are_sound, satisfiers_are_sound,
+};
 pub use vortex_stats_rules::meter::Meter;
 pub use vortex_stats_rules::negation::{Never, NotLiteral};
 pub use vortex_stats_rules::rewrite::{falsify, satisfy};

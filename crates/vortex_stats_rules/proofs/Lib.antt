@@ -1,4 +1,5 @@
 pub mod Counts
+pub mod Handed
 pub mod Joining
 pub mod Judging
 pub mod Keeping

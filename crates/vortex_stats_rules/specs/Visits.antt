@@ -1,5 +1,6 @@
 -- What a meter counts of rewrites.
-use Rattle.std.specs.Prelude.{ℕ, ◌+◌}
+use Rattle.std.specs.Prelude.{ℕ, ◌+◌, ⊤}
+use Rattle.vortex_model.specs.Expression.{Expression, compare, both, either}
 use Rattle.vortex_model.specs.Scan.{saturated}
 use Rattle.vortex_stats_rules.specs.declared.meter.Meter.{Meter}
 
@@ -13,3 +14,16 @@ visited n meter = record {
   proofs = meter.proofs;
   visits = saturated (meter.visits + n);
 }
+
+-- AND and OR over comparisons
+abbrev pub IsOfComparisons : Expression → Type 0
+IsOfComparisons (compare op x y) = ⊤
+IsOfComparisons (both x y) = IsOfComparisons x × IsOfComparisons y
+IsOfComparisons (either x y) = IsOfComparisons x × IsOfComparisons y
+IsOfComparisons e = ⊥
+
+-- how many comparisons, ANDs and ORs it has, where it has nothing else
+abbrev pub node_count : Expression → ℕ
+node_count (both x y) = node_count x + node_count y + 1
+node_count (either x y) = node_count x + node_count y + 1
+node_count e = 1

@@ -1,11 +1,12 @@
 //! Why proofs that are made with callers' rules may be believed. Each function's clause is a law.
-ghost use Rattle.std.specs.Prelude.{◌≡◌};
+ghost use Rattle.std.specs.Prelude.{◌≡◌, length};
 ghost use Rattle.vortex_model.specs.LogicalType.{LogicalType};
 ghost use Rattle.vortex_model.specs.Expression.{Expression, HasFormedLiterals};
 ghost use Rattle.vortex_model.specs.Sound.{IsSoundFalsifier, IsSoundSatisfier};
 ghost use Rattle.vortex_model.specs.Truth.{HasTruth};
-ghost use Rattle.vortex_model_rules.specs.Rules.{proof, fals, sat};
+ghost use Rattle.vortex_model_rules.specs.Rules.{proof, fals, sat, handed_over};
 ghost use Rattle.vortex_stats_rules.specs.Meanings.{rules_of};
+ghost use Rattle.vortex_stats_rules.specs.Visits.{IsOfComparisons, node_count};
 
 use crate::rule::StatsRewriteRuleRef;
 use vortex_model_rules::laws::{falsifiers_with_rules_are_sound, satisfiers_with_rules_are_sound};
@@ -27,3 +28,10 @@ pub fn satisfiers_are_sound(rules: &[StatsRewriteRuleRef])
 {
     satisfiers_with_rules_are_sound();
 }
+
+/// Of AND and OR over comparisons each node is handed to the rules once, so that the visits which
+/// `falsify` counts are their number.
+#[tactic(auto, using(crate::proofs::Handed::each_handed_once))]
+pub fn comparisons_are_visited_once()
+    ensures { (e : Expression) → IsOfComparisons e → length (handed_over e) ≡ node_count e }
+{}

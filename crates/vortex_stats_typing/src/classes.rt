@@ -1,6 +1,6 @@
 //! Classes of expressions' types: whether bounds and counts of NaN can be asked for.
 //!
-//! A class takes no memory, and an expression with a fault inside has one where its root has a type.
+//! A class takes no memory. An expression with a fault inside has one where its root has a type.
 ghost use Rattle.std.specs.Prelude.{◌≡◌, false};
 ghost use Rattle.std.specs.Option.{option_map_or};
 ghost use Rattle.vortex_model.specs.Command.{is_boolean};

@@ -62,9 +62,9 @@ pub enum TableError {
 }
 
 impl TableError {
-    ghost use Rattle.std.specs.Prelude.{◌≡◌, IfSome, option_and_then};
+    ghost use Rattle.std.specs.Prelude.{◌≡◌, ◌≤◌, IfSome, length, option_and_then};
     ghost use Rattle.vortex_model.specs.Refusal.{number_of, index_of};
-    ghost use Rattle.vortex_table_check.specs.Error.{refusal_of};
+    ghost use Rattle.vortex_table_check.specs.Error.{refusal_of, error_name};
     ghost use Rattle.vortex_table_check.specs.declared.error.TableError.TheVariants.{Memory, Total};
 
     /// The error's number, from 1 to 21.
@@ -92,6 +92,33 @@ impl TableError {
             TableError::UnsupportedLike => 16,
             TableError::UnsupportedPredicate => 20,
             TableError::RepeatedPath(_) => 21,
+        }
+    }
+
+    /// The error's name, as answers say it.
+    pub fn name(self) -> &'static str
+        ensures name { result.now ≡ error_name self }
+        ensures short { length result.now ≤ 24 }
+    {
+        match self {
+            TableError::Memory => "Memory",
+            TableError::NotARecord => "NotARecord",
+            TableError::UnkeptType => "UnkeptType",
+            TableError::RepeatedName => "RepeatedName",
+            TableError::InvalidValue(_) => "InvalidValue",
+            TableError::NotConvertible(_) => "NotConvertible",
+            TableError::Total => "Total",
+            TableError::NoSuchGroup => "NoSuchGroup",
+            TableError::UnknownPath(_) => "UnknownPath",
+            TableError::ElementStep(_) => "ElementStep",
+            TableError::Placeholder => "Placeholder",
+            TableError::UnknownColumn => "UnknownColumn",
+            TableError::NotALeaf => "NotALeaf",
+            TableError::UnequalTypes => "UnequalTypes",
+            TableError::NotBoolean => "NotBoolean",
+            TableError::UnsupportedLike => "UnsupportedLike",
+            TableError::UnsupportedPredicate => "UnsupportedPredicate",
+            TableError::RepeatedPath(_) => "RepeatedPath",
         }
     }
 

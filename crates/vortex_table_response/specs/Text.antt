@@ -4,11 +4,12 @@ use Rattle.std.specs.Fmt.{signed_decimal}
 use Rattle.hex.specs.Hex.{encode_lower}
 use Rattle.json.specs.Print.{quoted}
 use Rattle.vortex_model.specs.Content.{Content, null, boolean, integer, text, byte_string, tuple, Contents, nothing, first}
-use Rattle.vortex_model.specs.Refusal.{Refusal, not_a_record, unkept_type, repeated_name, invalid_value, not_convertible, total_passed, no_such_group, unknown_path, element_step, placeholder, unknown_column, not_a_leaf, unequal_types, not_boolean, unsupported_like, no_table, unsupported_predicate, repeated_path, number_of}
+use Rattle.vortex_model.specs.Refusal.{Refusal, number_of, index_of}
 use Rattle.vortex_model.specs.Scan.{ScanAnswer}
 use Rattle.vortex_model.specs.Statistics.{Precision, exact, inexact, absent}
 use Rattle.vortex_model.specs.ZoneMap.{ZoneMap}
 use Rattle.vortex_stats_bound.specs.Precision.{precision_map}
+use Rattle.vortex_table_check.specs.Error.{name_of}
 use Rattle.vortex_table_response.specs.type_texts.Text.{flag_text, comma, type_text}
 
 -- ---- contents
@@ -43,35 +44,7 @@ numbers_text later (n ∷ ns) = comma later ++ decimal n ++ numbers_text true ns
 
 -- ---- answers
 
-abbrev pub name_of : Refusal → List ℕ
-name_of not_a_record = codes "NotARecord"
-name_of unkept_type = codes "UnkeptType"
-name_of repeated_name = codes "RepeatedName"
-name_of (invalid_value i) = codes "InvalidValue"
-name_of (not_convertible i) = codes "NotConvertible"
-name_of total_passed = codes "Total"
-name_of no_such_group = codes "NoSuchGroup"
-name_of (unknown_path i) = codes "UnknownPath"
-name_of (element_step i) = codes "ElementStep"
-name_of placeholder = codes "Placeholder"
-name_of unknown_column = codes "UnknownColumn"
-name_of not_a_leaf = codes "NotALeaf"
-name_of unequal_types = codes "UnequalTypes"
-name_of not_boolean = codes "NotBoolean"
-name_of unsupported_like = codes "UnsupportedLike"
-name_of no_table = codes "NoTable"
-name_of unsupported_predicate = codes "UnsupportedPredicate"
-name_of (repeated_path i) = codes "RepeatedPath"
-
--- the index that stands in front, for a row or a path at fault
-abbrev pub place_of : Refusal → Option ℕ
-place_of (invalid_value i) = Some i
-place_of (not_convertible i) = Some i
-place_of (unknown_path i) = Some i
-place_of (element_step i) = Some i
-place_of (repeated_path i) = Some i
-place_of r = None
-
+-- the index of the row or the path at fault, which stands in front
 abbrev pub place_text : Option ℕ → List ℕ
 place_text None = []
 place_text (Some i) = codes "\"at\":" ++ decimal i ++ codes ","
@@ -87,7 +60,7 @@ abbrev pub bad_line_text : List ℕ
 bad_line_text = refusal_parts None 18 (codes "BadLine")
 
 abbrev pub refusal_text : Refusal → List ℕ
-refusal_text r = refusal_parts (place_of r) (number_of r) (name_of r)
+refusal_text r = refusal_parts (index_of r) (number_of r) (name_of r)
 
 -- what stands in front of the rows
 abbrev pub scan_front_text : ScanAnswer → List ℕ

@@ -6,12 +6,12 @@ use Rattle.vortex_model.specs.Command.{Command, refusal_in}
 use Rattle.vortex_model.specs.Refusal.{Refusal, number_of, index_of}
 use Rattle.vortex_model.specs.Reply.{RespondsTo}
 use Rattle.vortex_table_core.specs.Totals.{PassesTotal}
-use Rattle.vortex_table_check.specs.Error.{refusal_of, Explains}
+use Rattle.vortex_table_check.specs.Error.{refusal_of, error_name, Explains}
 use Rattle.vortex_table_check.specs.declared.error.TableError.{TableError}
 use Rattle.vortex_table_check.specs.declared.error.TableError.TheVariants as error
 use Rattle.vortex_table_response.specs.Text.{refusal_parts}
 use Rattle.vortex_table_response.specs.Answers.{text_of}
-use Rattle.vortex_table_run.specs.CommandAnswers.{error_answer, error_name}
+use Rattle.vortex_table_run.specs.CommandAnswers.{error_answer}
 
 same : (place : Option ℕ) (n m : ℕ) (x y : List ℕ) → n ≡ m → x ≡ y → refusal_parts place n x ≡ refusal_parts place m y
 same place n m x y e f = ap (λ (k : ℕ). refusal_parts place k x) e ∙ ap (λ (z : List ℕ). refusal_parts place m z) f

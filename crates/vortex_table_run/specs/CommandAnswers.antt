@@ -1,5 +1,5 @@
 -- What is said to a command.
-use Rattle.std.specs.Prelude.{◌≡◌, ℕ, List, [], Option, Some, None, codes}
+use Rattle.std.specs.Prelude.{◌≡◌, ℕ, List, Option, Some, None}
 use Rattle.vortex_model.specs.Table.{Table}
 use Rattle.vortex_model.specs.Command.{Command}
 use Rattle.vortex_model.specs.Refusal.{total_passed}
@@ -7,7 +7,6 @@ use Rattle.vortex_model.specs.Reply.{Answer, accepted, out_of_memory, refused, R
 use Rattle.vortex_table_check.specs.Error.{refusal_of}
 use Rattle.vortex_table_check.specs.declared.error.TableError.{TableError}
 use Rattle.vortex_table_check.specs.declared.error.TableError.TheVariants as error
-use Rattle.vortex_table_response.specs.Text.{name_of}
 use Rattle.vortex_table_response.specs.Answers.{text_of}
 use Rattle.vortex_table_core.specs.Totals.{PassesTotal}
 use Rattle.vortex_table_io.specs.Lines.{with_lf}
@@ -30,8 +29,3 @@ Responds old c response out new =
 abbrev pub error_answer : TableError → Answer
 error_answer error.Total = refused total_passed
 error_answer e = elim (refusal_of e) [ None ↦ out_of_memory | Some r ↦ refused r ]
-
-abbrev pub error_name : TableError → List ℕ
-error_name error.Memory = codes "Memory"
-error_name error.Total = codes "Total"
-error_name e = elim (refusal_of e) [ None ↦ [] | Some r ↦ name_of r ]

@@ -114,9 +114,9 @@ fn read_append(alloc: Global, line: &[u8]) -> Result<Command, GiveUp>
     }
 }
 
-/// The command that a line is. An append without hints, whose keys come in the order `cmd`, `dtype`,
-/// `rows`, is read token by token, with no JSON value between. What isn't read so is read by
-/// `vortex_table_request`, which alone refuses.
+/// The command that a line is. An append without hints, whose keys come in the order `cmd`,
+/// `dtype`, `rows`, is read token by token, with no JSON value between. What isn't read so is read
+/// by `vortex_table_request`, which alone refuses.
 pub fn read_command(alloc: Global, line: &[u8]) -> Result<Command, ParseError>
     ensures command { Gives shown result (command_of line.now) }
     // An append's hints are those of the line.
