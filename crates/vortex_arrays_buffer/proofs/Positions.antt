@@ -4,16 +4,8 @@ use Rattle.std.specs.List.{All, count_by}
 use Rattle.std.proofs.lemmas.List.{append-nil, length-take-le, take_more}
 use Rattle.std.proofs.lemmas.List.Filters.{length-filter_both}
 use Rattle.std.proofs.lemmas.List.Recursion.{is_count_by}
-use Rattle.std.proofs.lemmas.List.Sums.{count_by_more_no, count_by_more_yes, length-filter}
+use Rattle.std.proofs.lemmas.List.Sums.{length-filter}
 use Rattle.vortex_arrays_buffer.specs.Bits.{positions_from, positions_of}
-
-pub count_yes : (bits : List Bool) (i : ℕ) (b : Bool) → i < length bits → b ≡ get_or bits i false → b ≡ true → count_by (λ x. x) (take (i + 1) bits) ≡ count_by (λ x. x) (take i bits) + 1
-count_yes bits i b l at is = count_by_more_yes (λ x. x) bits i false l (sym at ∙ is)
-
-pub count_no : (bits : List Bool) (i : ℕ) (b : Bool) → i < length bits → b ≡ get_or bits i false → b ≡ false → count_by (λ x. x) (take (i + 1) bits) ≡ count_by (λ x. x) (take i bits)
-count_no bits i b l at is = count_by_more_no (λ x. x) bits i false l (sym at ∙ is)
-
-pub ruleset counted = (count_yes, count_no)
 
 -- the bit after the first ones
 positions_push : (at : ℕ) (bits : List Bool) (b : Bool) → positions_from at (bits ++ b ∷ []) ≡ positions_from at bits ++ cond b ((at + length bits) ∷ []) []

@@ -1,6 +1,6 @@
-//! Single bits of bytes.
-ghost use Rattle.std.specs.Prelude.{◌≡◌, ◌≢◌, ◌<◌, ◌*◌, ℕ, true, length};
-ghost use Rattle.vortex_arrays_buffer.specs.Bits.{bit_of};
+//! Single bits of bytes, and the sixteen of two.
+ghost use Rattle.std.specs.Prelude.{◌≡◌, ◌≢◌, ◌<◌, ◌+◌, ◌*◌, ℕ, true, length};
+ghost use Rattle.vortex_arrays_buffer.specs.Bits.{bit_of, bits_of};
 
 /// The bit at a place, the lowest of the first byte being at 0.
 #[tactic(auto, using(crate::proofs::BitLemmas::bit_read))]
@@ -20,4 +20,32 @@ pub(crate) fn set_bit(bytes: &mut [u8], i: usize)
     ensures length { length bytes.new ≡ length bytes.old }
 {
     bytes[i / 8] |= 1 << (i % 8);
+}
+
+/// The sixteen bits of two bytes, the lowest of the first first. So many are spread by a few
+/// instructions over all of them.
+pub(crate) fn sixteen_bits(bytes: &[u8], k: usize) -> [bool; 16]
+    requires { k + 1 < length bytes.now }
+    ensures { result ≡ bits_of bytes.now (8 * k) 16 }
+{
+    let low = bytes[k];
+    let high = bytes[k + 1];
+    [
+        low & 1 == 1,
+        (low >> 1) & 1 == 1,
+        (low >> 2) & 1 == 1,
+        (low >> 3) & 1 == 1,
+        (low >> 4) & 1 == 1,
+        (low >> 5) & 1 == 1,
+        (low >> 6) & 1 == 1,
+        (low >> 7) & 1 == 1,
+        high & 1 == 1,
+        (high >> 1) & 1 == 1,
+        (high >> 2) & 1 == 1,
+        (high >> 3) & 1 == 1,
+        (high >> 4) & 1 == 1,
+        (high >> 5) & 1 == 1,
+        (high >> 6) & 1 == 1,
+        (high >> 7) & 1 == 1,
+    ]
 }

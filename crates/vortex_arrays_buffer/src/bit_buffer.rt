@@ -1,10 +1,12 @@
 //! A shared list of bits, cut with no copy.
-ghost use Rattle.std.specs.Prelude.{◌≡◌, ◌<◌, ◌≤◌, ◌↔◌, ◌-◌, ◌*◌, ◌/◌, ◌&&◌, ◌||◌, ℕ, [], true, false, not, length, map, count_by, replicate, slice_index_or, slice_range, IsTrue, IfOk, All};
+ghost use Rattle.std.specs.Prelude.{◌≡◌, ◌<◌, ◌≤◌, ◌↔◌, ◌*◌, ◌&&◌, ◌||◌, ℕ, [], true, false, not, length, map, count_by, replicate, slice_index_or, slice_range, IsTrue, IfOk, All};
 ghost use Rattle.std.specs.List.{zip};
 ghost use Rattle.vortex_arrays_buffer.specs.Bits.{bits_of, bits_at, positions_of};
 
 use crate::bit::{bit, set_bit};
 use crate::buffer::Buffer;
+use crate::count::count_true;
+use crate::unpack::unpack;
 use std::alloc::{AllocError, Global};
 use std::marker::Model;
 use std::ops::Range;
@@ -27,15 +29,6 @@ impl Model for BitBuffer {
     ghost view = { λ b. bits_of b.bytes b.start b.len };
 
     ghost invariant = { λ b. (b.start + b.len ≤ 8 * length b.bytes) × (b.start + b.len < 2 ^ 64) };
-}
-
-// The bits of the bytes from a place to another, a byte for each.
-fn unpack(alloc: Global, bytes: &[u8], start: usize, end: usize) -> Result<Vec<bool>, AllocError>
-    requires order { start ≤ end }
-    requires within { end ≤ 8 * length bytes.now }
-    ensures { IfOk result (λ items. items.items ≡ bits_of bytes.now start (end - start)) }
-{
-    (start..end).map(|i| bit(bytes, i)).collect(alloc)
 }
 
 impl BitBuffer {
@@ -152,26 +145,17 @@ impl BitBuffer {
     pub fn to_bools(&self, alloc: Global) -> Result<Vec<bool>, AllocError>
         ensures { IfOk result (λ items. items.items ≡ self.now) }
     {
-        unpack(
-            alloc,
-            self.bytes.as_slice(),
-            self.start,
-            self.start + self.len,
-        )
+        let bytes = self.bytes.as_slice();
+        unpack(alloc, bytes, self.start, self.start + self.len)
     }
 
     /// How many bits are true.
-    #[tactic(auto, using(crate::proofs::Positions::counted))]
+    #[tactic(auto, using(crate::proofs::BitLemmas::bits))]
     pub fn true_count(&self) -> usize
         ensures { result ≡ count_by (λ b. b) self.now }
     {
-        let mut count = 0;
-        for i in 0..self.len() {
-            if self.value(i) {
-                count += 1;
-            }
-        }
-        count
+        let bytes = self.bytes.as_slice();
+        count_true(bytes, self.start, self.start + self.len)
     }
 
     /// The places of the true bits, ascending, as Vortex's `BitBuffer::set_indices`.

@@ -5,11 +5,13 @@
 mod bit;
 pub mod bit_buffer;
 pub mod buffer;
+mod count;
 pub mod element;
 pub mod error;
 mod in_range;
 pub mod mask;
 pub mod primitive_buffer;
+mod unpack;
 
 pub use bit_buffer::BitBuffer;
 pub use buffer::Buffer;

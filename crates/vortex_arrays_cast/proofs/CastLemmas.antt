@@ -1,13 +1,12 @@
 -- Arrays cast to another type.
-use Rattle.std.proofs.Common.{◌≡◌, ◌<◌, ◌+◌, ℕ, ℤ, zero, suc, pos, Bool, true, false, ◌&&◌, cond, List, [], ◌∷◌, ◌++◌, length, get_or, refl, sym, ap, subst, ◌∙◌, arith, inl, inr}
+use Rattle.std.proofs.Common.{◌≡◌, ◌<◌, ◌≤ℤ◌, ◌+◌, ℕ, ℤ, Option, Some, None, zero, suc, pos, Bool, true, false, ◌&&◌, cond, List, [], ◌∷◌, ◌++◌, length, get_or, refl, sym, ap, subst, ◌∙◌, arith, inl, inr}
 use Rattle.std.specs.List.{list_all, All}
 use Rattle.std.proofs.lemmas.Bool.{cases_eq}
-use Rattle.std.proofs.lemmas.Int.{ints}
 use Rattle.std.proofs.lemmas.List.{get_or_append_left, get_or_push, length_push}
 use Rattle.vortex_model.specs.LogicalType.{LogicalType, boolean_type, integer_type, struct, Fields, no_fields, field, IntKind, Nullability, non_nullable, is_nullable, nullability_of}
 use Rattle.vortex_model.specs.Content.{Content, null, boolean, integer, tuple, first}
 use Rattle.vortex_model.specs.Convert.{converts, fields_convert}
-use Rattle.vortex_model.specs.Valid.{InRange, in_range}
+use Rattle.vortex_model.specs.Valid.{InRange}
 use Rattle.vortex_dtype_core.specs.View.{type_of, fields_of}
 use Rattle.vortex_dtype_core.specs.declared.struct_fields.StructField.{StructField}
 use Rattle.vortex_dtype_core.proofs.Views.{one_level, field_of-parts}
@@ -21,6 +20,8 @@ use Rattle.vortex_arrays_model.proofs.PicksLemmas.{field_size}
 use Rattle.vortex_arrays_validity.specs.Validities.{IsRecast, NoneNull}
 use Rattle.vortex_arrays_builder.specs.Types.{IsPlainLayout, ArePlainLayouts}
 use Rattle.vortex_arrays_cast.specs.Cast.{IsCast, AreCast}
+use Rattle.vortex_arrays_cast.specs.Ranges.{IsBetween, LieIn, Keeps}
+use Rattle.vortex_arrays_cast.proofs.NumberLemmas.{in_range_so}
 
 -- ---- rows
 
@@ -80,18 +81,44 @@ cast_bools bs v w m h = record {
   layout = tt;
 }
 
-in_range_so : (j : IntKind) (z : ℤ) → InRange j z → in_range j z ≡ true
-in_range_so j z h = let p = h.from in let q = h.to in grind (arith, ints, p, q)
+-- an integer that is not null stays itself
+stays : (k : IntKind) (r : Option (ℤ × ℤ)) (zs ws : List ℤ) (v : Valid) (i : ℕ) → Keeps r zs ws → LieIn r (numbers k zs v) → i < length zs → is_valid v i ≡ true → get_or ws i (pos 0) ≡ get_or zs i (pos 0)
+stays k None zs ws v i kept lie l e = ap (λ us. get_or us i (pos 0)) kept
+stays k (Some r) zs ws v i kept lie l e =
+    let z = get_or zs i (pos 0) in
+    let within : (r.0 ≤ℤ z) × (z ≤ℤ r.1) = subst (λ b. IsBetween r.0 r.1 (cond b (integer z) null)) e (lie i l) in
+    kept.each i l within.0 within.1
 
-pub cast_integers : (k j : IntKind) (zs ws : List ℤ) (v w : Valid) (m : Nullability) → ws ≡ zs → All (InRange j) ws → IsRecast v w m (length zs) → IsCast (integer_type j m) (numbers k zs v) (numbers j ws w)
-cast_integers k j zs ws v w m same fit h = subst (λ us. IsCast (integer_type j m) (numbers k zs v) (numbers j us w)) (sym same) (record {
-  sound = (subst (All (InRange j)) same fit, h.fits);
-  len = refl;
-  kind = ap (integer_type j) h.nullability;
-  content = λ i l. same_row v w m (length zs) i (integer (get_or zs i (pos 0))) h l;
-  held = λ i l. row_held (integer_type k (nullability_by v)) (integer_type j m) v w m (length zs) i (integer (get_or zs i (pos 0))) refl h l (in_range_so j (get_or zs i (pos 0)) (subst (All (InRange j)) same fit i (pos 0) l));
-  layout = tt;
-})
+as_many : (r : Option (ℤ × ℤ)) (zs ws : List ℤ) → Keeps r zs ws → length ws ≡ length zs
+as_many None zs ws h = ap length h
+as_many (Some r) zs ws h = h.many
+
+module _ (k j : IntKind) (zs ws : List ℤ) (v w : Valid) (m : Nullability) (r : Option (ℤ × ℤ)) (kept : Keeps r zs ws) (fit : All (InRange j) ws) (lie : LieIn r (numbers k zs v)) (h : IsRecast v w m (length zs)) where
+  same_number : (i : ℕ) → i < length zs → (b : Bool) → is_valid v i ≡ b → cond (is_valid w i) (integer (get_or ws i (pos 0))) null ≡ cond (is_valid v i) (integer (get_or zs i (pos 0))) null
+  same_number i l true e =
+      ap (λ b. cond b (integer (get_or ws i (pos 0))) null) (h.rows i l ∙ e) ∙ ap integer (stays k r zs ws v i kept lie l e)
+      ∙ sym (ap (λ b. cond b (integer (get_or zs i (pos 0))) null) e)
+  same_number i l false e =
+      ap (λ b. cond b (integer (get_or ws i (pos 0))) null) (h.rows i l ∙ e)
+      ∙ sym (ap (λ b. cond b (integer (get_or zs i (pos 0))) null) e)
+
+  number_held : (i : ℕ) → i < length zs → (b : Bool) → is_valid v i ≡ b → converts (integer_type k (nullability_by v)) (integer_type j m) (cond (is_valid v i) (integer (get_or zs i (pos 0))) null) ≡ true
+  number_held i l true e =
+      ap (λ b. converts (integer_type k (nullability_by v)) (integer_type j m) (cond b (integer (get_or zs i (pos 0))) null)) e
+      ∙ in_range_so j (get_or zs i (pos 0)) (subst (InRange j) (stays k r zs ws v i kept lie l e) (fit i (pos 0) (subst (λ n. i < n) (sym (as_many r zs ws kept)) l)))
+  number_held i l false e =
+      ap (λ b. converts (integer_type k (nullability_by v)) (integer_type j m) (cond b (integer (get_or zs i (pos 0))) null)) e
+      ∙ null_held w m i h.nullability (h.rows i l ∙ e)
+
+  pub cast_integers : IsCast (integer_type j m) (numbers k zs v) (numbers j ws w)
+  cast_integers = record {
+    sound = (fit, subst (HasLength w) (sym (as_many r zs ws kept)) h.fits);
+    len = as_many r zs ws kept;
+    kind = ap (integer_type j) h.nullability;
+    content = λ i l. same_number i l (is_valid v i) refl;
+    held = λ i l. number_held i l (is_valid v i) refl;
+    layout = tt;
+  }
 
 string_nullability : (s : Strings) (m : Nullability) → nullability_of (type_of_strings s m) ≡ m
 string_nullability texts m = refl

@@ -1,9 +1,10 @@
 -- Arrays cast to another type.
-use Rattle.std.specs.Prelude.{◌≡◌, ◌<◌, ◌*◌, ℕ, ℤ, pos, cond, true}
-use Rattle.vortex_model.specs.LogicalType.{LogicalType, Fields, no_fields, field, IntKind}
+use Rattle.std.specs.Prelude.{◌≡◌, ◌<◌, ◌*◌, ℕ, ℤ, pos, true}
+use Rattle.std.specs.Int.{w8, w16, w32, w64}
+use Rattle.num_traits.specs.Laws.{wrap_signed, wrap_unsigned}
+use Rattle.vortex_model.specs.LogicalType.{LogicalType, Fields, no_fields, field, IntKind, u8, u16, u32, u64, i8, i16, i32, i64}
 use Rattle.vortex_model.specs.Content.{integer}
 use Rattle.vortex_model.specs.Convert.{converts}
-use Rattle.vortex_model.specs.Valid.{in_range}
 use Rattle.vortex_arrays_model.specs.Layout.{Layout, Columns, no_columns, column, len_of, array_type_of, content_at, IsSound}
 use Rattle.vortex_arrays_builder.specs.Types.{IsPlainLayout}
 
@@ -22,9 +23,16 @@ AreCast no_fields no_columns no_columns = Unit {0}
 AreCast (field x k gs) (column y a cs) (column z r ds) = (z ≡ x) × IsCast k a r × AreCast gs cs ds
 AreCast gs cs ds = ⊥
 
--- the integer where the kind holds it, and else 0
-abbrev pub held_or_zero : IntKind → ℤ → ℤ
-held_or_zero k z = cond (in_range k z) z (pos 0)
+-- what Rust's `as` makes of the integer: the one of the kind that has its low bits
+abbrev pub low_bits : IntKind → ℤ → ℤ
+low_bits u8 z = wrap_unsigned 8 z
+low_bits u16 z = wrap_unsigned 16 z
+low_bits u32 z = wrap_unsigned 32 z
+low_bits u64 z = wrap_unsigned 64 z
+low_bits i8 z = wrap_signed w8 z
+low_bits i16 z = wrap_signed w16 z
+low_bits i32 z = wrap_signed w32 z
+low_bits i64 z = wrap_signed w64 z
 
 -- of these elements, each list has so many, and the lists stand end to end
 pub record StandEvenly (elements offsets sizes : Layout) (s : ℕ) : Type 0 where

@@ -1,1 +1,2 @@
 pub mod Cast
+pub mod Ranges

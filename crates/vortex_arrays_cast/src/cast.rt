@@ -1,17 +1,20 @@
 //! Arrays of any layout as those of another type.
 ghost use Rattle.std.specs.Prelude.{◌≡◌, length, IfOk, IfSome, IsTrue};
-ghost use Rattle.std.specs.List.{list_all};
+ghost use Rattle.std.specs.List.{All, list_all};
+ghost use Rattle.vortex_model.specs.Content.{tuple};
 ghost use Rattle.vortex_model.specs.Convert.{converts};
 ghost use Rattle.vortex_dtype_core.specs.View.{type_of, fields_of};
 ghost use Rattle.vortex_dtype_fields.specs.Records.{names_of};
-ghost use Rattle.vortex_arrays_model.specs.Layout.{array_type_of, rows_of, records, fixed_lists, list_views, IsSound, HasLength, HaveLength};
+ghost use Rattle.vortex_arrays_model.specs.Layout.{array_type_of, rows_of, records, fixed_lists, list_views, row_at, IsSound, HasLength, HaveLength};
 ghost use Rattle.vortex_arrays_model.specs.Parts.{columns_of};
 ghost use Rattle.vortex_arrays_core.specs.LayoutOf.{valid_of};
 ghost use Rattle.vortex_arrays_builder.specs.Types.{IsPlainLayout};
 ghost use Rattle.vortex_arrays_cast.specs.Cast.{IsCast, AreCast};
+ghost use Rattle.vortex_arrays_cast.specs.Ranges.{AreRangesOf, IsRangeIn};
 
 use crate::leaves::{cast_bools, cast_numbers, cast_strings, cast_validity};
 use crate::lists::{are_laid_out, even_offsets, even_sizes, stand_evenly};
+use crate::ranges::{LeafRange, field_ranges, in_field, own_range};
 use crate::records::of_columns;
 use std::alloc::{AllocError, Global};
 use vortex_arrays_core::array::{ArrayLayout, ArrayRef, Validity};
@@ -39,21 +42,48 @@ pub fn cast_array(
         (converts (array_type_of array.now) (type_of target.now)) (rows_of array.now)))) }
     ensures layout { IfOk result (λ cast. IfSome cast (λ r. IsPlainLayout r)) }
 {
-    cast_part(alloc, array, target)
+    cast_array_within(alloc, array, target, &[])
 }
 
+/// The rows as an array of another type, as by `cast_array`, where the integers of some leaf
+/// columns are known to lie in a range. Those of a column are not tested where the target holds the
+/// range. The ranges stand in the order of their positions.
+#[tactic(auto, using(crate::proofs::CastLemmas::rows))]
+pub fn cast_array_within(
+    alloc: Global,
+    array: &ArrayRef,
+    target: &DType,
+    ranges: &[LeafRange<'_>],
+) -> Result<Option<ArrayRef>, AllocError>
+    requires { AreRangesOf 0 array.now ranges.now }
+    ensures dtype { IfOk result
+        (λ cast. IfSome cast (λ r. array_type_of r ≡ type_of target.now)) }
+    ensures rows { IfOk result (λ cast. IfSome cast (λ r. rows_of r ≡ rows_of array.now)) }
+    ensures converts { IfOk result (λ cast. IfSome cast (λ _. IsTrue (list_all
+        (converts (array_type_of array.now) (type_of target.now)) (rows_of array.now)))) }
+    ensures layout { IfOk result (λ cast. IfSome cast (λ r. IsPlainLayout r)) }
+{
+    cast_part(alloc, array, target, ranges, 0)
+}
+
+// `ranges` are of leaves in this array, which is so many steps down.
 #[cycle(cast)]
 #[tactic(auto, using(crate::proofs::CastLemmas::layouts))]
 fn cast_part(
     alloc: Global,
     array: &ArrayRef,
     target: &DType,
+    ranges: &[LeafRange<'_>],
+    depth: usize,
 ) -> Result<Option<ArrayRef>, AllocError>
+    requires { AreRangesOf depth array.now ranges.now }
     ensures { IfOk result (λ cast. IfSome cast (IsCast (type_of target.now) array.now)) }
 {
     match array.layout() {
         ArrayLayout::Bool(bits, validity) => cast_bools(alloc, bits, validity, target),
-        ArrayLayout::Primitive(items, validity) => cast_numbers(alloc, items, validity, target),
+        ArrayLayout::Primitive(items, validity) => {
+            cast_numbers(alloc, items, validity, target, own_range(ranges, depth))
+        }
         ArrayLayout::VarBinView(kind, views, buffers, validity) => {
             cast_strings(alloc, *kind, views, buffers, validity, target)
         }
@@ -64,7 +94,7 @@ fn cast_part(
             cast_any_lists(alloc, elements, offsets, sizes, *follow, validity, target)
         }
         ArrayLayout::Struct(names, fields, len, validity) => {
-            cast_records(alloc, names, fields, *len, validity, target)
+            cast_records(alloc, names, fields, *len, validity, target, ranges, depth)
         }
         ArrayLayout::Constant(_, _) | ArrayLayout::Dict(_, _, _) => Ok(None),
     }
@@ -80,19 +110,25 @@ fn cast_records(
     len: usize,
     validity: &Validity,
     target: &DType,
+    ranges: &[LeafRange<'_>],
+    depth: usize,
 ) -> Result<Option<ArrayRef>, AllocError>
     requires fit { HaveLength (columns_of names.now fields.now.items) len }
     requires validity { HasLength (valid_of validity.now) len }
+    requires ranges { AreRangesOf depth
+        (records (columns_of names.now fields.now.items) len (valid_of validity.now)) ranges.now }
     ensures { IfOk result (λ cast. IfSome cast (IsCast (type_of target.now)
         (records (columns_of names.now fields.now.items) len (valid_of validity.now)))) }
 {
     let DType::Struct(targets, nullability) = target else {
         return Ok(None);
     };
+    let ranges = field_ranges(ranges, validity);
     let Some(validity) = cast_validity(validity, *nullability, len)? else {
         return Ok(None);
     };
-    let Some(columns) = cast_fields(alloc, names, fields, len, targets.as_slice())? else {
+    let Some(columns) = cast_fields(alloc, names, fields, len, targets.as_slice(), ranges, depth)?
+    else {
         return Ok(None);
     };
     let cast = of_columns(alloc, targets, columns, len, validity)?;
@@ -109,8 +145,12 @@ fn cast_fields(
     fields: &Vec<ArrayRef>,
     len: usize,
     targets: &[StructField],
+    ranges: &[LeafRange<'_>],
+    depth: usize,
 ) -> Result<Option<Vec<ArrayRef>>, AllocError>
     requires fit { HaveLength (columns_of names.now fields.now.items) len }
+    requires ranges { All (IsRangeIn depth len
+        (λ i. tuple (row_at (columns_of names.now fields.now.items) i))) ranges.now }
     ensures cast { IfOk result (λ cast. IfSome cast (λ columns.
         AreCast (fields_of targets.now) (columns_of names.now fields.now.items)
         (columns_of (names_of (fields_of targets.now)) columns.items))) }
@@ -122,9 +162,15 @@ fn cast_fields(
     if fields.len() != targets.len() {
         return Ok(None);
     }
+    let Some(below) = depth.checked_add(1) else {
+        return Ok(None);
+    };
     let mut columns = Vec::with_capacity(alloc, fields.len())?;
+    let mut from = 0;
     for i in 0..fields.len() {
-        let Some(column) = cast_part(alloc, &fields[i], &targets[i].dtype)? else {
+        let own = in_field(ranges, from, depth, i);
+        from += own.len();
+        let Some(column) = cast_part(alloc, &fields[i], &targets[i].dtype, own, below)? else {
             return Ok(None);
         };
         columns.push(column)?;
@@ -156,7 +202,7 @@ fn cast_fixed_lists(
     let Some(validity) = cast_validity(validity, *nullability, len)? else {
         return Ok(None);
     };
-    let Some(elements) = cast_part(alloc, elements, element)? else {
+    let Some(elements) = cast_part(alloc, elements, element, &[], 0)? else {
         return Ok(None);
     };
     let cast = ArrayRef::of_fixed_lists(alloc, elements, size, len, validity)?;
@@ -189,7 +235,7 @@ fn cast_lists(
     let Some(validity) = cast_validity(validity, *nullability, offsets.len())? else {
         return Ok(None);
     };
-    let Some(elements) = cast_part(alloc, elements, element)? else {
+    let Some(elements) = cast_part(alloc, elements, element, &[], 0)? else {
         return Ok(None);
     };
     let offsets = offsets.clone()?;

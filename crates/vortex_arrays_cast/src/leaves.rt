@@ -7,6 +7,7 @@ ghost use Rattle.vortex_arrays_model.specs.Layout.{bools, numbers, strings, type
 ghost use Rattle.vortex_arrays_core.specs.LayoutOf.{valid_of, strings_of};
 ghost use Rattle.vortex_arrays_validity.specs.Validities.{IsRecast};
 ghost use Rattle.vortex_arrays_cast.specs.Cast.{IsCast};
+ghost use Rattle.vortex_arrays_cast.specs.Ranges.{LieIn};
 
 use crate::numbers::numbers_as;
 use bytes::Bytes;
@@ -70,15 +71,19 @@ pub(crate) fn cast_bools(
     Ok(Some(cast))
 }
 
-/// Integers of a kind that holds each of them, also those of null rows.
+/// Integers of a kind that holds the range of the valid ones, and else of one that holds each of
+/// them, also those of null rows.
 #[tactic(auto, using(crate::proofs::CastLemmas::leaves))]
 pub(crate) fn cast_numbers(
     alloc: Global,
     items: &PrimitiveBuffer,
     validity: &Validity,
     target: &DType,
+    range: Option<(i128, i128)>,
 ) -> Result<Option<ArrayRef>, AllocError>
-    requires { HasLength (valid_of validity.now) (length (integers_of items.now)) }
+    requires fits { HasLength (valid_of validity.now) (length (integers_of items.now)) }
+    requires range { LieIn range
+        (numbers (kind_of_numbers items.now) (integers_of items.now) (valid_of validity.now)) }
     ensures { IfOk result (λ cast. IfSome cast (IsCast (type_of target.now)
         (numbers (kind_of_numbers items.now) (integers_of items.now) (valid_of validity.now)))) }
 {
@@ -88,7 +93,7 @@ pub(crate) fn cast_numbers(
     let Some(validity) = cast_validity(validity, *nullability, items.len())? else {
         return Ok(None);
     };
-    let Some(items) = numbers_as(alloc, *ptype, items)? else {
+    let Some(items) = numbers_as(alloc, *ptype, items, range)? else {
         return Ok(None);
     };
     // Tells the proof that the kind holds each of the integers.

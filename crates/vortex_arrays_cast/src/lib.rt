@@ -4,5 +4,7 @@
 pub mod cast;
 mod leaves;
 mod lists;
+mod low_bits;
 mod numbers;
+pub mod ranges;
 mod records;

@@ -1,15 +1,16 @@
 //! Integers as those of another kind.
-ghost use Rattle.std.specs.Prelude.{◌≡◌, map, IfOk, IfSome, IsTrue};
+ghost use Rattle.std.specs.Prelude.{◌≡◌, map, IfOk, IfSome};
 ghost use Rattle.std.specs.List.{list_all};
 ghost use Rattle.vortex_model.specs.Valid.{in_range};
 ghost use Rattle.vortex_dtype_ptype.specs.Numbers.{integral};
 ghost use Rattle.vortex_dtype_ptype.specs.View.{number_kind_of};
 ghost use Rattle.vortex_arrays_buffer.specs.PrimitiveBuffers.{kind_of_numbers, integers_of};
-ghost use Rattle.vortex_arrays_cast.specs.Cast.{held_or_zero};
+ghost use Rattle.vortex_arrays_cast.specs.Cast.{low_bits};
+ghost use Rattle.vortex_arrays_cast.specs.Ranges.{holds_range, Keeps};
 
+use crate::low_bits::LowBits;
 use std::alloc::{AllocError, Global};
 use vortex_arrays_buffer::buffer::Buffer;
-use vortex_arrays_buffer::element::Element;
 use vortex_arrays_buffer::primitive_buffer::PrimitiveBuffer;
 use vortex_dtype_native::match_each_integer_ptype;
 use vortex_dtype_native::native::NativePType;
@@ -17,15 +18,18 @@ use vortex_dtype_ptype::ptype::PType;
 
 /// The integers in a kind of numbers, and `None` where it doesn't hold each of them. Those that are
 /// of the kind are shared.
+///
+/// Where the kind holds the range, no integer is tested, and one out of the range becomes any.
 pub(crate) fn numbers_as(
     alloc: Global,
     ptype: PType,
     numbers: &PrimitiveBuffer,
+    range: Option<(i128, i128)>,
 ) -> Result<Option<PrimitiveBuffer>, AllocError>
     ensures kind { IfOk result
         (λ cast. IfSome cast (λ c. integral (kind_of_numbers c) ≡ number_kind_of ptype)) }
     ensures integers { IfOk result
-        (λ cast. IfSome cast (λ c. integers_of c ≡ integers_of numbers.now)) }
+        (λ cast. IfSome cast (λ c. Keeps range (integers_of numbers.now) (integers_of c))) }
 {
     if numbers.ptype() == ptype {
         let same = numbers.clone()?;
@@ -34,47 +38,60 @@ pub(crate) fn numbers_as(
     if !ptype.is_int() {
         return Ok(None);
     }
-    match_each_integer_ptype!(ptype, cast_to(alloc, numbers))
+    match_each_integer_ptype!(ptype, cast_to(alloc, numbers, range))
 }
 
 // The integers as those of a native type.
 #[tactic(auto, using(vortex_arrays_buffer::proofs::NumberLemmas::eq_numbers))]
-fn cast_to<U: Element>(
+fn cast_to<U: LowBits>(
     alloc: Global,
     numbers: &PrimitiveBuffer,
+    range: Option<(i128, i128)>,
 ) -> Result<Option<PrimitiveBuffer>, AllocError>
     ensures kind { IfOk result (λ cast. IfSome cast (λ c. kind_of_numbers c ≡ U.kind)) }
     ensures integers { IfOk result
-        (λ cast. IfSome cast (λ c. integers_of c ≡ integers_of numbers.now)) }
+        (λ cast. IfSome cast (λ c. Keeps range (integers_of numbers.now) (integers_of c))) }
 {
     match numbers {
-        PrimitiveBuffer::U8(items) => cast_items::<u8, U>(alloc, items.as_slice()),
-        PrimitiveBuffer::U16(items) => cast_items::<u16, U>(alloc, items.as_slice()),
-        PrimitiveBuffer::U32(items) => cast_items::<u32, U>(alloc, items.as_slice()),
-        PrimitiveBuffer::U64(items) => cast_items::<u64, U>(alloc, items.as_slice()),
-        PrimitiveBuffer::I8(items) => cast_items::<i8, U>(alloc, items.as_slice()),
-        PrimitiveBuffer::I16(items) => cast_items::<i16, U>(alloc, items.as_slice()),
-        PrimitiveBuffer::I32(items) => cast_items::<i32, U>(alloc, items.as_slice()),
-        PrimitiveBuffer::I64(items) => cast_items::<i64, U>(alloc, items.as_slice()),
+        PrimitiveBuffer::U8(items) => cast_items::<u8, U>(alloc, items.as_slice(), range),
+        PrimitiveBuffer::U16(items) => cast_items::<u16, U>(alloc, items.as_slice(), range),
+        PrimitiveBuffer::U32(items) => cast_items::<u32, U>(alloc, items.as_slice(), range),
+        PrimitiveBuffer::U64(items) => cast_items::<u64, U>(alloc, items.as_slice(), range),
+        PrimitiveBuffer::I8(items) => cast_items::<i8, U>(alloc, items.as_slice(), range),
+        PrimitiveBuffer::I16(items) => cast_items::<i16, U>(alloc, items.as_slice(), range),
+        PrimitiveBuffer::I32(items) => cast_items::<i32, U>(alloc, items.as_slice(), range),
+        PrimitiveBuffer::I64(items) => cast_items::<i64, U>(alloc, items.as_slice(), range),
     }
 }
 
-// All items are tested before any is cast, so that neither loop has to stop.
-#[tactic(auto, using(crate::proofs::NumberLemmas::all_held))]
-fn cast_items<T: NativePType, U: Element>(
+// Where all items have to be tested, they are before any is cast, so that neither loop has to stop.
+#[tactic(auto, using(crate::proofs::NumberLemmas::kept))]
+fn cast_items<T: NativePType, U: LowBits>(
     alloc: Global,
     items: &[T],
+    range: Option<(i128, i128)>,
 ) -> Result<Option<PrimitiveBuffer>, AllocError>
     ensures kind { IfOk result (λ cast. IfSome cast (λ c. kind_of_numbers c ≡ U.kind)) }
     ensures integers { IfOk result
-        (λ cast. IfSome cast (λ c. integers_of c ≡ map T.integer items.now)) }
+        (λ cast. IfSome cast (λ c. Keeps range (map T.integer items.now) (integers_of c))) }
 {
-    if !holds_all::<T, U>(items) {
+    let all_held = holds_range::<U>(range) || holds_all::<T, U>(items);
+    if !all_held {
         return Ok(None);
     }
-    let cast: Vec<U> = items_or_zero(alloc, items)?;
+    let cast: Vec<U> = items_as(alloc, items)?;
     let cast = Buffer::from_vec(cast)?;
     Ok(Some(PrimitiveBuffer::from_buffer(cast)))
+}
+
+// Whether there is a range, and the type holds all of it.
+fn holds_range<U: NativePType>(range: Option<(i128, i128)>) -> bool
+    ensures { result ≡ holds_range U.kind range }
+{
+    match range {
+        Some((low, high)) => holds::<U>(low) && holds::<U>(high),
+        None => false,
+    }
 }
 
 // Whether the other type holds each of the items.
@@ -92,28 +109,13 @@ fn holds<U: NativePType>(number: i128) -> bool
     U::of(number).is_some()
 }
 
-// The items as those of the other type, with 0 in place of each that it doesn't hold.
-fn items_or_zero<T: NativePType, U: NativePType>(
-    alloc: Global,
-    items: &[T],
-) -> Result<Vec<U>, AllocError>
+// The items as those of the other type, as by Rust's `as`.
+fn items_as<T: NativePType, U: LowBits>(alloc: Global, items: &[T]) -> Result<Vec<U>, AllocError>
     ensures { IfOk result (λ cast. map U.integer cast.items
-        ≡ map (held_or_zero U.kind) (map T.integer items.now)) }
+        ≡ map (low_bits U.kind) (map T.integer items.now)) }
 {
     items
         .iter()
-        .map(|item| number_or_zero(item.get()))
+        .map(|item| U::of_low_bits(item.get()))
         .collect(alloc)
-}
-
-fn number_or_zero<U: NativePType>(number: i128) -> U
-    ensures { U.integer result ≡ held_or_zero U.kind number }
-{
-    match U::of(number) {
-        Some(cast) => cast,
-        None => match U::of(0) {
-            Some(zero) => zero,
-            None => unreachable!(),
-        },
-    }
 }

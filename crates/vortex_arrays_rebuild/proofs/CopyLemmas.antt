@@ -9,13 +9,16 @@ use Rattle.vortex_arrays_model.specs.Picks.{Picks}
 use Rattle.vortex_arrays_model.proofs.PicksLemmas.{picks_same}
 use Rattle.vortex_arrays_model.proofs.CanonicalLemmas.{All-range, range_more}
 use Rattle.vortex_arrays_rebuild.specs.declared.runs.Run.{Run}
-use Rattle.vortex_arrays_rebuild.specs.Runs.{positions_of, positions_in, LiesWithin}
+use Rattle.vortex_arrays_rebuild.specs.Runs.{positions_of, positions_in, FitWithin, LiesWithin}
 use Rattle.vortex_arrays_rebuild.proofs.RunLemmas.{positions_push}
 
 -- the positions of runs that lie within the elements
-pub positions_below : (n : ℕ) (runs : List Run) → All (LiesWithin n) runs → All (λ i. i < n) (positions_in runs)
+positions_below : (n : ℕ) (runs : List Run) → All (LiesWithin n) runs → All (λ i. i < n) (positions_in runs)
 positions_below n [] h = λ k d l. absurd (omega arith)
 positions_below n (r ∷ rs) h = All-append (λ i. i < n) (positions_of r) (positions_in rs) (All-range r.start r.len n (h 0 r (omega arith))) (positions_below n rs (λ k d l. h (suc k) d (omega arith)))
+
+pub positions_within : (n : ℕ) (runs : List Run) → FitWithin n runs → All (λ i. i < n) (positions_in runs)
+positions_within n runs h = positions_below n runs h.each
 
 -- the positions of one run more of the runs
 pub positions_more : (runs : List Run) (i : ℕ) (r : Run) → i < length runs → r ≡ get_or runs i r → positions_in (take (i + 1) runs) ≡ positions_in (take i runs) ++ positions_of r
@@ -37,8 +40,8 @@ pub place_more : (ps qs : List ℕ) (start n x : ℕ) → qs ≡ ps ++ range_wit
 place_more ps qs start n x h e = ap (λ l. l ++ x ∷ []) h ∙ append_assoc ps (range_with_len start n) (x ∷ []) ∙ ap (λ l. ps ++ l) (ap (λ y. range_with_len start n ++ y ∷ []) e ∙ sym (range_more start n))
 
 -- the run that is read lies within
-pub run_within : (n : ℕ) (runs : List Run) (i : ℕ) (r : Run) → All (LiesWithin n) runs → i < length runs → r ≡ get_or runs i r → LiesWithin n r
-run_within n runs i r h l e = subst (LiesWithin n) (sym e) (h i r l)
+pub run_within : (n : ℕ) (runs : List Run) (i : ℕ) (r : Run) → FitWithin n runs → i < length runs → r ≡ get_or runs i r → r.start + r.len ≤ n
+run_within n runs i r h l e = subst (LiesWithin n) (sym e) (h.each i r l)
 
 -- the positions of the first runs, and one more
 pub placed_more : (ps qs : List ℕ) (runs : List Run) (i : ℕ) (r : Run) → ps ≡ positions_in (take i runs) → i < length runs → r ≡ get_or runs i r → qs ≡ ps ++ positions_of r → qs ≡ positions_in (take (i + 1) runs)

@@ -1,8 +1,11 @@
 pub mod CopyLemmas
 pub mod DensityLemmas
+pub mod ItemLemmas
 pub mod NameLemmas
 pub mod PlanLemmas
+pub mod RangeLemmas
 pub mod ReadLemmas
 pub mod RebuildLemmas
 pub mod RunLemmas
+pub mod ScaledLemmas
 pub mod TrimLemmas

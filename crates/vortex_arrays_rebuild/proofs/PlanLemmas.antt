@@ -1,5 +1,5 @@
 -- The plan of a layout without gaps.
-use Rattle.std.proofs.Common.{◌≡◌, ◌<◌, ◌≤◌, ◌+◌, ℕ, List, length, map, take, get_or, sym, ap, subst, ◌∙◌, arith}
+use Rattle.std.proofs.Common.{◌≡◌, ◌<◌, ◌≤◌, ◌+◌, ℕ, Bool, true, false, cond, List, refl, length, map, take, get_or, sym, ap, subst, ◌∙◌, arith}
 use Rattle.std.specs.List.{flat_map, range_with_len}
 use Rattle.std.proofs.lemmas.List.{length-map}
 use Rattle.std.proofs.lemmas.List.Concat.{length-flat_map}
@@ -8,12 +8,16 @@ use Rattle.std.proofs.lemmas.List.FromFn.{length-map-range_with_len}
 use Rattle.vortex_model.specs.Content.{Content, null}
 use Rattle.vortex_arrays_buffer.specs.declared.error.ArrayError.{ArrayError}
 use Rattle.vortex_arrays_buffer.specs.declared.error.ArrayError.TheVariants as error
-use Rattle.vortex_arrays_model.specs.Layout.{Layout, len_of, content_at, rows_of}
+use Rattle.vortex_arrays_model.specs.Layout.{Layout, list_views, Valid, len_of, content_at, number_in, is_valid, rows_of, IsSound}
 use Rattle.vortex_arrays_model.specs.Canonical.{items_of, IsCanonical}
-use Rattle.vortex_arrays_model.proofs.CanonicalLemmas.{canonical_none, canonical_all}
+use Rattle.vortex_arrays_model.proofs.CanonicalLemmas.{canonical_none, canonical_all, items_valid, items_null}
 use Rattle.vortex_arrays_model.proofs.RowsLemmas.{row_at_position, row_count}
+use Rattle.vortex_arrays_rebuild.specs.Density.{AreValidSizes}
+use Rattle.vortex_arrays_rebuild.specs.Indices.{AreRead}
 use Rattle.vortex_arrays_rebuild.specs.Rebuilds.{total_of, IsSumFault}
 use Rattle.vortex_arrays_rebuild.specs.Runs.{IsLengthFault}
+use Rattle.vortex_arrays_rebuild.proofs.DensityLemmas.{all_within, as_many_sizes, same_read, sizes_at_most}
+use Rattle.vortex_arrays_rebuild.proofs.TrimLemmas.{offsets_at_most}
 
 -- the rows before and a row have no more elements together than all rows
 pub total_reached : (a : Layout) (f : ℕ → Content) (os ss ps : List ℕ) (i start size : ℕ) → IsCanonical (take i (rows_of a)) os ss (map f ps) → i < len_of a → items_of (content_at a i) ≡ map f (range_with_len start size) → length ps + size ≤ total_of (rows_of a)
@@ -33,4 +37,26 @@ sum_fault e n rows h l = absurd h
 pub no_memory : (e : ArrayError) (rows : List Content) → e ≡ error.Memory → IsSumFault e rows
 no_memory e rows h = subst (λ x. IsSumFault x rows) (sym h) tt
 
-pub ruleset planned = (canonical_none, canonical_all, no_memory)
+-- ---- a list, by its numbers
+
+by_validity : (e o s : Layout) (v : Valid) (i start count : ℕ) (b : Bool) → is_valid v i ≡ b → start ≡ number_in (content_at o i) → count ≡ cond (is_valid v i) (number_in (content_at s i)) 0 → items_of (content_at (list_views e o s false v) i) ≡ map (content_at e) (range_with_len start count)
+by_validity e o s v i start count true t p q = items_valid e o s false v i start count t p (q ∙ ap (λ b. cond b (number_in (content_at s i)) 0) t)
+by_validity e o s v i start count false t p q =
+    let none : count ≡ 0 = q ∙ ap (λ b. cond b (number_in (content_at s i)) 0) t in
+    items_null e o s false v i t ∙ sym (ap (λ n. map (content_at e) (range_with_len start n)) none)
+
+pub planned_row : (e o s : Layout) (v : Valid) (os ss : List ℕ) (i start count : ℕ) → IsSound (list_views e o s false v) → AreRead o os → AreValidSizes s v ss → i < len_of o → start ≡ get_or os i start → count ≡ get_or ss i count → items_of (content_at (list_views e o s false v) i) ≡ map (content_at e) (range_with_len start count)
+planned_row e o s v os ss i start count h r z l p q =
+    let size_there : i < len_of s = subst (λ n. i < n) (sym h.5) l in
+    by_validity e o s v i start count (is_valid v i) refl
+    (sym (same_read os i start (subst (λ n. i < n) (sym r.many) l) p) ∙ r.each i l)
+    (sym (same_read ss i count (subst (λ n. i < n) (sym z.many) size_there) q) ∙ z.each i size_there)
+
+pub planned_within : (e o s : Layout) (v : Valid) (os ss : List ℕ) (i start count : ℕ) → IsSound (list_views e o s false v) → AreRead o os → AreValidSizes s v ss → i < len_of o → start ≡ get_or os i start → count ≡ get_or ss i count → start + count ≤ len_of e
+planned_within e o s v os ss i start count h r z l p q =
+    let here : i < length os = subst (λ n. i < n) (sym r.many) l in
+    let there : i < length ss = subst (λ n. i < n) (sym (as_many_sizes e o s false v os ss h r z)) here in
+    let most = all_within e o s false v os ss h r z i here in
+    omega (arith, most, same_read os i start here p, same_read ss i count there q)
+
+pub ruleset planned = (canonical_none, canonical_all, no_memory, offsets_at_most, sizes_at_most)

@@ -1,12 +1,12 @@
 -- Runs of elements, one after the other.
 use Rattle.std.proofs.Common.{◌≡◌, ◌+◌, ℕ, zero, suc, List, [], ◌∷◌, ◌++◌, length, get_or, refl, sym, ap, subst, ◌∙◌, append_assoc, arith}
-use Rattle.std.specs.List.{range_with_len, All}
+use Rattle.std.specs.List.{range_with_len}
 use Rattle.std.proofs.lemmas.List.{append-nil, length-append}
 use Rattle.std.proofs.lemmas.List.Concat.{flat_map-append}
 use Rattle.std.proofs.lemmas.List.FromFn.{length-range_with_len}
 use Rattle.std.proofs.lemmas.List.Elements.{All-append}
 use Rattle.vortex_arrays_rebuild.specs.declared.runs.Run.{Run}
-use Rattle.vortex_arrays_rebuild.specs.Runs.{positions_of, positions_in, LiesWithin}
+use Rattle.vortex_arrays_rebuild.specs.Runs.{positions_of, positions_in, FitWithin, LiesWithin}
 
 -- a range in two parts
 pub range_split : (a n m k b : ℕ) → k ≡ n + m → b ≡ a + n → range_with_len a k ≡ range_with_len a n ++ range_with_len b m
@@ -32,8 +32,11 @@ added_none ps a n e = ap (λ k. ps ++ range_with_len a k) e ∙ append-nil ps
 pub length_added : (ps : List ℕ) (a n : ℕ) → length (ps ++ range_with_len a n) ≡ length ps + n
 length_added ps a n = length-append ps (range_with_len a n) ∙ ap (λ k. length ps + k) (length-range_with_len a n)
 
--- each run lies within the elements, with one more run
-pub within_push : (n : ℕ) (runs : List Run) (r : Run) → All (LiesWithin n) runs → LiesWithin n r → All (LiesWithin n) (runs ++ r ∷ [])
-within_push n runs r h l = All-append (LiesWithin n) runs (r ∷ []) h (λ k d b. let here : k ≡ 0 = omega arith in subst (λ j. LiesWithin n (get_or (r ∷ []) j d)) (sym here) l)
+-- each run lies within the elements: none, and one more
+pub fit_none : (n : ℕ) (runs : List Run) → runs ≡ [] → FitWithin n runs
+fit_none n runs e = subst (FitWithin n) (sym e) (record { each = λ k d l. absurd (omega arith) })
 
-pub ruleset runs = (extended, positions_push, added_none, length_added, within_push)
+pub fit_push : (n : ℕ) (runs ts : List Run) (r : Run) → FitWithin n runs → LiesWithin n r → ts ≡ runs ++ r ∷ [] → FitWithin n ts
+fit_push n runs ts r h l e = subst (FitWithin n) (sym e) (record { each = All-append (LiesWithin n) runs (r ∷ []) h.each (λ k d b. let here : k ≡ 0 = omega arith in subst (λ j. LiesWithin n (get_or (r ∷ []) j d)) (sym here) l) })
+
+pub ruleset runs = (extended, positions_push, added_none, length_added, fit_none, fit_push)

@@ -1,6 +1,6 @@
 -- Neighbouring elements that are copied together.
-use Rattle.std.specs.Prelude.{◌≤◌, ◌+◌, ◌^◌, ℕ, List}
-use Rattle.std.specs.List.{flat_map, range_with_len}
+use Rattle.std.specs.Prelude.{◌≤◌, ◌+◌, ◌*◌, ◌^◌, ℕ, List, take, drop}
+use Rattle.std.specs.List.{flat_map, range_with_len, All}
 use Rattle.vortex_arrays_buffer.specs.declared.error.ArrayError.{ArrayError}
 use Rattle.vortex_arrays_buffer.specs.declared.error.ArrayError.TheVariants as error
 use Rattle.vortex_arrays_rebuild.specs.declared.runs.Run.{Run}
@@ -13,9 +13,25 @@ positions_of run = range_with_len run.start run.len
 abbrev pub positions_in : List Run → List ℕ
 positions_in runs = flat_map positions_of runs
 
+-- the items of a run
+abbrev pub items_of_run : {A : Type 0} → List A → Run → List A
+items_of_run xs run = take run.len (drop run.start xs)
+
+-- the items of all runs, run after run
+abbrev pub items_in : {A : Type 0} → List A → List Run → List A
+items_in xs runs = flat_map (items_of_run xs) runs
+
+-- the positions of the elements of lists of one size, where these lists stand at positions
+abbrev pub elements_at : ℕ → List ℕ → List ℕ
+elements_at size ps = flat_map (λ p. range_with_len (p * size) size) ps
+
 -- a run ends within n elements
 abbrev pub LiesWithin : ℕ → Run → Type 0
 LiesWithin n run = run.start + run.len ≤ n
+
+-- each run ends within n elements
+pub record FitWithin (n : ℕ) (runs : List Run) : Type 0 where
+  pub each : All (LiesWithin n) runs
 
 -- want of memory, or more elements than can be counted
 abbrev pub IsLengthFault : ArrayError → ℕ → Type 0

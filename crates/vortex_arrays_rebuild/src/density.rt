@@ -67,9 +67,9 @@ fn referenced_elements(alloc: Global, lists: &ListViewArray) -> Result<Mask, All
     Ok(Mask::from_buffer(bits))
 }
 
-// The sizes of lists, none above the bound, and 0 for each null list.
+/// The sizes of lists, none above the bound, and 0 for each null list.
 #[tactic(auto, using(crate::proofs::DensityLemmas::sized))]
-fn valid_sizes(
+pub(crate) fn valid_sizes(
     alloc: Global,
     sizes: &ArrayRef,
     validity: &Validity,

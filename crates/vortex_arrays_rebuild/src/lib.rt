@@ -3,7 +3,9 @@
 
 mod copy;
 pub mod density;
+mod items;
 mod plan;
+mod ranges;
 mod read;
 pub mod rebuild;
 mod runs;

@@ -1,13 +1,14 @@
 //! The one layout of lists without gaps: where each list is to begin, how many elements it has,
 //! and which elements are copied.
-ghost use Rattle.std.specs.Prelude.{false, map, IfOk, IfErr, All};
+ghost use Rattle.std.specs.Prelude.{◌≡◌, false, map, IfOk, IfErr};
 ghost use Rattle.vortex_arrays_model.specs.Layout.{content_at, len_of, list_views, rows_of, IsSound};
 ghost use Rattle.vortex_arrays_model.specs.Canonical.{IsCanonical};
 ghost use Rattle.vortex_arrays_core.specs.LayoutOf.{valid_of};
 ghost use Rattle.vortex_arrays_rebuild.specs.Rebuilds.{IsSumFault};
-ghost use Rattle.vortex_arrays_rebuild.specs.Runs.{positions_in, LiesWithin};
+ghost use Rattle.vortex_arrays_rebuild.specs.Runs.{positions_in};
 
-use crate::read::row_view;
+use crate::density::valid_sizes;
+use crate::read::read_indices;
 use crate::runs::{Runs, RunsBuilder};
 use std::alloc::Global;
 use vortex_arrays_buffer::error::ArrayError;
@@ -37,25 +38,27 @@ pub(crate) fn plan_layout(
         (λ p. IsCanonical (rows_of (list_views elements.now offsets.now sizes.now false
         (valid_of validity.now))) p.offsets.items p.sizes.items
         (map (content_at elements.now) (positions_in p.runs.list.items))) }
-    ensures within { IfOk result
-        (λ p. All (LiesWithin (len_of elements.now)) p.runs.list.items) }
+    ensures limit { IfOk result (λ p. p.runs.limit ≡ len_of elements.now) }
     ensures refused { IfErr result (λ e. IsSumFault e
         (rows_of (list_views elements.now offsets.now sizes.now false (valid_of validity.now)))) }
 {
-    let len = offsets.len();
-    let mut starts = Vec::with_capacity(alloc, len)?;
-    let mut counts = Vec::with_capacity(alloc, len)?;
-    let mut runs = RunsBuilder::new(alloc, elements.len());
-    for i in 0..len {
-        let (start, count) = row_view(elements, offsets, sizes, validity, i);
-        starts.push(runs.len as u64)?;
-        counts.push(count as u64)?;
+    let limit = elements.len();
+    let starts = read_indices(alloc, offsets, limit)?;
+    let counts = valid_sizes(alloc, sizes, validity, limit)?;
+    let mut new_starts = Vec::with_capacity(alloc, starts.len())?;
+    let mut new_counts = Vec::with_capacity(alloc, starts.len())?;
+    let mut runs = RunsBuilder::new(alloc, limit);
+    for i in 0..starts.len() {
+        let start = starts[i];
+        let count = counts[i];
+        new_starts.push(runs.len as u64)?;
+        new_counts.push(count as u64)?;
         runs.add(start, count)?;
     }
     let runs = runs.finish()?;
     Ok(Plan {
-        offsets: starts,
-        sizes: counts,
+        offsets: new_starts,
+        sizes: new_counts,
         runs,
     })
 }

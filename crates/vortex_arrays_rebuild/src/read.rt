@@ -1,30 +1,78 @@
-//! Offsets, sizes and ranges of lists as numbers of the machine.
-ghost use Rattle.std.specs.Prelude.{◌≡◌, ◌<◌, ◌≤◌, ◌+◌, false, map, IfOk};
-ghost use Rattle.std.specs.List.{range_with_len};
+//! Offsets and sizes of lists as numbers of the machine.
+ghost use Rattle.std.specs.Prelude.{◌≡◌, ◌<◌, map, IfOk};
+ghost use Rattle.vortex_arrays_buffer.specs.PrimitiveBuffers.{integers_of};
 ghost use Rattle.vortex_arrays_model.specs.Layout.{
   array_type_of,
   content_at,
   len_of,
-  list_views,
+  natural,
   number_in,
   IsOffsets,
-  IsSound,
 };
-ghost use Rattle.vortex_arrays_model.specs.Canonical.{items_of};
-ghost use Rattle.vortex_arrays_core.specs.LayoutOf.{valid_of};
 ghost use Rattle.vortex_arrays_rebuild.specs.Indices.{AreAtMost, AreRead, IsAtMost};
 
 use std::alloc::{AllocError, Global};
-use vortex_arrays_core::array::{ArrayRef, Validity};
-use vortex_arrays_core::scalar::view_at;
+use vortex_arrays_buffer::primitive_buffer::PrimitiveBuffer;
+use vortex_arrays_core::array::{ArrayLayout, ArrayRef};
+use vortex_dtype_native::native::NativePType;
 
 /// The offsets of lists, none of them above the bound.
-#[tactic(auto, using(crate::proofs::ReadLemmas::rows_read))]
+#[tactic(auto, using(crate::proofs::ReadLemmas::numbers_read))]
 pub(crate) fn read_indices(
     alloc: Global,
     array: &ArrayRef,
     bound: usize,
 ) -> Result<Vec<usize>, AllocError>
+    requires kind { IsOffsets (array_type_of array.now) }
+    requires within { AreAtMost bound array.now }
+    ensures { IfOk result (λ indices. AreRead array.now indices.items) }
+{
+    match array.layout() {
+        ArrayLayout::Primitive(items, _) => naturals_in(alloc, items),
+        _ => each_index(alloc, array, bound),
+    }
+}
+
+// The numbers, and 0 in place of each below it.
+#[tactic(auto, using(vortex_arrays_buffer::proofs::NumberLemmas::eq_numbers))]
+fn naturals_in(alloc: Global, numbers: &PrimitiveBuffer) -> Result<Vec<usize>, AllocError>
+    ensures { IfOk result (λ indices. indices.items ≡ map natural (integers_of numbers.now)) }
+{
+    match numbers {
+        PrimitiveBuffer::U8(items) => naturals_of(alloc, items.as_slice()),
+        PrimitiveBuffer::U16(items) => naturals_of(alloc, items.as_slice()),
+        PrimitiveBuffer::U32(items) => naturals_of(alloc, items.as_slice()),
+        PrimitiveBuffer::U64(items) => naturals_of(alloc, items.as_slice()),
+        PrimitiveBuffer::I8(items) => naturals_of(alloc, items.as_slice()),
+        PrimitiveBuffer::I16(items) => naturals_of(alloc, items.as_slice()),
+        PrimitiveBuffer::I32(items) => naturals_of(alloc, items.as_slice()),
+        PrimitiveBuffer::I64(items) => naturals_of(alloc, items.as_slice()),
+    }
+}
+
+// The numbers of one native type, and 0 in place of each below it.
+fn naturals_of<T: NativePType>(alloc: Global, items: &[T]) -> Result<Vec<usize>, AllocError>
+    ensures { IfOk result (λ indices. indices.items ≡ map natural (map T.integer items.now)) }
+{
+    let mut indices = Vec::with_capacity(alloc, items.len())?;
+    for item in items {
+        indices.push(natural_of(*item))?;
+    }
+    Ok(indices)
+}
+
+// The number, and 0 in place of one below it.
+#[tactic(auto, using(crate::proofs::ReadLemmas::held))]
+fn natural_of<T: NativePType>(item: T) -> usize
+    ensures { result ≡ natural (T.integer item) }
+{
+    let number = item.get();
+    if number < 0 { 0 } else { number as usize }
+}
+
+// The numbers of an array of any layout, row by row.
+#[tactic(auto, using(crate::proofs::ReadLemmas::rows_read))]
+fn each_index(alloc: Global, array: &ArrayRef, bound: usize) -> Result<Vec<usize>, AllocError>
     requires kind { IsOffsets (array_type_of array.now) }
     requires within { AreAtMost bound array.now }
     ensures { IfOk result (λ indices. AreRead array.now indices.items) }
@@ -48,29 +96,5 @@ fn index_at(array: &ArrayRef, i: usize, bound: usize) -> usize
     match array.integer(i) {
         Some(index) => index as usize,
         None => unreachable!(),
-    }
-}
-
-/// Where the elements of a list begin, and how many they are: none of a null one.
-#[tactic(auto, using(vortex_arrays_model::proofs::CanonicalLemmas::row_items))]
-pub(crate) fn row_view(
-    elements: &ArrayRef,
-    offsets: &ArrayRef,
-    sizes: &ArrayRef,
-    validity: &Validity,
-    i: usize,
-) -> (usize, usize)
-    requires sound { IsSound (list_views elements.now offsets.now sizes.now false
-        (valid_of validity.now)) }
-    requires within { i < len_of offsets.now }
-    ensures items { items_of (content_at (list_views elements.now offsets.now sizes.now false
-        (valid_of validity.now)) i)
-        ≡ map (content_at elements.now) (range_with_len result.0 result.1) }
-    ensures within { result.0 + result.1 ≤ len_of elements.now }
-{
-    if validity.is_valid(i, offsets.len()) {
-        view_at(offsets, sizes, i, elements.len())
-    } else {
-        (0, 0)
     }
 }

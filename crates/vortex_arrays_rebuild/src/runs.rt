@@ -1,7 +1,14 @@
 //! Runs of neighbouring elements, which are copied as one range each.
-ghost use Rattle.std.specs.Prelude.{◌≡◌, ◌≤◌, ◌+◌, ◌++◌, ◌^◌, [], length, IfOk, IfErr, OnOk, All};
+ghost use Rattle.std.specs.Prelude.{◌≡◌, ◌≤◌, ◌+◌, ◌*◌, ◌++◌, [], length, IfOk, IfErr, IfSome, OnOk};
 ghost use Rattle.std.specs.List.{range_with_len};
-ghost use Rattle.vortex_arrays_rebuild.specs.Runs.{positions_of, positions_in, LiesWithin, IsLengthFault};
+ghost use Rattle.vortex_arrays_rebuild.specs.Runs.{
+  elements_at,
+  positions_of,
+  positions_in,
+  FitWithin,
+  LiesWithin,
+  IsLengthFault,
+};
 
 use std::alloc::{AllocError, Global};
 use vortex_arrays_buffer::error::ArrayError;
@@ -13,12 +20,14 @@ pub(crate) struct Run {
     pub(crate) len: usize,
 }
 
-/// Runs in the order of their copies, and how many elements they have together.
+/// Runs in the order of their copies, how many elements they have together, and of how many.
 #[derive(Drop)]
 pub(crate) struct Runs {
     pub(crate) list: Vec<Run>,
     pub(crate) len: usize,
+    pub(crate) limit: usize,
     ghost counted: { len ≡ length (positions_in list.items) },
+    ghost within: { FitWithin limit list.items },
 }
 
 /// The runs of lists that are added one by one. The last run stays open: a list that begins where
@@ -29,13 +38,14 @@ pub(crate) struct RunsBuilder {
     pub(crate) done: Vec<Run>,
     pub(crate) last: Run,
     pub(crate) len: usize,
-    ghost done_within: { All (LiesWithin limit) done.items },
+    ghost done_within: { FitWithin limit done.items },
     ghost last_within: { LiesWithin limit last },
     ghost counted: { len ≡ length (positions_in done.items ++ positions_of last) },
 }
 
 impl RunsBuilder {
     /// No runs yet, of so many elements.
+    #[tactic(auto, using(crate::proofs::RunLemmas::runs))]
     pub(crate) fn new(alloc: Global, limit: usize) -> RunsBuilder
         ensures limit { result.limit ≡ limit }
         ensures none { positions_in result.done.items ++ positions_of result.last ≡ [] }
@@ -84,31 +94,74 @@ impl RunsBuilder {
     pub(crate) fn finish(self) -> Result<Runs, AllocError>
         ensures positions { IfOk result (λ runs. positions_in runs.list.items
             ≡ positions_in self.done.items ++ positions_of self.last) }
-        ensures within { IfOk result (λ runs. All (LiesWithin self.limit) runs.list.items) }
+        ensures limit { IfOk result (λ runs. runs.limit ≡ self.limit) }
     {
         let last = self.last;
         let len = self.len;
+        let limit = self.limit;
         let mut list = self.done;
         if last.len > 0 {
             list.push(last)?;
         }
-        Ok(Runs { list, len })
+        Ok(Runs { list, len, limit })
     }
 }
 
-/// The positions of the runs' elements, all of them below a length.
+impl Runs {
+    /// The runs of the elements of lists of one size, where these runs are of such lists, and all
+    /// lists have `count` elements. `None` where the runs have more than can be counted.
+    #[tactic(auto, using(crate::proofs::ScaledLemmas::scaled))]
+    pub(crate) fn of_elements(
+        &self,
+        alloc: Global,
+        size: usize,
+        count: usize,
+    ) -> Result<Option<Runs>, AllocError>
+        requires { count ≡ self.now.limit * size }
+        ensures positions { IfOk result (λ found. IfSome found (λ runs.
+            positions_in runs.list.items ≡ elements_at size (positions_in self.now.list.items))) }
+        ensures limit { IfOk result (λ found. IfSome found (λ runs. runs.limit ≡ count)) }
+    {
+        let len = match self.len.checked_mul(size) {
+            Some(len) => len,
+            None => return Ok(None),
+        };
+        let mut list = Vec::with_capacity(alloc, self.list.len())?;
+        for i in 0..self.list.len() {
+            let run = self.list[i];
+            list.push(run.of_elements(size, self.limit, count))?;
+        }
+        let limit = count;
+        Ok(Some(Runs { list, len, limit }))
+    }
+}
+
+impl Run {
+    // The elements of the lists of a run, which are of one size.
+    #[tactic(auto, using(crate::proofs::ScaledLemmas::element_run))]
+    fn of_elements(self, size: usize, lists: usize, count: usize) -> Run
+        requires many { count ≡ lists * size }
+        requires within { LiesWithin lists self }
+        ensures start { result.start ≡ self.start * size }
+        ensures len { result.len ≡ self.len * size }
+        ensures within { LiesWithin count result }
+    {
+        let _count = count;
+        Run {
+            start: self.start * size,
+            len: self.len * size,
+        }
+    }
+}
+
+/// The positions of the runs' elements.
 #[tactic(auto, using(crate::proofs::CopyLemmas::placed))]
-pub(crate) fn positions_of_runs(
-    alloc: Global,
-    runs: &Runs,
-    len: usize,
-) -> Result<Vec<u64>, AllocError>
-    requires { All (LiesWithin len) runs.now.list.items }
+pub(crate) fn positions_of_runs(alloc: Global, runs: &Runs) -> Result<Vec<u64>, AllocError>
     ensures { IfOk result (λ places. places.items ≡ positions_in runs.now.list.items) }
 {
     let mut places: Vec<u64> = Vec::with_capacity(alloc, runs.len)?;
     for i in 0..runs.list.len() {
-        push_positions(&mut places, runs.list[i], len)?;
+        push_positions(&mut places, runs.list[i], runs.limit)?;
     }
     Ok(places)
 }

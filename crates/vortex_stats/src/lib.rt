@@ -6,17 +6,28 @@
 
 pub mod laws;
 
+/// Placeholders over inputs that are bound already.
+pub mod bound {
+    pub use vortex_stats_evaluate::bound::{
+        all_nan, all_non_nan, all_non_null, all_null, min_max, nan_count, null_count, stat, sum,
+    };
+}
+
 pub use vortex_stats_array::array_stats::ArrayStats;
 pub use vortex_stats_array::of_array::array_stats;
 pub use vortex_stats_bind::bind::bind_proof;
-pub use vortex_stats_bind::bound::{BoundExpression, Operands, bound_literal};
-pub use vortex_stats_bind::stats::{StatBinder, bind_stats, prove};
+pub use vortex_stats_bind::bound::{BoundExpression as BoundTree, Operands, bound_literal};
+pub use vortex_stats_bind::stats::StatBinder;
 pub use vortex_stats_bind::value::Value;
 pub use vortex_stats_bound::bound::{LowerBound, UpperBound};
 pub use vortex_stats_bound::bound_ord::BoundOrd;
 pub use vortex_stats_bound::intersection::IntersectionResult;
 pub use vortex_stats_bound::precision::Precision;
 pub use vortex_stats_bound::stat_bound::{StatBound, StatType};
+pub use vortex_stats_evaluate::bind::{BoundExpression, bind};
+pub use vortex_stats_evaluate::evaluate::{evaluate, prove};
+pub use vortex_stats_evaluate::scope::Scope;
+pub use vortex_stats_evaluate::stats::bind_stats;
 pub use vortex_stats_expr::expression::{
     Expression, and, between, binary, col, eq, gt, gt_eq, is_nan, is_not_null, is_null, like, lit,
     lt, lt_eq, not, not_eq, or, root, row_count, stat,
@@ -40,7 +51,6 @@ pub use vortex_stats_provider::provider_ext::StatsProviderExt;
 pub use vortex_stats_provider::stat_fn::{StatFn, StatOptions};
 pub use vortex_stats_provider::stat_scalar::stat_scalar;
 pub use vortex_stats_provider::stats_set_ext::StatsSetExt;
-pub use vortex_stats_rules::bind::bind;
 pub use vortex_stats_rules::laws::{
     comparisons_are_visited_once, falsifiers_are_sound, satisfiers_are_sound,
 };

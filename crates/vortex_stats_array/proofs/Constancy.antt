@@ -23,11 +23,11 @@ kept_behind v d ds true g e (inr a) more = more a
 kept_behind v d ds false g e (inl s) more = inl s
 kept_behind v d ds false g e (inr a) more = inr (more a)
 
-kept : (v : Content) (cs : List Content) → Among v cs → is_null v ≡ false → Among v (non_null cs)
+pub kept : (v : Content) (cs : List Content) → Among v cs → is_null v ≡ false → Among v (non_null cs)
 kept v [] h e = absurd h
 kept v (d ∷ ds) h e = kept_behind v d ds (is_null d) refl e h (λ a. kept v ds a e)
 
-abbrev IsValueIn : Content → List Content → Type 0
+abbrev pub IsValueIn : Content → List Content → Type 0
 IsValueIn v cs = Among v cs × (is_null v ≡ false)
 
 value_behind : (v d : Content) (ds : List Content) (b : Bool) → is_null d ≡ b → Among v (if not b then d ∷ non_null ds else non_null ds) → (Among v (non_null ds) → IsValueIn v ds) →
@@ -36,7 +36,7 @@ value_behind v d ds true g a more = let r = more a in (inr r.0, r.1)
 value_behind v d ds false g (inl s) more = (inl s, ap is_null (sym s) ∙ g)
 value_behind v d ds false g (inr a) more = let r = more a in (inr r.0, r.1)
 
-value_in : (v : Content) (cs : List Content) → Among v (non_null cs) → IsValueIn v cs
+pub value_in : (v : Content) (cs : List Content) → Among v (non_null cs) → IsValueIn v cs
 value_in v [] h = absurd h
 value_in v (d ∷ ds) h = value_behind v d ds (is_null d) refl h (λ a. value_in v ds a)
 

@@ -18,11 +18,11 @@ use Rattle.vortex_stats_array.specs.Zones.{bound_content, zone_in, low_at, high_
 use Rattle.vortex_stats_array.specs.Running.{content_or_null, lesser, greater, in_front, DoCompare, IsSeen, constant_by}
 use Rattle.vortex_stats_array.proofs.Constancy.{constancy}
 
-least_step : (c : Content) (o : Option Content) → Some (in_front lesser c o) ≡ Some (elim o [ None ↦ c | Some d ↦ (if is_at_most c d then c else d) ])
+pub least_step : (c : Content) (o : Option Content) → Some (in_front lesser c o) ≡ Some (elim o [ None ↦ c | Some d ↦ (if is_at_most c d then c else d) ])
 least_step c None = refl
 least_step c (Some d) = refl
 
-greatest_step : (c : Content) (o : Option Content) → Some (in_front greater c o) ≡ Some (elim o [ None ↦ c | Some d ↦ (if is_at_most c d then d else c) ])
+pub greatest_step : (c : Content) (o : Option Content) → Some (in_front greater c o) ≡ Some (elim o [ None ↦ c | Some d ↦ (if is_at_most c d then d else c) ])
 greatest_step c None = refl
 greatest_step c (Some d) = refl
 

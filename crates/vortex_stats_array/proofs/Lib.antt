@@ -1,10 +1,14 @@
 pub mod Backwards
+pub mod Codes
 pub mod Compared
 pub mod Constancy
 pub mod InFront
+pub mod Moved
 pub mod Repeated
 pub mod RowLemmas
+pub mod Spread
 pub mod SumKinds
 pub mod SumLemmas
+pub mod Told
 pub mod Utf8
 pub mod ValueBounds

@@ -1,11 +1,16 @@
-//! Statistics of a leaf column that is an array, in one pass over its rows.
+//! Statistics of a leaf column that is an array, in one pass over its rows, and over the values
+//! that these reference.
 #![tactic(auto)]
 
 pub mod array_stats;
+mod asked;
+mod counting;
+mod counts;
 mod leaf_value;
 pub mod of_array;
 mod referenced;
 mod rows;
 mod running;
 mod running_sum;
+mod seen;
 mod shortened;

@@ -1,16 +1,21 @@
 //! The statistics of an array of any layout.
-ghost use Rattle.std.specs.Prelude.{◌≡◌, IfOk, MatchOption, true, false, map};
+ghost use Rattle.std.specs.Prelude.{◌≡◌, IfOk, MatchOption, Bool, None, length, false, map};
 ghost use Rattle.vortex_model.specs.Kept.{is_leaf};
 ghost use Rattle.vortex_model.specs.ZoneMap.{zone_of};
 ghost use Rattle.vortex_dtype_ptype.specs.View.{number_kind_of};
-ghost use Rattle.vortex_dtype_core.specs.View.{type_of};
 ghost use Rattle.vortex_arrays_buffer.specs.PrimitiveBuffers.{kind_of_numbers, integers_of};
-ghost use Rattle.vortex_arrays_model.specs.Layout.{bools, numbers, strings, array_type_of, rows_of, IsSound};
+ghost use Rattle.vortex_arrays_model.specs.Layout.{bools, numbers, strings, dictionary, array_type_of, len_of, rows_of, IsInteger, IsSound};
+ghost use Rattle.vortex_arrays_model.specs.Parts.{AreWithin};
 ghost use Rattle.vortex_arrays_core.specs.LayoutOf.{valid_of, strings_of};
 ghost use Rattle.vortex_stats_array.specs.Arrays.{IsIntegerOf, IsOfKind};
+ghost use Rattle.vortex_stats_array.specs.Asked.{AreStatsOf};
+ghost use Rattle.vortex_stats_array.specs.Counted.{CountsEach};
 ghost use Rattle.vortex_stats_array.specs.Zones.{zone_in};
 
 use crate::array_stats::ArrayStats;
+use crate::asked::Asked;
+use crate::counting::count_codes;
+use crate::counts::Counts;
 use crate::referenced::{
     referenced_bools, referenced_byte_strings, referenced_numbers, referenced_texts,
 };
@@ -25,9 +30,9 @@ use vortex_dtype_native::native::NativePType;
 use vortex_dtype_ptype::ptype::PType;
 
 /// The statistics of the rows of an array of truth values, integers, texts or bytes, and `None` of
-/// another one. Each row is read once. Only the two bounds are copied, and one that is a text or
-/// bytes of more than `max_length` bytes is shortened.
-#[tactic(auto, using(crate::proofs::Compared::of_arrays))]
+/// another one. Each row is read once: of a dictionary its code alone, and then each value that is
+/// referenced, and of a constant a single row. Only the two bounds are copied, and one that is a
+/// text or bytes of more than `max_length` bytes is shortened.
 pub fn array_stats(
     alloc: Global,
     array: &ArrayRef,
@@ -41,23 +46,84 @@ pub fn array_stats(
     if !array.dtype().is_leaf() {
         return Ok(None);
     }
+    let asked = Asked {
+        dtype: array.dtype(),
+        row_count: array.len(),
+        max_length,
+    };
+    let stats = stats_of_rows(alloc, array, &asked)?;
+    Ok(stats)
+}
+
+// The statistics of the rows of an array, of which nothing is counted yet.
+fn stats_of_rows(
+    alloc: Global,
+    array: &ArrayRef,
+    asked: &Asked<'_>,
+) -> Result<Option<ArrayStats>, AllocError>
+    ensures { IfOk result (λ found. MatchOption found
+        (is_leaf (array_type_of array.now) ≡ false)
+        (λ stats. AreStatsOf asked.now None array.now stats)) }
+{
+    match array.layout() {
+        ArrayLayout::Dict(codes, values, _) => {
+            // A few rows of many values are rather read one by one.
+            if values.len() <= codes.len() {
+                stats_of_dictionary(alloc, codes, values, asked)
+            } else {
+                stats_of_any(alloc, array, None, asked)
+            }
+        }
+        _ => stats_of_leaf(alloc, array, None, asked),
+    }
+}
+
+// The statistics of a dictionary, by how often its codes reference each value.
+fn stats_of_dictionary(
+    alloc: Global,
+    codes: &ArrayRef,
+    values: &ArrayRef,
+    asked: &Asked<'_>,
+) -> Result<Option<ArrayStats>, AllocError>
+    requires kind { IsInteger (array_type_of codes.now) }
+    requires within { AreWithin codes.now (len_of values.now) }
+    ensures { (f : Bool) → IfOk result (λ found. MatchOption found
+        (is_leaf (array_type_of values.now) ≡ false)
+        (λ stats. AreStatsOf asked.now None (dictionary codes.now values.now f) stats)) }
+{
+    let counts = count_codes(alloc, codes, values.len())?;
+    let stats = stats_of_leaf(alloc, values, Some(&counts), asked)?;
+    Ok(stats)
+}
+
+// The statistics of the rows in which the values of an array stand.
+fn stats_of_leaf(
+    alloc: Global,
+    array: &ArrayRef,
+    counts: Option<&Counts>,
+    asked: &Asked<'_>,
+) -> Result<Option<ArrayStats>, AllocError>
+    requires { CountsEach counts (len_of array.now) }
+    ensures { IfOk result (λ found. MatchOption found
+        (is_leaf (array_type_of array.now) ≡ false)
+        (λ stats. AreStatsOf asked.now counts.entry array.now stats)) }
+{
     match array.layout() {
         ArrayLayout::Bool(bits, validity) => {
-            let stats = stats_of_bools(alloc, array.dtype(), bits, validity, max_length)?;
+            let stats = stats_of_bools(alloc, bits, validity, counts, asked)?;
             Ok(Some(stats))
         }
         ArrayLayout::Primitive(items, validity) => {
-            let stats = stats_of_numbers(alloc, array.dtype(), items, validity, max_length)?;
+            let stats = stats_of_numbers(alloc, items, validity, counts, asked)?;
             Ok(Some(stats))
         }
         ArrayLayout::VarBinView(kind, views, buffers, validity) => {
             let (views, buffers) = (views.as_slice(), buffers.as_slice());
-            let dtype = array.dtype();
-            let stats = stats_of_views(alloc, dtype, *kind, views, buffers, validity, max_length)?;
+            let stats = stats_of_views(alloc, *kind, views, buffers, validity, counts, asked)?;
             Ok(Some(stats))
         }
-        ArrayLayout::Constant(_, _) => stats_of_any(alloc, array, max_length),
-        ArrayLayout::Dict(_, _, _) => stats_of_any(alloc, array, max_length),
+        ArrayLayout::Constant(_, _) => stats_of_any(alloc, array, counts, asked),
+        ArrayLayout::Dict(_, _, _) => stats_of_any(alloc, array, counts, asked),
         ArrayLayout::FixedSizeList(_, _, _, _) => Ok(None),
         ArrayLayout::ListView(_, _, _, _, _) => Ok(None),
         ArrayLayout::Struct(_, _, _, _) => Ok(None),
@@ -65,21 +131,20 @@ pub fn array_stats(
 }
 
 // Truth values in packed bits.
-#[tactic(auto, using(crate::proofs::Compared::of_arrays))]
 fn stats_of_bools(
     alloc: Global,
-    dtype: &DType,
     bits: &BitBuffer,
     validity: &Validity,
-    max_length: usize,
+    counts: Option<&Counts>,
+    asked: &Asked<'_>,
 ) -> Result<ArrayStats, AllocError>
     requires sound { IsSound (bools bits.now (valid_of validity.now)) }
-    requires dtype { type_of dtype.now ≡ array_type_of (bools bits.now (valid_of validity.now)) }
-    ensures { IfOk result (λ stats. zone_in stats
-        ≡ zone_of (type_of dtype.now) max_length
-        (rows_of (bools bits.now (valid_of validity.now)))) }
+    requires counted { CountsEach counts (length bits.now) }
+    ensures { IfOk result
+        (λ stats. AreStatsOf asked.now counts.entry (bools bits.now (valid_of validity.now))
+        stats) }
 {
-    let stats = seen_bools(bits, validity).stats(alloc, dtype, bits.len(), max_length)?;
+    let stats = seen_bools(bits, validity, counts).stats(alloc, asked)?;
     Ok(stats)
 }
 
@@ -87,125 +152,117 @@ fn stats_of_bools(
 #[tactic(auto, using(vortex_arrays_buffer::proofs::NumberLemmas::eq_numbers))]
 fn stats_of_numbers(
     alloc: Global,
-    dtype: &DType,
     items: &PrimitiveBuffer,
     validity: &Validity,
-    max_length: usize,
+    counts: Option<&Counts>,
+    asked: &Asked<'_>,
 ) -> Result<ArrayStats, AllocError>
     requires sound { IsSound (numbers (kind_of_numbers items.now) (integers_of items.now)
         (valid_of validity.now)) }
-    requires dtype { type_of dtype.now ≡ array_type_of (numbers (kind_of_numbers items.now)
-        (integers_of items.now) (valid_of validity.now)) }
-    ensures { IfOk result (λ stats. zone_in stats
-        ≡ zone_of (type_of dtype.now) max_length (rows_of (numbers (kind_of_numbers items.now)
-        (integers_of items.now) (valid_of validity.now)))) }
+    requires counted { CountsEach counts (length (integers_of items.now)) }
+    ensures { IfOk result (λ stats. AreStatsOf asked.now counts.entry
+        (numbers (kind_of_numbers items.now) (integers_of items.now) (valid_of validity.now))
+        stats) }
 {
     match items {
         PrimitiveBuffer::U8(items) => {
-            stats_of_kind(alloc, dtype, items.as_slice(), validity, max_length)
+            stats_of_kind(alloc, items.as_slice(), validity, counts, asked)
         }
         PrimitiveBuffer::U16(items) => {
-            stats_of_kind(alloc, dtype, items.as_slice(), validity, max_length)
+            stats_of_kind(alloc, items.as_slice(), validity, counts, asked)
         }
         PrimitiveBuffer::U32(items) => {
-            stats_of_kind(alloc, dtype, items.as_slice(), validity, max_length)
+            stats_of_kind(alloc, items.as_slice(), validity, counts, asked)
         }
         PrimitiveBuffer::U64(items) => {
-            stats_of_kind(alloc, dtype, items.as_slice(), validity, max_length)
+            stats_of_kind(alloc, items.as_slice(), validity, counts, asked)
         }
         PrimitiveBuffer::I8(items) => {
-            stats_of_kind(alloc, dtype, items.as_slice(), validity, max_length)
+            stats_of_kind(alloc, items.as_slice(), validity, counts, asked)
         }
         PrimitiveBuffer::I16(items) => {
-            stats_of_kind(alloc, dtype, items.as_slice(), validity, max_length)
+            stats_of_kind(alloc, items.as_slice(), validity, counts, asked)
         }
         PrimitiveBuffer::I32(items) => {
-            stats_of_kind(alloc, dtype, items.as_slice(), validity, max_length)
+            stats_of_kind(alloc, items.as_slice(), validity, counts, asked)
         }
         PrimitiveBuffer::I64(items) => {
-            stats_of_kind(alloc, dtype, items.as_slice(), validity, max_length)
+            stats_of_kind(alloc, items.as_slice(), validity, counts, asked)
         }
     }
 }
 
-#[tactic(auto, using(crate::proofs::Compared::of_arrays))]
 fn stats_of_kind<T: NativePType>(
     alloc: Global,
-    dtype: &DType,
     items: &[T],
     validity: &Validity,
-    max_length: usize,
+    counts: Option<&Counts>,
+    asked: &Asked<'_>,
 ) -> Result<ArrayStats, AllocError>
     requires sound { IsSound (numbers T.kind (map T.integer items.now) (valid_of validity.now)) }
-    requires dtype { type_of dtype.now
-        ≡ array_type_of (numbers T.kind (map T.integer items.now) (valid_of validity.now)) }
-    ensures { IfOk result (λ stats. zone_in stats
-        ≡ zone_of (type_of dtype.now) max_length
-        (rows_of (numbers T.kind (map T.integer items.now) (valid_of validity.now)))) }
+    requires counted { CountsEach counts (length (map T.integer items.now)) }
+    ensures { IfOk result (λ stats. AreStatsOf asked.now counts.entry
+        (numbers T.kind (map T.integer items.now) (valid_of validity.now)) stats) }
 {
-    let stats = seen_numbers(items, validity).stats(alloc, dtype, items.len(), max_length)?;
+    let stats = seen_numbers(items, validity, counts).stats(alloc, asked)?;
     Ok(stats)
 }
 
 // Texts or bytes by views.
-#[tactic(auto, using(crate::proofs::Compared::of_arrays))]
 fn stats_of_views(
     alloc: Global,
-    dtype: &DType,
     kind: StringKind,
     views: &[BinaryView],
     buffers: &[Bytes],
     validity: &Validity,
-    max_length: usize,
+    counts: Option<&Counts>,
+    asked: &Asked<'_>,
 ) -> Result<ArrayStats, AllocError>
     requires sound { IsSound (strings (strings_of kind) views.now buffers.now
         (valid_of validity.now)) }
-    requires dtype { type_of dtype.now ≡ array_type_of (strings (strings_of kind) views.now
-        buffers.now (valid_of validity.now)) }
-    ensures { IfOk result (λ stats. zone_in stats
-        ≡ zone_of (type_of dtype.now) max_length (rows_of (strings (strings_of kind) views.now
-        buffers.now (valid_of validity.now)))) }
+    requires counted { CountsEach counts (length views.now) }
+    ensures { IfOk result (λ stats. AreStatsOf asked.now counts.entry
+        (strings (strings_of kind) views.now buffers.now (valid_of validity.now)) stats) }
 {
     match kind {
         StringKind::Utf8 => {
-            let texts = seen_texts(views, buffers, validity);
-            let stats = texts.stats(alloc, dtype, views.len(), max_length)?;
+            let texts = seen_texts(views, buffers, validity, counts);
+            let stats = texts.stats(alloc, asked)?;
             Ok(stats)
         }
         StringKind::Binary => {
-            let bytes = seen_byte_strings(views, buffers, validity);
-            let stats = bytes.stats(alloc, dtype, views.len(), max_length)?;
+            let bytes = seen_byte_strings(views, buffers, validity, counts);
+            let stats = bytes.stats(alloc, asked)?;
             Ok(stats)
         }
     }
 }
 
-// A dictionary, whose rows are read by what they refer to, or a constant.
+// A constant, or a dictionary, whose rows are read by what they refer to.
 #[tactic(auto, using(crate::proofs::Compared::of_any))]
 fn stats_of_any(
     alloc: Global,
     array: &ArrayRef,
-    max_length: usize,
+    counts: Option<&Counts>,
+    asked: &Asked<'_>,
 ) -> Result<Option<ArrayStats>, AllocError>
-    requires { is_leaf (array_type_of array.now) ≡ true }
+    requires { CountsEach counts (len_of array.now) }
     ensures { IfOk result (λ found. MatchOption found
         (is_leaf (array_type_of array.now) ≡ false)
-        (λ stats. zone_in stats
-        ≡ zone_of (array_type_of array.now) max_length (rows_of array.now))) }
+        (λ stats. AreStatsOf asked.now counts.entry array.now stats)) }
 {
-    let (dtype, len) = (array.dtype(), array.len());
-    match dtype {
+    match array.dtype() {
         DType::Bool(_) => {
-            let stats = referenced_bools(array).stats(alloc, dtype, len, max_length)?;
+            let stats = referenced_bools(array, counts).stats(alloc, asked)?;
             Ok(Some(stats))
         }
-        DType::Primitive(ptype, _) => stats_of_any_numbers(alloc, array, *ptype, max_length),
+        DType::Primitive(ptype, _) => stats_of_any_numbers(alloc, array, *ptype, counts, asked),
         DType::Utf8(_) => {
-            let stats = referenced_texts(array).stats(alloc, dtype, len, max_length)?;
+            let stats = referenced_texts(array, counts).stats(alloc, asked)?;
             Ok(Some(stats))
         }
         DType::Binary(_) => {
-            let stats = referenced_byte_strings(array).stats(alloc, dtype, len, max_length)?;
+            let stats = referenced_byte_strings(array, counts).stats(alloc, asked)?;
             Ok(Some(stats))
         }
         DType::Null | DType::Decimal(_, _) | DType::Variant(_) => Ok(None),
@@ -214,45 +271,46 @@ fn stats_of_any(
     }
 }
 
-// The statistics of integers, whose kind is matched once for all rows.
+// Integers, whose kind is matched once for all rows.
 #[tactic(auto, using(crate::proofs::Compared::of_kinds))]
 fn stats_of_any_numbers(
     alloc: Global,
     array: &ArrayRef,
     ptype: PType,
-    max_length: usize,
+    counts: Option<&Counts>,
+    asked: &Asked<'_>,
 ) -> Result<Option<ArrayStats>, AllocError>
-    requires { IsOfKind (number_kind_of ptype) (array_type_of array.now) }
+    requires kind { IsOfKind (number_kind_of ptype) (array_type_of array.now) }
+    requires counted { CountsEach counts (len_of array.now) }
     ensures { IfOk result (λ found. MatchOption found
         (is_leaf (array_type_of array.now) ≡ false)
-        (λ stats. zone_in stats
-        ≡ zone_of (array_type_of array.now) max_length (rows_of array.now))) }
+        (λ stats. AreStatsOf asked.now counts.entry array.now stats)) }
 {
-    let stats = match ptype {
-        PType::U8 => stats_of_any_kind::<u8>(alloc, array, max_length)?,
-        PType::U16 => stats_of_any_kind::<u16>(alloc, array, max_length)?,
-        PType::U32 => stats_of_any_kind::<u32>(alloc, array, max_length)?,
-        PType::U64 => stats_of_any_kind::<u64>(alloc, array, max_length)?,
-        PType::I8 => stats_of_any_kind::<i8>(alloc, array, max_length)?,
-        PType::I16 => stats_of_any_kind::<i16>(alloc, array, max_length)?,
-        PType::I32 => stats_of_any_kind::<i32>(alloc, array, max_length)?,
-        PType::I64 => stats_of_any_kind::<i64>(alloc, array, max_length)?,
-        PType::F16 | PType::F32 | PType::F64 => return Ok(None),
-    };
-    Ok(Some(stats))
+    match ptype {
+        PType::U8 => stats_of_any_kind::<u8>(alloc, array, counts, asked),
+        PType::U16 => stats_of_any_kind::<u16>(alloc, array, counts, asked),
+        PType::U32 => stats_of_any_kind::<u32>(alloc, array, counts, asked),
+        PType::U64 => stats_of_any_kind::<u64>(alloc, array, counts, asked),
+        PType::I8 => stats_of_any_kind::<i8>(alloc, array, counts, asked),
+        PType::I16 => stats_of_any_kind::<i16>(alloc, array, counts, asked),
+        PType::I32 => stats_of_any_kind::<i32>(alloc, array, counts, asked),
+        PType::I64 => stats_of_any_kind::<i64>(alloc, array, counts, asked),
+        PType::F16 | PType::F32 | PType::F64 => Ok(None),
+    }
 }
 
-#[tactic(auto, using(crate::proofs::Compared::of_arrays))]
 fn stats_of_any_kind<T: NativePType>(
     alloc: Global,
     array: &ArrayRef,
-    max_length: usize,
-) -> Result<ArrayStats, AllocError>
-    requires { IsIntegerOf T.kind (array_type_of array.now) }
-    ensures { IfOk result (λ stats. zone_in stats
-        ≡ zone_of (array_type_of array.now) max_length (rows_of array.now)) }
+    counts: Option<&Counts>,
+    asked: &Asked<'_>,
+) -> Result<Option<ArrayStats>, AllocError>
+    requires kind { IsIntegerOf T.kind (array_type_of array.now) }
+    requires counted { CountsEach counts (len_of array.now) }
+    ensures { IfOk result (λ found. MatchOption found
+        (is_leaf (array_type_of array.now) ≡ false)
+        (λ stats. AreStatsOf asked.now counts.entry array.now stats)) }
 {
-    let numbers = referenced_numbers::<T>(array);
-    let stats = numbers.stats(alloc, array.dtype(), array.len(), max_length)?;
-    Ok(stats)
+    let stats = referenced_numbers::<T>(array, counts).stats(alloc, asked)?;
+    Ok(Some(stats))
 }

@@ -1,13 +1,16 @@
-//! Rows of arrays of any layout, each read once: those of dictionaries and of constants.
-ghost use Rattle.std.specs.Prelude.{◌≡◌, ◌<◌};
-ghost use Rattle.vortex_model.specs.Content.{boolean, integer, text, byte_string};
-ghost use Rattle.vortex_arrays_model.specs.Layout.{len_of, array_type_of, content_at, rows_of};
+//! Values of arrays of any layout, each read once: those of dictionaries and of constants.
+ghost use Rattle.std.specs.Prelude.{◌≡◌, ◌<◌, List};
+ghost use Rattle.vortex_model.specs.Content.{Content, boolean, integer, text, byte_string};
+ghost use Rattle.vortex_arrays_model.specs.Layout.{len_of, array_type_of, content_at};
 ghost use Rattle.vortex_scalar_core.specs.Scalar.{scalar_type, scalar_content};
 ghost use Rattle.vortex_stats_array.specs.Arrays.{IsBooleanType, IsIntegerOf, IsTextType, IsBinaryType, IsStringType, string_or_null};
+ghost use Rattle.vortex_stats_array.specs.Counted.{CountsEach, StandIn};
 ghost use Rattle.vortex_stats_array.specs.Running.{content_or_null, IsSeen};
 
+use crate::counts::Counts;
 use crate::leaf_value::{ByteString, Number, Text};
-use crate::running::{Running, seen_rows};
+use crate::running::Running;
+use crate::seen::seen_in;
 use vortex_arrays_core::array::{ArrayLayout, ArrayRef};
 use vortex_dtype_native::native::NativePType;
 use vortex_scalar_core::scalar::Scalar;
@@ -28,11 +31,17 @@ fn number_at<T: NativePType>(array: &ArrayRef, i: usize) -> Option<Number<T>>
 }
 
 /// Integers of one kind.
-pub(crate) fn referenced_numbers<T: NativePType>(array: &ArrayRef) -> Running<Number<T>>
-    requires { IsIntegerOf T.kind (array_type_of array.now) }
-    ensures { IsSeen (λ v. integer (T.integer v.0)) result (rows_of array.now) }
+pub(crate) fn referenced_numbers<T: NativePType>(
+    array: &ArrayRef,
+    counts: Option<&Counts>,
+) -> Running<Number<T>>
+    requires kind { IsIntegerOf T.kind (array_type_of array.now) }
+    requires counted { CountsEach counts (len_of array.now) }
+    ensures { (rows : List Content)
+        → StandIn counts.entry (content_at array.now) (len_of array.now) rows
+        → IsSeen (λ v. integer (T.integer v.0)) result rows }
 {
-    seen_rows(array, |i| number_at(array, i))
+    seen_in(array, counts, |i| number_at(array, i))
 }
 
 // The truth value at a row.
@@ -51,11 +60,14 @@ fn bool_at(array: &ArrayRef, i: usize) -> Option<bool>
 }
 
 /// Truth values.
-pub(crate) fn referenced_bools(array: &ArrayRef) -> Running<bool>
-    requires { IsBooleanType (array_type_of array.now) }
-    ensures { IsSeen boolean result (rows_of array.now) }
+pub(crate) fn referenced_bools(array: &ArrayRef, counts: Option<&Counts>) -> Running<bool>
+    requires kind { IsBooleanType (array_type_of array.now) }
+    requires counted { CountsEach counts (len_of array.now) }
+    ensures { (rows : List Content)
+        → StandIn counts.entry (content_at array.now) (len_of array.now) rows
+        → IsSeen boolean result rows }
 {
-    seen_rows(array, |i| bool_at(array, i))
+    seen_in(array, counts, |i| bool_at(array, i))
 }
 
 // The bytes of the text or the bytes at a row, where they lie.
@@ -115,11 +127,17 @@ fn text_at<'a>(array: &'a ArrayRef, i: usize) -> Option<Text<'a>>
 }
 
 /// Texts, compared where they lie.
-pub(crate) fn referenced_texts(array: &ArrayRef) -> Running<Text>
-    requires { IsTextType (array_type_of array.now) }
-    ensures { IsSeen (λ v. text v.bytes.now) result (rows_of array.now) }
+pub(crate) fn referenced_texts<'a>(
+    array: &'a ArrayRef,
+    counts: Option<&Counts>,
+) -> Running<Text<'a>>
+    requires kind { IsTextType (array_type_of array.now) }
+    requires counted { CountsEach counts (len_of array.now) }
+    ensures { (rows : List Content)
+        → StandIn counts.entry (content_at array.now) (len_of array.now) rows
+        → IsSeen (λ v. text v.bytes.now) result rows }
 {
-    seen_rows(array, |i| text_at(array, i))
+    seen_in(array, counts, |i| text_at(array, i))
 }
 
 fn byte_string_at<'a>(array: &'a ArrayRef, i: usize) -> Option<ByteString<'a>>
@@ -131,9 +149,15 @@ fn byte_string_at<'a>(array: &'a ArrayRef, i: usize) -> Option<ByteString<'a>>
 }
 
 /// Bytes, compared where they lie.
-pub(crate) fn referenced_byte_strings(array: &ArrayRef) -> Running<ByteString>
-    requires { IsBinaryType (array_type_of array.now) }
-    ensures { IsSeen (λ v. byte_string v.0.now) result (rows_of array.now) }
+pub(crate) fn referenced_byte_strings<'a>(
+    array: &'a ArrayRef,
+    counts: Option<&Counts>,
+) -> Running<ByteString<'a>>
+    requires kind { IsBinaryType (array_type_of array.now) }
+    requires counted { CountsEach counts (len_of array.now) }
+    ensures { (rows : List Content)
+        → StandIn counts.entry (content_at array.now) (len_of array.now) rows
+        → IsSeen (λ v. byte_string v.0.now) result rows }
 {
-    seen_rows(array, |i| byte_string_at(array, i))
+    seen_in(array, counts, |i| byte_string_at(array, i))
 }

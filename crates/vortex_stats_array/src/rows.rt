@@ -1,12 +1,15 @@
-//! Rows of arrays of one layout, each read once.
-ghost use Rattle.std.specs.Prelude.{◌≡◌, ◌<◌, length, map};
-ghost use Rattle.vortex_model.specs.Content.{boolean, integer, text, byte_string};
-ghost use Rattle.vortex_arrays_model.specs.Layout.{bools, numbers, strings, texts, byte_strings, content_at, rows_of, IsSound};
+//! Values of arrays of one layout, each read once.
+ghost use Rattle.std.specs.Prelude.{◌≡◌, ◌<◌, List, length, map};
+ghost use Rattle.vortex_model.specs.Content.{Content, boolean, integer, text, byte_string};
+ghost use Rattle.vortex_arrays_model.specs.Layout.{bools, numbers, strings, texts, byte_strings, content_at, IsSound};
 ghost use Rattle.vortex_arrays_core.specs.LayoutOf.{valid_of};
+ghost use Rattle.vortex_stats_array.specs.Counted.{CountsEach, StandIn};
 ghost use Rattle.vortex_stats_array.specs.Running.{content_or_null, IsSeen};
 
+use crate::counts::Counts;
 use crate::leaf_value::{ByteString, Number, Text};
-use crate::running::{Running, seen};
+use crate::running::Running;
+use crate::seen::seen;
 use bytes::Bytes;
 use vortex_arrays_buffer::BitBuffer;
 use vortex_arrays_core::array::Validity;
@@ -27,12 +30,18 @@ fn number_at<T: NativePType>(items: &[T], validity: &Validity, i: usize) -> Opti
 }
 
 /// Integers of one kind.
-pub(crate) fn seen_numbers<T: NativePType>(items: &[T], validity: &Validity) -> Running<Number<T>>
-    requires { IsSound (numbers T.kind (map T.integer items.now) (valid_of validity.now)) }
-    ensures { IsSeen (λ v. integer (T.integer v.0)) result
-        (rows_of (numbers T.kind (map T.integer items.now) (valid_of validity.now))) }
+pub(crate) fn seen_numbers<T: NativePType>(
+    items: &[T],
+    validity: &Validity,
+    counts: Option<&Counts>,
+) -> Running<Number<T>>
+    requires sound { IsSound (numbers T.kind (map T.integer items.now) (valid_of validity.now)) }
+    requires counted { CountsEach counts (length items.now) }
+    ensures { (rows : List Content) → StandIn counts.entry
+        (content_at (numbers T.kind (map T.integer items.now) (valid_of validity.now)))
+        (length items.now) rows → IsSeen (λ v. integer (T.integer v.0)) result rows }
 {
-    seen(items.len(), |i| number_at(items, validity, i))
+    seen(items.len(), counts, |i| number_at(items, validity, i))
 }
 
 fn bool_at(bits: &BitBuffer, validity: &Validity, i: usize) -> Option<bool>
@@ -49,11 +58,18 @@ fn bool_at(bits: &BitBuffer, validity: &Validity, i: usize) -> Option<bool>
 }
 
 /// Truth values.
-pub(crate) fn seen_bools(bits: &BitBuffer, validity: &Validity) -> Running<bool>
-    requires { IsSound (bools bits.now (valid_of validity.now)) }
-    ensures { IsSeen boolean result (rows_of (bools bits.now (valid_of validity.now))) }
+pub(crate) fn seen_bools(
+    bits: &BitBuffer,
+    validity: &Validity,
+    counts: Option<&Counts>,
+) -> Running<bool>
+    requires sound { IsSound (bools bits.now (valid_of validity.now)) }
+    requires counted { CountsEach counts (length bits.now) }
+    ensures { (rows : List Content)
+        → StandIn counts.entry (content_at (bools bits.now (valid_of validity.now)))
+        (length bits.now) rows → IsSeen boolean result rows }
 {
-    seen(bits.len(), |i| bool_at(bits, validity, i))
+    seen(bits.len(), counts, |i| bool_at(bits, validity, i))
 }
 
 fn text_at<'a>(
@@ -79,12 +95,19 @@ pub(crate) fn seen_texts<'a>(
     views: &'a [BinaryView],
     buffers: &'a [Bytes],
     validity: &Validity,
+    counts: Option<&Counts>,
 ) -> Running<Text<'a>>
-    requires { IsSound (strings texts views.now buffers.now (valid_of validity.now)) }
-    ensures { IsSeen (λ v. text v.bytes.now) result
-        (rows_of (strings texts views.now buffers.now (valid_of validity.now))) }
+    requires sound { IsSound (strings texts views.now buffers.now (valid_of validity.now)) }
+    requires counted { CountsEach counts (length views.now) }
+    ensures { (rows : List Content) → StandIn counts.entry
+        (content_at (strings texts views.now buffers.now (valid_of validity.now)))
+        (length views.now) rows → IsSeen (λ v. text v.bytes.now) result rows }
 {
-    seen(views.len(), |i| text_at(views, buffers, validity, i))
+    seen(
+        views.len(),
+        counts,
+        |i| text_at(views, buffers, validity, i),
+    )
 }
 
 fn bytes_at<'a>(
@@ -110,10 +133,17 @@ pub(crate) fn seen_byte_strings<'a>(
     views: &'a [BinaryView],
     buffers: &'a [Bytes],
     validity: &Validity,
+    counts: Option<&Counts>,
 ) -> Running<ByteString<'a>>
-    requires { IsSound (strings byte_strings views.now buffers.now (valid_of validity.now)) }
-    ensures { IsSeen (λ v. byte_string v.0.now) result
-        (rows_of (strings byte_strings views.now buffers.now (valid_of validity.now))) }
+    requires sound { IsSound (strings byte_strings views.now buffers.now (valid_of validity.now)) }
+    requires counted { CountsEach counts (length views.now) }
+    ensures { (rows : List Content) → StandIn counts.entry
+        (content_at (strings byte_strings views.now buffers.now (valid_of validity.now)))
+        (length views.now) rows → IsSeen (λ v. byte_string v.0.now) result rows }
 {
-    seen(views.len(), |i| bytes_at(views, buffers, validity, i))
+    seen(
+        views.len(),
+        counts,
+        |i| bytes_at(views, buffers, validity, i),
+    )
 }

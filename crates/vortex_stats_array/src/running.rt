@@ -1,19 +1,16 @@
 //! What is seen of a leaf column, row by row.
-ghost use Rattle.std.specs.Prelude.{◌≡◌, ◌<◌, ◌≤◌, ◌+◌, ◌-◌, ◌^◌, ◌∷◌, [], ℕ, List, length, map, option_map, IfOk};
-ghost use Rattle.std.specs.List.{range_with_len};
-ghost use Rattle.vortex_model.specs.Content.{Content};
+ghost use Rattle.std.specs.Prelude.{◌≡◌, ◌<◌, ◌≤◌, ◌+◌, ◌-◌, ◌*◌, ◌^◌, ◌∷◌, ◌++◌, [], ℕ, List, length, replicate, option_map, IfOk};
+ghost use Rattle.vortex_model.specs.Content.{Content, null};
 ghost use Rattle.vortex_model.specs.ZoneMap.{zone_of};
 ghost use Rattle.vortex_dtype_core.specs.View.{type_of};
-ghost use Rattle.vortex_arrays_model.specs.Layout.{len_of, content_at, rows_of};
-ghost use Rattle.vortex_stats_array.specs.Running.{content_or_null, ReadsRows, lesser, greater, in_front, DoCompare, IsSeen, FitsRows, constant_by};
+ghost use Rattle.vortex_stats_array.specs.Running.{content_or_null, lesser, greater, in_front, DoCompare, IsSeen, FitsRows, constant_by};
 ghost use Rattle.vortex_stats_array.specs.Zones.{bound_content, zone_in, low_at, high_at};
 
 use crate::array_stats::{ArrayStats, sum_ptype};
+use crate::asked::Asked;
 use crate::leaf_value::LeafValue;
 use crate::running_sum::RunningSum;
 use std::alloc::{AllocError, Global};
-use vortex_arrays_core::array::{ArrayLayout, ArrayRef};
-use vortex_dtype_core::dtype::DType;
 use vortex_scalar_value::scalar_value::ScalarValue;
 use vortex_stats_bound::precision::Precision;
 
@@ -67,6 +64,19 @@ impl<V: LeafValue> Running<V> {
         }
     }
 
+    /// So many rows that are null.
+    pub(crate) fn of_nulls(n: usize) -> Running<V>
+        ensures seen { IsSeen V.said result (replicate n null) }
+        ensures fits { FitsRows result n }
+    {
+        Running {
+            least: None,
+            greatest: None,
+            null_count: n,
+            sum: RunningSum::none(),
+        }
+    }
+
     /// One more row in front, where `None` is null.
     pub(crate) fn with(self, value: Option<V>) -> Running<V>
         requires nulls { self.null_count < 2 ^ 64 - 1 }
@@ -91,60 +101,33 @@ impl<V: LeafValue> Running<V> {
             },
         }
     }
-}
 
-/// What is seen of so many rows that all are the one that `row` reads first, where `None` is null.
-fn seen_constant<V: LeafValue, F: Fn(usize) -> Option<V>>(len: usize, row: F) -> Running<V>
-    requires { (i : ℕ) → i < len → F.pre row i }
-    ensures { (c : Content) → ReadsRows V.said len (λ i v. F.post row i v) (λ i. c)
-        → IsSeen V.said result (map (λ i. c) (range_with_len 0 len)) }
-{
-    if len == 0 {
-        return Running::none();
+    /// So many more rows in front that all are one value, where `None` is null. It is compared
+    /// once.
+    pub(crate) fn with_many(self, value: Option<V>, n: usize) -> Running<V>
+        requires some { 0 < n }
+        requires nulls { self.null_count + n < 2 ^ 64 }
+        requires above { self.sum.above + n * 2 ^ 64 < 2 ^ 128 }
+        requires below { self.sum.below + n * 2 ^ 64 < 2 ^ 128 }
+        ensures seen { (rows : List Content) → IsSeen V.said self rows
+            → IsSeen V.said result (replicate n (content_or_null V.said value) ++ rows) }
+        ensures fits { (m : ℕ) → FitsRows self m → FitsRows result (m + n) }
+    {
+        match value {
+            None => Running {
+                least: self.least,
+                greatest: self.greatest,
+                null_count: self.null_count + n,
+                sum: self.sum,
+            },
+            Some(value) => Running {
+                least: Some(least_with(value, self.least)),
+                greatest: Some(greatest_with(value, self.greatest)),
+                null_count: self.null_count,
+                sum: self.sum.plus_many(value.number(), n),
+            },
+        }
     }
-    match row(0) {
-        Some(value) => Running {
-            least: Some(value),
-            greatest: Some(value),
-            null_count: 0,
-            sum: RunningSum::times(value.number(), len),
-        },
-        None => Running {
-            least: None,
-            greatest: None,
-            null_count: len,
-            sum: RunningSum::none(),
-        },
-    }
-}
-
-/// What is seen of the rows of an array, each read once, and of a constant's a single one.
-pub(crate) fn seen_rows<V: LeafValue, F: Fn(usize) -> Option<V>>(
-    array: &ArrayRef,
-    row: F,
-) -> Running<V>
-    requires { (i : ℕ) → i < len_of array.now → F.pre row i }
-    ensures { ReadsRows V.said (len_of array.now) (λ i v. F.post row i v) (content_at array.now)
-        → IsSeen V.said result (rows_of array.now) }
-{
-    match array.layout() {
-        ArrayLayout::Constant(_, len) => seen_constant(*len, row),
-        _ => seen(array.len(), row),
-    }
-}
-
-/// What is seen of so many rows, each read once by `row`, where `None` is null.
-pub(crate) fn seen<V: LeafValue, F: Fn(usize) -> Option<V>>(len: usize, row: F) -> Running<V>
-    requires { (i : ℕ) → i < len → F.pre row i }
-    ensures { (content : ℕ → Content) → ReadsRows V.said len (λ i v. F.post row i v) content
-        → IsSeen V.said result (map content (range_with_len 0 len)) }
-{
-    // Each is added in front of those behind it.
-    let mut running = Running::none();
-    for i in (0..len).rev() {
-        running = running.with(row(i));
-    }
-    running
 }
 
 impl<V: LeafValue> Running<V> {
@@ -182,27 +165,21 @@ impl<V: LeafValue> Running<V> {
         }
     }
 
-    /// The statistics of these rows, so many, of a column of the type. A bound that is a text or
-    /// bytes of more than `max_length` bytes is shortened.
-    pub(crate) fn stats(
-        self,
-        alloc: Global,
-        dtype: &DType,
-        row_count: usize,
-        max_length: usize,
-    ) -> Result<ArrayStats, AllocError>
+    /// The statistics of these rows. A bound that is a text or bytes of more than the greatest
+    /// length is shortened.
+    pub(crate) fn stats(self, alloc: Global, asked: &Asked<'_>) -> Result<ArrayStats, AllocError>
         ensures { IfOk result (λ stats. (rows : List Content) → IsSeen V.said self rows
-            → DoCompare rows → length rows ≡ row_count
-            → zone_in stats ≡ zone_of (type_of dtype.now) max_length rows) }
+            → DoCompare rows → length rows ≡ asked.now.row_count
+            → zone_in stats ≡ zone_of (type_of asked.now.dtype.now) asked.now.max_length rows) }
     {
-        let min = self.min(alloc, max_length)?;
-        let max = self.max(alloc, max_length)?;
+        let min = self.min(alloc, asked.max_length)?;
+        let max = self.max(alloc, asked.max_length)?;
         Ok(ArrayStats {
             min,
             max,
             null_count: self.null_count,
-            row_count,
-            sum: self.sum.of_type(sum_ptype(dtype)),
+            row_count: asked.row_count,
+            sum: self.sum.of_type(sum_ptype(asked.dtype)),
             is_constant: self.is_constant(),
         })
     }

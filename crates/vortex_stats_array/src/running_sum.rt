@@ -1,5 +1,5 @@
 //! The sum of the values of a leaf column, one by one.
-ghost use Rattle.std.specs.Prelude.{◌≡◌, ◌<◌, ◌≤◌, ◌+◌, ◌-◌, ◌^◌, false, pos, neg_ℤ, ◌+ℤ◌, ◌≤ℤ◌, IfSome, IfNone};
+ghost use Rattle.std.specs.Prelude.{◌≡◌, ◌<◌, ◌≤◌, ◌+◌, ◌-◌, ◌*◌, ◌^◌, false, pos, neg_ℤ, ◌+ℤ◌, ◌≤ℤ◌, IfSome, IfNone};
 ghost use Rattle.vortex_model.specs.LogicalType.{IntKind};
 ghost use Rattle.vortex_model.specs.Valid.{in_range};
 ghost use Rattle.vortex_model.specs.ZoneMap.{sum_in};
@@ -51,23 +51,27 @@ impl RunningSum {
         }
     }
 
-    /// One number, so many times.
+    /// One number more, so many times.
     #[tactic(auto, using(crate::proofs::Repeated::times))]
-    pub(crate) fn times(number: i128, n: usize) -> RunningSum
+    pub(crate) fn plus_many(self, number: i128, n: usize) -> RunningSum
         requires least { neg_ℤ (pos (2 ^ 64)) ≤ℤ number }
         requires greatest { number ≤ℤ pos (2 ^ 64) }
-        ensures { sum_in_parts result ≡ repeated_sum n number }
+        requires above { self.above + n * 2 ^ 64 < 2 ^ 128 }
+        requires below { self.below + n * 2 ^ 64 < 2 ^ 128 }
+        ensures sum { sum_in_parts result ≡ repeated_sum n number +ℤ sum_in_parts self }
+        ensures above { result.above ≤ self.above + n * 2 ^ 64 }
+        ensures below { result.below ≤ self.below + n * 2 ^ 64 }
     {
         let total = n as u128 * number.unsigned_abs();
         if number >= 0 {
             RunningSum {
-                above: total,
-                below: 0,
+                above: self.above + total,
+                below: self.below,
             }
         } else {
             RunningSum {
-                above: 0,
-                below: total,
+                above: self.above,
+                below: self.below + total,
             }
         }
     }

@@ -9,3 +9,4 @@ pub mod masks;
 pub mod numbers;
 pub mod pairs;
 pub mod strings;
+pub mod turned;

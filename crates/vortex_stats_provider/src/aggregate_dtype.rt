@@ -18,7 +18,7 @@ use vortex_stats_stat::stat::sum_dtype;
 
 /// The type of a placeholder over values of a type, and `None` where the aggregate function doesn't
 /// take the type.
-pub(crate) fn aggregate_dtype(
+pub fn aggregate_dtype(
     alloc: Global,
     aggregate: AggregateFn,
     dtype: &DType,

@@ -2,7 +2,7 @@
 //! statistics, and the values of placeholders.
 #![tactic(auto)]
 
-mod aggregate_dtype;
+pub mod aggregate_dtype;
 pub mod markers;
 pub mod provider;
 pub mod provider_ext;

@@ -2,7 +2,6 @@
 #![tactic(auto)]
 
 mod answers;
-pub mod bind;
 pub mod laws;
 pub mod meter;
 pub mod negation;

@@ -1,3 +1,4 @@
+pub mod CodedLemmas
 pub mod LeafLemmas
 pub mod LikeLemmas
 pub mod NullLemmas

@@ -1,3 +1,4 @@
+pub mod Coded
 pub mod Leaves
 pub mod Operands
 pub mod Wants

@@ -1,13 +1,17 @@
 //! Comparisons of operands, row by row.
-ghost use Rattle.std.specs.Prelude.{◌≡◌, length, map, replicate, IfOk};
+ghost use Rattle.std.specs.Prelude.{◌≡◌, Bool, List, length, map, replicate, IfOk, IfSome};
 ghost use Rattle.std.specs.List.{zip};
 ghost use Rattle.vortex_model.specs.Truth.{compared, is_true};
 ghost use Rattle.vortex_scalar_value.specs.View.{content_at};
 ghost use Rattle.vortex_stats_expr.specs.Tree.{comparison_of};
 ghost use Rattle.vortex_stats_mask.specs.Wanted.{is_wanted, joined_by, negated, swapped};
+ghost use Rattle.vortex_stats_select.specs.Coded.{value_of_code};
+ghost use Rattle.vortex_stats_select.specs.Leaves.{leaf_rows};
 ghost use Rattle.vortex_stats_select.specs.Operands.{operand_rows};
 
+use crate::leaf::Leaf;
 use crate::operand::Operand;
+use crate::spread::spread;
 use std::alloc::{AllocError, Global};
 use vortex_scalar_value::scalar_value::ScalarValue;
 use vortex_stats_bind::value::{compare_values, read};
@@ -15,32 +19,7 @@ use vortex_stats_expr::operator::Comparison;
 use vortex_stats_mask::compare::compare_literal;
 use vortex_stats_mask::masks::{both, either};
 use vortex_stats_mask::pairs::compare_columns;
-
-fn negated(comparison: Comparison) -> Comparison
-    ensures { comparison_of result ≡ negated (comparison_of comparison) }
-{
-    match comparison {
-        Comparison::Eq => Comparison::NotEq,
-        Comparison::NotEq => Comparison::Eq,
-        Comparison::Gt => Comparison::Lte,
-        Comparison::Gte => Comparison::Lt,
-        Comparison::Lt => Comparison::Gte,
-        Comparison::Lte => Comparison::Gt,
-    }
-}
-
-fn swapped(comparison: Comparison) -> Comparison
-    ensures { comparison_of result ≡ swapped (comparison_of comparison) }
-{
-    match comparison {
-        Comparison::Eq => Comparison::Eq,
-        Comparison::NotEq => Comparison::NotEq,
-        Comparison::Gt => Comparison::Lt,
-        Comparison::Gte => Comparison::Lte,
-        Comparison::Lt => Comparison::Gt,
-        Comparison::Lte => Comparison::Gte,
-    }
-}
+use vortex_stats_mask::turned::{negated, swapped};
 
 fn compare_constants(
     alloc: Global,
@@ -57,37 +36,73 @@ fn compare_constants(
     Ok(vec![in alloc; truth.unwrap_or(false); len]?)
 }
 
-// Which rows of the two stand so to each other.
+// Which rows of a dictionary stand so to a value: each value of the dictionary is compared once.
+fn compare_coded(
+    alloc: Global,
+    comparison: Comparison,
+    codes: &Leaf,
+    values: &Leaf,
+    literal: Option<&ScalarValue>,
+) -> Result<Vec<bool>, AllocError>
+    ensures { IfOk result (λ mask. mask.items
+        ≡ map (λ c. is_true (compared (comparison_of comparison) c (content_at literal.entry)))
+        (map (value_of_code (leaf_rows values.now)) (leaf_rows codes.now))) }
+{
+    let mask = compare_literal(alloc, comparison, &values.as_column(), literal)?;
+    spread(alloc, &mask, &codes.as_column())
+}
+
+// A mask that is told.
+fn told(mask: Result<Vec<bool>, AllocError>) -> Result<Option<Vec<bool>>, AllocError>
+    ensures { (rows : List Bool) → IfOk mask (λ mask. mask.items ≡ rows)
+        → IfOk result (λ found. IfSome found (λ mask. mask.items ≡ rows)) }
+{
+    match mask {
+        Ok(mask) => Ok(Some(mask)),
+        Err(e) => Err(e),
+    }
+}
+
+// Which rows of the two stand so to each other. `None` of a dictionary beside a column.
 fn compare_operands(
     alloc: Global,
     comparison: Comparison,
     left: &Operand,
     right: &Operand,
     len: usize,
-) -> Result<Vec<bool>, AllocError>
+) -> Result<Option<Vec<bool>>, AllocError>
     requires left { length (operand_rows left.now len) ≡ len }
     requires right { length (operand_rows right.now len) ≡ len }
-    ensures { IfOk result (λ mask. mask.items
+    ensures { IfOk result (λ found. IfSome found (λ mask. mask.items
         ≡ map (λ p. is_true (compared (comparison_of comparison) p.0 p.1))
-        (zip (operand_rows left.now len) (operand_rows right.now len))) }
+        (zip (operand_rows left.now len) (operand_rows right.now len)))) }
 {
     match (left, right) {
         (Operand::Column(x), Operand::Column(y)) => {
-            compare_columns(alloc, comparison, &x.as_column(), &y.as_column())
+            told(compare_columns(alloc, comparison, &x.as_column(), &y.as_column()))
         }
         (Operand::Column(x), Operand::Value(y)) => {
-            compare_literal(alloc, comparison, &x.as_column(), y.as_ref())
+            told(compare_literal(alloc, comparison, &x.as_column(), y.as_ref()))
         }
         (Operand::Value(x), Operand::Column(y)) => {
-            compare_literal(alloc, swapped(comparison), &y.as_column(), x.as_ref())
+            told(compare_literal(alloc, swapped(comparison), &y.as_column(), x.as_ref()))
         }
         (Operand::Value(x), Operand::Value(y)) => {
-            compare_constants(alloc, comparison, x.as_ref(), y.as_ref(), len)
+            told(compare_constants(alloc, comparison, x.as_ref(), y.as_ref(), len))
         }
+        (Operand::Dictionary(codes, values), Operand::Value(y)) => {
+            told(compare_coded(alloc, comparison, codes, values, y.as_ref()))
+        }
+        (Operand::Value(x), Operand::Dictionary(codes, values)) => {
+            told(compare_coded(alloc, swapped(comparison), codes, values, x.as_ref()))
+        }
+        (Operand::Dictionary(_, _), Operand::Column(_)) => Ok(None),
+        (Operand::Dictionary(_, _), Operand::Dictionary(_, _)) => Ok(None),
+        (Operand::Column(_), Operand::Dictionary(_, _)) => Ok(None),
     }
 }
 
-// For which rows the comparison of the two has the wanted truth.
+// For which rows the comparison of the two has the wanted truth, where that is told.
 pub(crate) fn compare_wanted(
     alloc: Global,
     comparison: Comparison,
@@ -95,12 +110,12 @@ pub(crate) fn compare_wanted(
     left: &Operand,
     right: &Operand,
     len: usize,
-) -> Result<Vec<bool>, AllocError>
+) -> Result<Option<Vec<bool>>, AllocError>
     requires left { length (operand_rows left.now len) ≡ len }
     requires right { length (operand_rows right.now len) ≡ len }
-    ensures { IfOk result (λ mask. mask.items
+    ensures { IfOk result (λ found. IfSome found (λ mask. mask.items
         ≡ map (λ p. is_wanted want (compared (comparison_of comparison) p.0 p.1))
-        (zip (operand_rows left.now len) (operand_rows right.now len))) }
+        (zip (operand_rows left.now len) (operand_rows right.now len)))) }
 {
     let comparison = if want {
         comparison

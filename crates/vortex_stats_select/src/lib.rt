@@ -8,4 +8,5 @@ mod like;
 mod nulls;
 mod operand;
 pub mod select;
+mod spread;
 mod validity;

@@ -1,5 +1,5 @@
 //! LIKE of a column of texts.
-ghost use Rattle.std.specs.Prelude.{◌≡◌, map, not, false, IfOk, IfSome};
+ghost use Rattle.std.specs.Prelude.{◌≡◌, ℕ, map, not, false, IfOk, IfSome};
 ghost use Rattle.vortex_model.specs.Content.{text};
 ghost use Rattle.vortex_model.specs.Like.{has_backslash, is_like};
 ghost use Rattle.vortex_model.specs.Truth.{liked};
@@ -8,10 +8,15 @@ ghost use Rattle.vortex_scalar_value.specs.View.{content_in};
 ghost use Rattle.vortex_stats_bind.specs.Bound.{fixed, bound_value};
 ghost use Rattle.vortex_stats_mask.specs.Columns.{column_of};
 ghost use Rattle.vortex_stats_mask.specs.Wanted.{is_wanted};
+ghost use Rattle.vortex_stats_select.specs.Coded.{value_of_code};
+ghost use Rattle.vortex_stats_select.specs.Leaves.{leaf_rows};
+ghost use Rattle.vortex_stats_select.specs.Operands.{operand_rows};
 ghost use Rattle.vortex_stats_select.specs.Wants.{wanted_match};
 
 use crate::columns::Columns;
-use crate::leaf::leaf_of;
+use crate::leaf::Leaf;
+use crate::operand::{Operand, array_operand};
+use crate::spread::spread;
 use bytes::Bytes;
 use std::alloc::{AllocError, Global};
 use vortex_arrays_view::view::BinaryView;
@@ -92,6 +97,48 @@ fn like_column(
     Ok(Some(mask))
 }
 
+// For which rows of a dictionary of texts LIKE has the wanted truth: each value is looked at once.
+fn like_coded(
+    alloc: Global,
+    want: bool,
+    negated: bool,
+    pattern: &str,
+    codes: &Leaf,
+    values: &Leaf,
+) -> Result<Option<Vec<bool>>, AllocError>
+    requires { has_backslash pattern.now ≡ false }
+    ensures { IfOk result (λ found. IfSome found (λ mask. mask.items
+        ≡ map (λ c. is_wanted want (liked c (text pattern.now) negated))
+        (map (value_of_code (leaf_rows values.now)) (leaf_rows codes.now)))) }
+{
+    let Some(mask) = like_column(alloc, want, negated, pattern, &values.as_column())? else {
+        return Ok(None);
+    };
+    let mask = spread(alloc, &mask, &codes.as_column())?;
+    Ok(Some(mask))
+}
+
+fn like_operand(
+    alloc: Global,
+    want: bool,
+    negated: bool,
+    pattern: &str,
+    operand: &Operand,
+) -> Result<Option<Vec<bool>>, AllocError>
+    requires { has_backslash pattern.now ≡ false }
+    ensures { (n : ℕ) → IfOk result (λ found. IfSome found (λ mask. mask.items
+        ≡ map (λ c. is_wanted want (liked c (text pattern.now) negated))
+        (operand_rows operand.now n))) }
+{
+    match operand {
+        Operand::Column(leaf) => like_column(alloc, want, negated, pattern, &leaf.as_column()),
+        Operand::Dictionary(codes, values) => {
+            like_coded(alloc, want, negated, pattern, codes, values)
+        }
+        Operand::Value(_) => Ok(None),
+    }
+}
+
 fn text_of(value: &Option<ScalarValue>) -> Option<&str>
     ensures { IfSome result (λ t. content_in value.now ≡ text t.now) }
 {
@@ -119,8 +166,8 @@ fn literal_text(e: &BoundExpression) -> Option<&str>
     }
 }
 
-// For which rows LIKE has the wanted truth. `None` where the value isn't a plain column of texts,
-// or the pattern no literal text without a backslash.
+// For which rows LIKE has the wanted truth. `None` where the value isn't a column of texts that is
+// plain or a dictionary, or the pattern no literal text without a backslash.
 pub(crate) fn like_test<S: Columns>(
     alloc: Global,
     want: bool,
@@ -145,8 +192,8 @@ pub(crate) fn like_test<S: Columns>(
     let Some(column) = columns.column(alloc, path)? else {
         return Ok(None);
     };
-    let Some(leaf) = leaf_of(alloc, &column)? else {
+    let Some(operand) = array_operand(alloc, &column)? else {
         return Ok(None);
     };
-    like_column(alloc, want, negated, pattern, &leaf.as_column())
+    like_operand(alloc, want, negated, pattern, &operand)
 }

@@ -1,13 +1,16 @@
 //! Tests of columns for null.
-ghost use Rattle.std.specs.Prelude.{◌≡◌, map, not, true, replicate, IfOk, IfSome};
+ghost use Rattle.std.specs.Prelude.{◌≡◌, Bool, map, not, true, replicate, IfOk, IfSome};
 ghost use Rattle.std.specs.List.{range_with_len};
 ghost use Rattle.vortex_model.specs.Content.{boolean, is_null};
-ghost use Rattle.vortex_arrays_model.specs.Layout.{rows_of, content_at, len_of, is_valid, HasLength};
+ghost use Rattle.vortex_arrays_model.specs.Layout.{dictionary, rows_of, content_at, len_of, is_valid, HasLength};
+ghost use Rattle.vortex_arrays_model.specs.Parts.{AreWithin};
 ghost use Rattle.vortex_arrays_core.specs.LayoutOf.{valid_of};
 ghost use Rattle.vortex_stats_bind.specs.Bound.{bound_value};
 ghost use Rattle.vortex_stats_mask.specs.Wanted.{is_wanted};
 
 use crate::columns::Columns;
+use crate::leaf::leaf_of;
+use crate::spread::spread;
 use crate::validity::valid_rows_of;
 use std::alloc::{AllocError, Global};
 use vortex_arrays_core::array::{ArrayLayout, ArrayRef, Validity};
@@ -42,6 +45,27 @@ fn looked_at(alloc: Global, column: &ArrayRef) -> Result<Vec<bool>, AllocError>
     (0..column.len()).map(|i| column.is_valid(i)).collect(alloc)
 }
 
+// Which rows of a dictionary are not null. Each of its values is looked at once, unless its codes
+// aren't laid out plain.
+fn present_coded(
+    alloc: Global,
+    column: &ArrayRef,
+    codes: &ArrayRef,
+    values: &ArrayRef,
+) -> Result<Vec<bool>, AllocError>
+    requires within { AreWithin codes.now (len_of values.now) }
+    requires column { (f : Bool)
+        → rows_of column.now ≡ rows_of (dictionary codes.now values.now f) }
+    ensures { IfOk result
+        (λ mask. mask.items ≡ map (λ c. not (is_null c)) (rows_of column.now)) }
+{
+    let Some(codes) = leaf_of(alloc, codes)? else {
+        return looked_at(alloc, column);
+    };
+    let mask = looked_at(alloc, values)?;
+    spread(alloc, &mask, &codes.as_column())
+}
+
 // Which rows are not null.
 fn present_rows(alloc: Global, column: &ArrayRef) -> Result<Vec<bool>, AllocError>
     ensures { IfOk result
@@ -54,7 +78,7 @@ fn present_rows(alloc: Global, column: &ArrayRef) -> Result<Vec<bool>, AllocErro
             valid_rows(alloc, validity, views.len())
         }
         ArrayLayout::Constant(_, _) => looked_at(alloc, column),
-        ArrayLayout::Dict(_, _, _) => looked_at(alloc, column),
+        ArrayLayout::Dict(codes, values, _) => present_coded(alloc, column, codes, values),
         ArrayLayout::FixedSizeList(_, _, len, validity) => valid_rows(alloc, validity, *len),
         ArrayLayout::ListView(_, offsets, _, _, validity) => {
             valid_rows(alloc, validity, offsets.len())

@@ -1,6 +1,7 @@
-//! What a comparison compares: one value for all rows, or a column.
-ghost use Rattle.std.specs.Prelude.{◌≡◌, length, map, IfOk, IfSome};
-ghost use Rattle.vortex_arrays_model.specs.Layout.{len_of, rows_of};
+//! What a comparison compares: one value for all rows, a column, or a dictionary.
+ghost use Rattle.std.specs.Prelude.{◌≡◌, Bool, length, map, IfOk, IfSome};
+ghost use Rattle.vortex_arrays_model.specs.Layout.{dictionary, len_of, rows_of};
+ghost use Rattle.vortex_arrays_model.specs.Parts.{AreWithin};
 ghost use Rattle.vortex_model.specs.ZoneMap.{values_at};
 ghost use Rattle.vortex_stats_bind.specs.Bound.{bound_value};
 ghost use Rattle.vortex_stats_select.specs.Operands.{operand_rows};
@@ -14,10 +15,12 @@ use vortex_scalar_value::clone::clone_value;
 use vortex_scalar_value::scalar_value::ScalarValue;
 use vortex_stats_bind::bound::{BoundExpression, BoundNode};
 
-// A value that each row has, where `None` is null, or a leaf column.
+// A value that each row has, where `None` is null, a leaf column, or the codes and the values of a
+// dictionary.
 pub(crate) enum Operand {
     Value(Option<ScalarValue>),
     Column(Leaf),
+    Dictionary(Leaf, Leaf),
 }
 
 impl Drop for Operand {
@@ -25,6 +28,7 @@ impl Drop for Operand {
         match self {
             Operand::Value(_value) => {}
             Operand::Column(_leaf) => {}
+            Operand::Dictionary(_codes, _values) => {}
         }
     }
 }
@@ -74,7 +78,7 @@ fn column_operand<S: Columns>(
     }
 }
 
-fn array_operand(alloc: Global, column: &ArrayRef) -> Result<Option<Operand>, AllocError>
+pub(crate) fn array_operand(alloc: Global, column: &ArrayRef) -> Result<Option<Operand>, AllocError>
     ensures { IfOk result (λ found. IfSome found (λ operand.
         operand_rows operand (len_of column.now) ≡ rows_of column.now)) }
 {
@@ -86,7 +90,7 @@ fn array_operand(alloc: Global, column: &ArrayRef) -> Result<Option<Operand>, Al
         ArrayLayout::Bool(_, _) => leaf_operand(alloc, column),
         ArrayLayout::Primitive(_, _) => leaf_operand(alloc, column),
         ArrayLayout::VarBinView(_, _, _, _) => leaf_operand(alloc, column),
-        ArrayLayout::Dict(_, _, _) => Ok(None),
+        ArrayLayout::Dict(codes, values, _) => dictionary_operand(alloc, codes, values),
         ArrayLayout::FixedSizeList(_, _, _, _) => Ok(None),
         ArrayLayout::ListView(_, _, _, _, _) => Ok(None),
         ArrayLayout::Struct(_, _, _, _) => Ok(None),
@@ -101,4 +105,23 @@ fn leaf_operand(alloc: Global, column: &ArrayRef) -> Result<Option<Operand>, All
         Some(leaf) => Ok(Some(Operand::Column(leaf))),
         None => Ok(None),
     }
+}
+
+// `None` where the codes or the values aren't laid out plain.
+fn dictionary_operand(
+    alloc: Global,
+    codes: &ArrayRef,
+    values: &ArrayRef,
+) -> Result<Option<Operand>, AllocError>
+    requires { AreWithin codes.now (len_of values.now) }
+    ensures { (f : Bool) → IfOk result (λ found. IfSome found (λ operand.
+        operand_rows operand (len_of codes.now) ≡ rows_of (dictionary codes.now values.now f))) }
+{
+    let Some(codes) = leaf_of(alloc, codes)? else {
+        return Ok(None);
+    };
+    let Some(values) = leaf_of(alloc, values)? else {
+        return Ok(None);
+    };
+    Ok(Some(Operand::Dictionary(codes, values)))
 }

@@ -35,8 +35,8 @@ fn comparison<S: Columns>(
     let Some(right) = operand_of(alloc, right, columns)? else {
         return Ok(None);
     };
-    let mask = compare_wanted(alloc, comparison, want, &left, &right, columns.len())?;
-    Ok(Some(mask))
+    let found = compare_wanted(alloc, comparison, want, &left, &right, columns.len())?;
+    Ok(found)
 }
 
 // A truth value is compared with the wanted one.
@@ -54,8 +54,8 @@ fn truth<S: Columns>(
     };
     let wanted = Operand::Value(Some(ScalarValue::Bool(want)));
     let len = columns.len();
-    let mask = compare_wanted(alloc, Comparison::Eq, true, &operand, &wanted, len)?;
-    Ok(Some(mask))
+    let found = compare_wanted(alloc, Comparison::Eq, true, &operand, &wanted, len)?;
+    Ok(found)
 }
 
 // BETWEEN is AND of two comparisons.

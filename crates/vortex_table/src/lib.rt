@@ -110,8 +110,7 @@ pub mod scalar {
 /// Predicates over rows, and the proofs over statistics that are made of them.
 pub mod expr {
     pub use vortex_stats_bind::bind::bind_proof;
-    pub use vortex_stats_bind::bound::{BoundExpression, Operands, bound_literal};
-    pub use vortex_stats_bind::stats::{StatBinder, bind_stats, prove};
+    pub use vortex_stats_bind::bound::{BoundExpression as BoundTree, Operands, bound_literal};
     pub use vortex_stats_bind::value::Value;
     pub use vortex_stats_expr::expression::{
         Expression, and, between, binary, col, eq, gt, gt_eq, is_nan, is_not_null, is_null, like,

@@ -9,17 +9,20 @@ use Rattle.vortex_table_check.specs.Error.{refusal_of, Explains}
 pub explained : (Passes : Type 0) (fault : Option Refusal) (r : Refusal) (e : TableError) → fault ≡ Some r → refusal_of e ≡ Some r → Explains Passes fault e
 explained Passes fault r error.Memory h g = tt
 explained Passes fault r error.Total h g = absurd (cc (g))
+explained Passes fault r error.RuleFault h g = absurd (cc (g))
 explained Passes fault r e h g = h ∙ sym g
 
 -- what explains the first refusal explains both
 pub explained_first : (Passes : Type 0) (p q : Option Refusal) (e : TableError) → Explains ⊥ p e → Explains Passes (or_else p q) e
 explained_first Passes p q error.Memory h = tt
 explained_first Passes p q error.Total h = absurd h
+explained_first Passes p q error.RuleFault h = absurd h
 explained_first Passes p q e h = ap (λ o. or_else o q) h
 
 pub explained_second : (Passes : Type 0) (p q : Option Refusal) (e : TableError) → p ≡ None → Explains Passes q e → Explains Passes (or_else p q) e
 explained_second Passes p q error.Memory h g = tt
 explained_second Passes p q error.Total h g = g
+explained_second Passes p q error.RuleFault h g = absurd g
 explained_second Passes p q e h g = ap (λ o. or_else o q) h ∙ g
 
 joined_first : (p q r : Option Refusal) → or_else (or_else p q) r ≡ or_else p (or_else q r)

@@ -5,3 +5,4 @@ pub mod Explained
 pub mod LeafPlaces
 pub mod NamedParts
 pub mod OwnType
+pub mod PartIndexes

@@ -4,7 +4,8 @@ use Rattle.vortex_model.specs.Refusal.{Refusal, not_a_record, unkept_type, repea
 use Rattle.vortex_table_check.specs.declared.error.TableError.{TableError}
 use Rattle.vortex_table_check.specs.declared.error.TableError.TheVariants as error
 
--- want of memory and a total past the limit are no refusals
+-- Want of memory and a total past the limit are no refusals, nor is the fault of a caller's rule,
+-- which no command has.
 abbrev pub refusal_of : TableError → Option Refusal
 refusal_of error.Memory = None
 refusal_of error.NotARecord = Some not_a_record
@@ -22,6 +23,7 @@ refusal_of error.NotALeaf = Some not_a_leaf
 refusal_of error.UnequalTypes = Some unequal_types
 refusal_of error.NotBoolean = Some not_boolean
 refusal_of error.UnsupportedLike = Some unsupported_like
+refusal_of error.RuleFault = None
 refusal_of error.UnsupportedPredicate = Some unsupported_predicate
 refusal_of (error.RepeatedPath i) = Some (repeated_path i)
 
@@ -49,10 +51,12 @@ name_of (repeated_path i) = codes "RepeatedPath"
 abbrev pub error_name : TableError → List ℕ
 error_name error.Memory = codes "Memory"
 error_name error.Total = codes "Total"
+error_name error.RuleFault = codes "RuleFault"
 error_name e = elim (refusal_of e) [ None ↦ [] | Some r ↦ name_of r ]
 
 -- The error is want of memory, a total where it passes the limit, or the refusal.
 abbrev pub Explains : Type 0 → Option Refusal → TableError → Type 0
 Explains Passes fault error.Memory = ⊤
 Explains Passes fault error.Total = Passes
+Explains Passes fault error.RuleFault = ⊥
 Explains Passes fault e = fault ≡ refusal_of e

@@ -1,3 +1,4 @@
 pub mod Error
 pub mod Lengths
 pub mod LeafPlace
+pub mod PartIndex

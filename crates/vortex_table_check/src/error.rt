@@ -53,6 +53,9 @@ pub enum TableError {
     /// 16: a LIKE ignores case, or its pattern is no literal text without a backslash.
     #[error("the LIKE isn't supported")]
     UnsupportedLike,
+    /// 17: a rewrite rule of the caller failed, or answered a proof that can't be used.
+    #[error("a rewrite rule failed")]
+    RuleFault,
     /// 20: the predicate has a part that scans don't take.
     #[error("the predicate isn't supported")]
     UnsupportedPredicate,
@@ -65,13 +68,14 @@ impl TableError {
     ghost use Rattle.std.specs.Prelude.{◌≡◌, ◌≤◌, IfSome, length, option_and_then};
     ghost use Rattle.vortex_model.specs.Refusal.{number_of, index_of};
     ghost use Rattle.vortex_table_check.specs.Error.{refusal_of, error_name};
-    ghost use Rattle.vortex_table_check.specs.declared.error.TableError.TheVariants.{Memory, Total};
+    ghost use Rattle.vortex_table_check.specs.declared.error.TableError.TheVariants.{Memory, Total, RuleFault};
 
     /// The error's number, from 1 to 21.
     pub fn number(self) -> u8
         ensures refusal { IfSome (refusal_of self) (λ r. result ≡ number_of r) }
         ensures memory { self ≡ Memory → result ≡ 1 }
         ensures total { self ≡ Total → result ≡ 7 }
+        ensures rules { self ≡ RuleFault → result ≡ 17 }
     {
         match self {
             TableError::Memory => 1,
@@ -90,6 +94,7 @@ impl TableError {
             TableError::UnequalTypes => 14,
             TableError::NotBoolean => 15,
             TableError::UnsupportedLike => 16,
+            TableError::RuleFault => 17,
             TableError::UnsupportedPredicate => 20,
             TableError::RepeatedPath(_) => 21,
         }
@@ -117,6 +122,7 @@ impl TableError {
             TableError::UnequalTypes => "UnequalTypes",
             TableError::NotBoolean => "NotBoolean",
             TableError::UnsupportedLike => "UnsupportedLike",
+            TableError::RuleFault => "RuleFault",
             TableError::UnsupportedPredicate => "UnsupportedPredicate",
             TableError::RepeatedPath(_) => "RepeatedPath",
         }

@@ -7,3 +7,4 @@ pub mod check;
 pub mod error;
 pub mod leaf;
 pub mod lengths;
+mod part_index;

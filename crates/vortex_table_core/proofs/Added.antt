@@ -1,23 +1,19 @@
 -- The answer with one more chunk, part by part.
 use Rattle.std.proofs.Common.{◌≡◌, ◌+◌, ◌-◌, ◌^◌, ◌++◌, ℕ, min, List, is_some, arith}
 use Rattle.std.proofs.lemmas.Bool.Decides.{nat_tests}
-use Rattle.vortex_model.specs.LogicalType.{LogicalType}
 use Rattle.vortex_model.specs.Content.{Content}
-use Rattle.vortex_model.specs.Path.{Names}
-use Rattle.vortex_model.specs.Expression.{Expression}
-use Rattle.vortex_model.specs.Rewrite.{falsifier, satisfier}
 use Rattle.vortex_model.specs.Scan.{Outcome, is_skipped, is_whole, saturated, ScanAnswer}
-use Rattle.vortex_table_core.specs.Progress.{found_rows, push_if, tested_rows, proofs_at, with_chunk}
+use Rattle.vortex_table_core.specs.Progress.{Question, found_rows, push_if, tested_rows, proofs_at, with_chunk}
 
 -- a sum that stops at the greatest number of 64 bits
 pub stopped : (n : ℕ) → min n (2 ^ 64 - 1) ≡ saturated n
 stopped n = grind (arith, nat_tests)
 
-pub added : (k : LogicalType) (paths : List Names) (e : Expression) (i : ℕ) (chunk : List Content) (o : Outcome) (a b : ScanAnswer) →
-    b.rows ≡ a.rows ++ found_rows k paths e chunk → b.kind ≡ a.kind → b.skipped ≡ push_if (is_skipped o) i a.skipped → b.whole ≡ push_if (is_whole o) i a.whole →
-    b.rows_tested ≡ saturated (a.rows_tested + tested_rows o chunk) → b.proofs ≡ saturated (a.proofs + proofs_at (is_some (falsifier k e)) (is_some (satisfier k e)) o) →
-    b ≡ with_chunk k paths e i chunk o a
-added k paths e i chunk o a b rows kind skipped whole tested proofs = λ j. record {
+pub added : (q : Question) (i : ℕ) (chunk : List Content) (o : Outcome) (a b : ScanAnswer) →
+    b.rows ≡ a.rows ++ found_rows q o chunk → b.kind ≡ a.kind → b.skipped ≡ push_if (is_skipped o) i a.skipped → b.whole ≡ push_if (is_whole o) i a.whole →
+    b.rows_tested ≡ saturated (a.rows_tested + tested_rows o chunk) → b.proofs ≡ saturated (a.proofs + proofs_at (is_some q.falsifier) (is_some q.satisfier) o) →
+    b ≡ with_chunk q i chunk o a
+added q i chunk o a b rows kind skipped whole tested proofs = λ j. record {
   rows = rows j;
   kind = kind j;
   skipped = skipped j;

@@ -25,6 +25,7 @@ use Rattle.vortex_table_core.specs.Totals.{PassesTotal}
 pub explains_more : (P Q : Type 0) (o : Option Refusal) (e : TableError) → (P → Q) → o ≡ None → Explains P None e → Explains Q o e
 explains_more P Q o error.Memory f n h = tt
 explains_more P Q o error.Total f n h = f h
+explains_more P Q o error.RuleFault f n h = absurd h
 explains_more P Q o e f n h = n ∙ h
 
 -- and so does a total beside a refusal that is the same

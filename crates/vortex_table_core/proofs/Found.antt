@@ -8,22 +8,16 @@ use Rattle.vortex_model.specs.Path.{Names}
 use Rattle.vortex_model.specs.Valid.{valid}
 use Rattle.vortex_model.specs.Table.{bound_length}
 use Rattle.vortex_model.specs.Truth.{selects, is_true}
-use Rattle.vortex_model.specs.Cut.{cut_row}
-use Rattle.vortex_model.specs.Scan as model
-use Rattle.vortex_model.specs.Scan.{skipped, whole, tested, chunk_outcome}
-use Rattle.vortex_model.specs.Pruning.{found_in}
-use Rattle.vortex_model.proofs.Accepted.{accepted_truth}
+use Rattle.vortex_model.specs.Scan.{whole, tested}
 use Rattle.vortex_model.proofs.ContentOrder.{true_left, true_right}
-use Rattle.vortex_model.proofs.Honesty.{sound_falsifier}
-use Rattle.vortex_model.proofs.Skipping.{FalsifiesRightly, found_rightly}
 use Rattle.vortex_arrays_model.specs.Layout.{Layout, len_of, array_type_of, content_at, rows_of}
 use Rattle.vortex_arrays_core.specs.RawRows.{raw_row}
 use Rattle.vortex_arrays_core.proofs.RawRowsLemmas.{says}
 use Rattle.vortex_table_chunk.specs.Chunk.{chunk_rows}
 use Rattle.vortex_table_chunk.specs.Rows.{are_rows_valid}
 use Rattle.vortex_table_schema.specs.Cut.{content_cut, kept_by, raw_cut}
-use Rattle.vortex_table_core.specs.Plan.{IsPlan, table_in, paths_in, predicate_in}
-use Rattle.vortex_table_core.specs.Progress.{found_rows}
+use Rattle.vortex_table_core.specs.Plan.{IsPlan, table_in, question_in}
+use Rattle.vortex_table_core.specs.Progress.{Question, found_rows}
 use Rattle.vortex_table_select.specs.Selected.{is_selected, cut_rows, selected_rows, CanBeCut}
 use Rattle.vortex_table_chunk.specs.Formed.{is_formed}
 use Rattle.vortex_table_chunk.specs.declared.chunk.Chunk.{Chunk}
@@ -31,13 +25,7 @@ use Rattle.vortex_table_core.specs.declared.plan.Scan.{Scan}
 use Rattle.vortex_table_schema.proofs.Cuts.{cut_is_valid, cut_is_kept}
 use Rattle.vortex_table_check.proofs.Explained.{none_so}
 use Rattle.vortex_table_chunk.proofs.Formed.{of_type}
-use Rattle.vortex_table_chunk.proofs.TypedRows.{formed_said}
 use Rattle.vortex_table_core.proofs.Rows.{IsCut, kept_each, kept_all}
-
--- the falsifier of the predicate may be believed
-pub sound_of : (plan : Scan) → IsPlan plan → FalsifiesRightly (table_in plan).kind (predicate_in plan)
-sound_of plan is = λ proof made.
-    sound_falsifier (table_in plan).kind (predicate_in plan) proof (accepted_truth (table_in plan).kind (predicate_in plan) is.prepared.faultless) is.prepared.formed made
 
 no_null : (k : LogicalType) → type_fault k ≡ None → valid k raw_null ≡ false
 no_null (struct fs non_nullable) h = refl
@@ -61,39 +49,35 @@ module _ (plan : Scan) (is : IsPlan plan) (chunk : Chunk) (formed : IsTrue (is_f
   abbrev k : LogicalType
   k = (table_in plan).kind
 
+  abbrev paths : List Names
+  paths = (question_in plan).paths
+
+  abbrev q : Question
+  q = question_in plan
+
   same_type : array_type_of chunk.array ≡ k
   same_type = of_type (bound_length (table_in plan)) k chunk formed
 
   pub can_be_cut : CanBeCut plan.prepared.now.cut (array_type_of chunk.array)
   can_be_cut r h =
       (λ j. valid (is.prepared.cut_kind j) (raw_cut (is.prepared.cut_values j) r))
-      ∙ cut_is_valid (paths_in plan) k r (ap (λ t. valid t r) (sym same_type) ∙ h)
+      ∙ cut_is_valid paths k r (ap (λ t. valid t r) (sym same_type) ∙ h)
 
   -- the rows are records, and so never null
   pub never_null : valid (array_type_of chunk.array) raw_null ≡ false
   never_null = ap (λ t. valid t raw_null) same_type ∙ no_null k (none_so (type_fault k) plan.table.now.kept)
 
-  all_cut : AllByRecursion (IsCut k (paths_in plan)) (chunk_rows chunk)
-  all_cut = rows_cut k (paths_in plan) chunk.array same_type chunk.typed
+  all_cut : AllByRecursion (IsCut k paths) (chunk_rows chunk)
+  all_cut = rows_cut k paths chunk.array same_type chunk.typed
 
-  found_by : (o : model.Outcome) → o ≡ chunk_outcome (table_in plan) (predicate_in plan) (chunk_rows chunk) →
-      found_rows k (paths_in plan) (predicate_in plan) (chunk_rows chunk) ≡ map (cut_row (paths_in plan) k) (found_in (selects k (predicate_in plan)) o (chunk_rows chunk))
-  found_by o e =
-      ap (map (cut_row (paths_in plan) k)) (found_rightly (table_in plan) (predicate_in plan) (sound_of plan is) (chunk_rows chunk) (formed_said (bound_length (table_in plan)) k chunk formed)
-      ∙ ap (λ p. found_in (selects k (predicate_in plan)) p (chunk_rows chunk)) (sym e))
+  pub all_found : cut_rows plan.prepared.now.cut (chunk_rows chunk) ≡ found_rows q whole (chunk_rows chunk)
+  all_found = ap (λ t. map (content_cut t) (chunk_rows chunk)) is.prepared.cut_values ∙ kept_all k paths (chunk_rows chunk) all_cut
 
-  pub none_found : skipped ≡ chunk_outcome (table_in plan) (predicate_in plan) (chunk_rows chunk) → found_rows k (paths_in plan) (predicate_in plan) (chunk_rows chunk) ≡ []
-  none_found e = found_by skipped e
-
-  pub all_found : whole ≡ chunk_outcome (table_in plan) (predicate_in plan) (chunk_rows chunk) →
-      cut_rows plan.prepared.now.cut (chunk_rows chunk) ≡ found_rows k (paths_in plan) (predicate_in plan) (chunk_rows chunk)
-  all_found e = ap (λ t. map (content_cut t) (chunk_rows chunk)) is.prepared.cut_values ∙ kept_all k (paths_in plan) (chunk_rows chunk) all_cut ∙ sym (found_by whole e)
-
-  eq_test : (row : Content) → is_selected plan.prepared.now.bound row ≡ selects k (predicate_in plan) row
+  eq_test : (row : Content) → is_selected plan.prepared.now.bound row ≡ selects k q.predicate row
   eq_test row = ap is_true (is.prepared.bound row)
 
-  pub some_found : cut_rows plan.prepared.now.cut (selected_rows plan.prepared.now.bound (chunk_rows chunk)) ≡ found_rows k (paths_in plan) (predicate_in plan) (chunk_rows chunk)
+  pub some_found : cut_rows plan.prepared.now.cut (selected_rows plan.prepared.now.bound (chunk_rows chunk)) ≡ found_rows q tested (chunk_rows chunk)
   some_found =
       ap (λ t. map (content_cut t) (selected_rows plan.prepared.now.bound (chunk_rows chunk))) is.prepared.cut_values
-      ∙ (λ j. map (content_cut (kept_by (paths_in plan) k)) (filter (λ row. eq_test row j) (chunk_rows chunk)))
-      ∙ kept_each k (paths_in plan) (selects k (predicate_in plan)) (chunk_rows chunk) all_cut
+      ∙ (λ j. map (content_cut (kept_by paths k)) (filter (λ row. eq_test row j) (chunk_rows chunk)))
+      ∙ kept_each k paths (selects k q.predicate) (chunk_rows chunk) all_cut

@@ -1,35 +1,26 @@
 -- A scan goes from group to group, and in these from chunk to chunk.
-use Rattle.std.proofs.Common.{◌≡◌, refl, sym, ◌∙◌, ap, subst, ℕ, zero, suc, ◌+◌, ◌*◌, ◌<◌, ◌≤◌, List, [], ◌∷◌, ◌++◌, length, map, take, drop, filter, count_by, get_or, Bool, true, false, not, ◌&&◌, if◌then◌else◌, IsTrue, add-one, add-zero, append-nil, arith}
-use Rattle.std.specs.Prelude.{sum, zip, flat_map, is_some}
-use Rattle.std.specs.List.{AllByRecursion, list_all}
-use Rattle.std.proofs.Math.Seq.{drop-cons, take-length}
+use Rattle.std.proofs.Common.{◌≡◌, refl, sym, ◌∙◌, ap, subst, ℕ, zero, suc, ◌+◌, ◌*◌, ◌<◌, ◌≤◌, List, [], ◌∷◌, ◌++◌, length, map, take, drop, count_by, get_or, Bool, true, false, not, ◌&&◌, if◌then◌else◌, IsTrue, add-one, add-zero, append-nil, arith}
+use Rattle.std.specs.Prelude.{sum, is_some}
+use Rattle.std.specs.List.{list_all}
+use Rattle.std.proofs.Math.Seq.{drop-cons}
 use Rattle.std.proofs.lemmas.List.{length-map, length-drop, length-take}
 use Rattle.vortex_model.specs.LogicalType.{LogicalType}
 use Rattle.vortex_model.specs.Content.{Content}
-use Rattle.vortex_model.specs.Path.{Names, Positions}
-use Rattle.vortex_model.specs.Expression.{Expression}
-use Rattle.vortex_model.specs.Truth.{selects}
-use Rattle.vortex_model.specs.Table.{Table, IsTable, bound_length}
-use Rattle.vortex_model.specs.Rewrite.{falsifier, satisfier}
+use Rattle.vortex_model.specs.Path.{Positions}
+use Rattle.vortex_model.specs.Table.{Table, bound_length}
 use Rattle.vortex_model.specs.Cut.{cut_row}
 use Rattle.vortex_model.proofs.Outcomes.{sum_first}
-use Rattle.vortex_model.specs.Pruning.{found_in}
-use Rattle.vortex_model.specs.Scan.{Outcome, ScanAnswer, skipped_in_group, chunk_outcome, group_outcomes, grouped, is_many, is_skipped, is_whole, is_in_group, one_if, numbers, tested_lengths, saturated, scanned}
+use Rattle.vortex_model.specs.Scan.{Outcome, ScanAnswer, skipped_in_group, grouped, is_many, is_skipped, is_whole, is_in_group, one_if, numbers, tested_lengths, saturated}
 use Rattle.vortex_model.proofs.ContentOrder.{true_left, true_right}
-use Rattle.vortex_model.proofs.GroupSkipping.{none_lost}
 use Rattle.vortex_table_chunk.specs.Chunk.{chunk_rows}
 use Rattle.vortex_table_chunk.specs.declared.chunk.Chunk.{Chunk}
 use Rattle.vortex_table_core.specs.Group.{IsGroup, AreGroups, chunks_of}
-use Rattle.vortex_table_core.specs.Plan.{IsPlan, table_in, paths_in, predicate_in}
-use Rattle.vortex_table_core.specs.Progress.{with_chunk, with_chunks, with_group, with_groups, looked_at, is_group_skipped, outcome_in, group_proofs, numbers_from, no_answer}
+use Rattle.vortex_table_core.specs.Plan.{IsPlan, table_in, question_in}
+use Rattle.vortex_table_core.specs.Progress.{Question, answer_to, outcome_to, with_chunk, with_chunks, with_group, with_groups, looked_at, is_group_skipped, outcome_in, group_proofs, numbers_from, no_answer}
 use Rattle.vortex_table_chunk.specs.Formed.{is_formed}
 use Rattle.vortex_table_core.specs.declared.group.Group.{Group}
 use Rattle.vortex_table_core.specs.declared.plan.Scan.{Scan}
-use Rattle.vortex_table_check.proofs.Explained.{none_so}
-use Rattle.vortex_table_chunk.proofs.Formed.{some_rows}
-use Rattle.vortex_table_core.proofs.Found.{sound_of}
-use Rattle.vortex_table_core.proofs.Progress.{count_first, saturated_once, rows_after, kind_after, skipped_after, whole_after, tested_after, proofs_after, whole_answer}
-use Rattle.vortex_table_chunk.proofs.TypedRows.{all_said, chunk_counted}
+use Rattle.vortex_table_core.proofs.Progress.{taken_of, count_first, saturated_once, rows_after, kind_after, skipped_after, whole_after, tested_after, proofs_after, whole_answer}
 use Rattle.vortex_table_chunk.proofs.TypedRows.{list_all_at}
 
 -- ---- lists
@@ -84,21 +75,15 @@ module _ (plan : Scan) where
   abbrev k : LogicalType
   k = t.kind
 
-  abbrev e : Expression
-  e = predicate_in plan
-
-  abbrev paths : List Names
-  paths = paths_in plan
-
-  abbrev outcome : List Content → Outcome
-  outcome = chunk_outcome t e
+  abbrev q : Question
+  q = question_in plan
 
   -- the answer once the chunks are looked at, the first of which has this number
   abbrev pub ahead : ℕ → List Chunk → ScanAnswer → ScanAnswer
-  ahead i chunks a = with_chunks k paths e outcome i (map chunk_rows chunks) a
+  ahead i chunks a = with_chunks q (outcome_to q) i (map chunk_rows chunks) a
 
   pub one_ahead : (first : ℕ) (chunks : List Chunk) (i : ℕ) (chunk : Chunk) (a b : ScanAnswer) → i < length chunks → chunk ≡ get_or chunks i chunk →
-      b ≡ with_chunk k paths e (first + i) (chunk_rows chunk) (outcome (chunk_rows chunk)) a →
+      b ≡ with_chunk q (first + i) (chunk_rows chunk) (outcome_to q (chunk_rows chunk)) a →
       ahead (first + (i + 1)) (drop (i + 1) chunks) b ≡ ahead (first + i) (drop i chunks) a
   one_ahead first chunks i chunk a b inside is made =
       let on : first + (i + 1) ≡ suc (first + i) = omega arith in
@@ -116,56 +101,9 @@ module _ (plan : Scan) where
 
 -- ---- a group that is skipped
 
-none_taken : (p : Content → Bool) (chunks : List (List Content)) → flat_map (λ pair. found_in p pair.0 pair.1) (zip (map (λ chunk. skipped_in_group) chunks) chunks) ≡ []
-none_taken p [] = refl
-none_taken p (chunk ∷ chunks) = none_taken p chunks
-
-all_some : (L : Positions → ℕ) (k : LogicalType) (chunks : List Chunk) → list_all (is_formed L k) chunks ≡ true → AllByRecursion (λ chunk. 0 < length chunk) (map chunk_rows chunks)
-all_some L k [] h = tt
-all_some L k (c ∷ chunks) h = (
-  (let some = some_rows L k c (true_left (is_formed L k c) (list_all (is_formed L k) chunks) h) in let same = chunk_counted c in omega (arith, some, same)),
-  all_some L k chunks (true_right (is_formed L k c) (list_all (is_formed L k) chunks) h),
-)
-
-one_sum : (n : ℕ) → sum (n ∷ []) ≡ n
-one_sum n = let h : 0 + n ≡ n = omega arith in h
-
-module _ (plan : Scan) (is : IsPlan plan) (chunks : List Chunk) (formed : list_all (is_formed (bound_length (table_in plan)) (table_in plan).kind) chunks ≡ true) where
-  abbrev table : Table
-  table = table_in plan
-
-  abbrev asked : Expression
-  asked = predicate_in plan
-
-  abbrev rows : List (List Content)
-  rows = map chunk_rows chunks
-
-  -- the group alone
-  abbrev alone : Table
-  alone = record {
-    kind = table.kind;
-    default = table.default;
-    lengths = table.lengths;
-    chunks = rows;
-    groups = length rows ∷ [];
-  }
-
-  is_table : 0 < length rows → IsTable alone
-  is_table some = record {
-    holds = none_so _ plan.table.now.kept;
-    rows = all_said (bound_length table) table.kind chunks formed;
-    not_empty = all_some (bound_length table) table.kind chunks formed;
-    positive = (some, tt);
-    grouped = one_sum (length rows);
-  }
-
-  none_found : 0 < length rows → is_group_skipped table asked rows ≡ true → filter (selects table.kind asked) (flat_map (λ chunk. chunk) rows) ≡ []
-  none_found some skips =
-      none_lost alone asked (sound_of plan is) (is_table some)
-      ∙ ap (λ os. flat_map (λ pair. found_in (selects table.kind asked) pair.0 pair.1) (zip os rows))
-      (append-nil (group_outcomes alone asked (take (length rows) rows)) ∙ ap (group_outcomes alone asked) (take-length rows)
-      ∙ ap (λ b. if b then map (λ chunk. skipped_in_group) rows else map (chunk_outcome alone asked) rows) skips)
-      ∙ none_taken (selects table.kind asked) rows
+none_taken : (q : Question) (chunks : List (List Content)) → taken_of q (map (λ chunk. skipped_in_group) chunks) chunks ≡ []
+none_taken q [] = refl
+none_taken q (chunk ∷ chunks) = none_taken q chunks
 
 no_tests : (chunks : List (List Content)) → tested_lengths (map (λ chunk. skipped_in_group) chunks) chunks ≡ 0
 no_tests [] = refl
@@ -197,7 +135,7 @@ module _ (plan : Scan) (is : IsPlan plan) (g : Group) (chunks : List Chunk) (for
   of_chunks = map chunk_rows chunks
 
   abbrev now : ScanAnswer
-  now = looked_at (t plan) (e plan) (is_many of_chunks) a
+  now = looked_at (q plan) (is_many of_chunks) a
 
   abbrev none : List Content → Outcome
   none = λ chunk. skipped_in_group
@@ -205,38 +143,35 @@ module _ (plan : Scan) (is : IsPlan plan) (g : Group) (chunks : List Chunk) (for
   as_many : g.chunks ≡ length of_chunks
   as_many = sym grouped.count ∙ sym (length-map chunks chunk_rows)
 
-  some : 0 < length of_chunks
-  some = let h = grouped.some in let same = as_many in omega (arith, h, same)
-
   -- nothing is added but the numbers of its chunks
-  pub group_skipped : is_group_skipped (t plan) (e plan) of_chunks ≡ true → saturated a.rows_tested ≡ a.rows_tested →
+  pub group_skipped : is_group_skipped (q plan) of_chunks ≡ true → saturated a.rows_tested ≡ a.rows_tested →
       b.rows ≡ a.rows → b.kind ≡ a.kind → b.skipped ≡ a.skipped ++ numbers_from g.first g.chunks → b.whole ≡ a.whole → b.rows_tested ≡ a.rows_tested → b.proofs ≡ now.proofs →
-      b ≡ with_group (t plan) (paths plan) (e plan) g.first of_chunks a
+      b ≡ with_group (q plan) g.first of_chunks a
   group_skipped skips few rows kind numbers whole tested proofs =
       (λ j. record {
-        rows = (rows ∙ sym (append-nil a.rows) ∙ ap (λ xs. a.rows ++ map (cut_row (paths plan) (k plan)) xs) (sym (none_found plan is chunks formed some skips))
-            ∙ sym (rows_after (k plan) (paths plan) (e plan) none g.first of_chunks now)) j;
-        kind = (kind ∙ sym (kind_after (k plan) (paths plan) (e plan) none g.first of_chunks now)) j;
+        rows = (rows ∙ sym (append-nil a.rows) ∙ ap (λ xs. a.rows ++ map (cut_row (q plan).paths (k plan)) xs) (sym (none_taken (q plan) of_chunks))
+            ∙ sym (rows_after (q plan) none g.first of_chunks now)) j;
+        kind = (kind ∙ sym (kind_after (q plan) none g.first of_chunks now)) j;
         skipped = (numbers ∙ ap (λ ns. a.skipped ++ ns) (ap (numbers_from g.first) as_many ∙ sym (all_numbers g.first of_chunks))
-            ∙ sym (skipped_after (k plan) (paths plan) (e plan) none g.first of_chunks now)) j;
+            ∙ sym (skipped_after (q plan) none g.first of_chunks now)) j;
         whole = (whole ∙ sym (append-nil a.whole) ∙ ap (λ ns. a.whole ++ ns) (sym (no_whole g.first of_chunks))
-            ∙ sym (whole_after (k plan) (paths plan) (e plan) none g.first of_chunks now)) j;
+            ∙ sym (whole_after (q plan) none g.first of_chunks now)) j;
         rows_tested = (tested ∙ sym few ∙ ap saturated (sym (add-zero a.rows_tested)) ∙ ap (λ n. saturated (a.rows_tested + n)) (sym (no_tests of_chunks))
-            ∙ sym (tested_after (k plan) (paths plan) (e plan) none g.first of_chunks now few)) j;
-        proofs = (proofs ∙ sym (saturated_once (a.proofs + group_proofs (t plan) (e plan) (is_many of_chunks)))
-            ∙ ap saturated (stays now.proofs (one_if (is_some (falsifier (k plan) (e plan)))) (one_if (is_some (satisfier (k plan) (e plan)))))
-            ∙ ap saturated (λ i. now.proofs + (one_if (is_some (falsifier (k plan) (e plan))) * sym (none_counted (λ o. not (is_in_group o)) refl of_chunks) i
-            + one_if (is_some (satisfier (k plan) (e plan))) * sym (none_counted (λ o. not (is_skipped o)) refl of_chunks) i))
-            ∙ sym (proofs_after (k plan) (paths plan) (e plan) none g.first of_chunks now (saturated_once (a.proofs + group_proofs (t plan) (e plan) (is_many of_chunks))))) j;
+            ∙ sym (tested_after (q plan) none g.first of_chunks now few)) j;
+        proofs = (proofs ∙ sym (saturated_once (a.proofs + group_proofs (q plan) (is_many of_chunks)))
+            ∙ ap saturated (stays now.proofs (one_if (is_some (q plan).falsifier)) (one_if (is_some (q plan).satisfier)))
+            ∙ ap saturated (λ i. now.proofs + (one_if (is_some (q plan).falsifier) * sym (none_counted (λ o. not (is_in_group o)) refl of_chunks) i
+            + one_if (is_some (q plan).satisfier) * sym (none_counted (λ o. not (is_skipped o)) refl of_chunks) i))
+            ∙ sym (proofs_after (q plan) none g.first of_chunks now (saturated_once (a.proofs + group_proofs (q plan) (is_many of_chunks))))) j;
       })
-      ∙ ap (λ s. with_chunks (k plan) (paths plan) (e plan) (outcome_in s (t plan) (e plan)) g.first of_chunks now) (sym skips)
+      ∙ ap (λ s. with_chunks (q plan) (outcome_in s (q plan)) g.first of_chunks now) (sym skips)
 
   -- its chunks are looked at one by one
-  pub group_entered : (mid : ScanAnswer) → is_group_skipped (t plan) (e plan) of_chunks ≡ false → mid ≡ now → b ≡ ahead plan g.first chunks mid →
-      b ≡ with_group (t plan) (paths plan) (e plan) g.first of_chunks a
+  pub group_entered : (mid : ScanAnswer) → is_group_skipped (q plan) of_chunks ≡ false → mid ≡ now → b ≡ ahead plan g.first chunks mid →
+      b ≡ with_group (q plan) g.first of_chunks a
   group_entered mid stands first all =
       all ∙ ap (λ m. ahead plan g.first chunks m) first
-      ∙ ap (λ s. with_chunks (k plan) (paths plan) (e plan) (outcome_in s (t plan) (e plan)) g.first of_chunks now) (sym stands)
+      ∙ ap (λ s. with_chunks (q plan) (outcome_in s (q plan)) g.first of_chunks now) (sym stands)
 
 -- ---- groups one by one
 
@@ -252,8 +187,8 @@ sizes_sum k L i (g ∷ groups) chunks h =
 -- the groups up to here are looked at, and this is the answer so far
 pub record Reached (plan : Scan) (j : ℕ) (a : ScanAnswer) : Type 0 where
   pub start : ℕ
-  pub left : with_groups (t plan) (paths plan) (e plan) start (grouped (map (λ g. g.chunks) (drop j plan.table.now.groups)) (map chunk_rows (drop start plan.table.now.chunks.items))) a
-      ≡ scanned (t plan) (paths plan) (e plan)
+  pub left : with_groups (q plan) start (grouped (map (λ g. g.chunks) (drop j plan.table.now.groups)) (map chunk_rows (drop start plan.table.now.chunks.items))) a
+      ≡ answer_to (q plan)
   pub counted : saturated a.rows_tested ≡ a.rows_tested
   pub groups : AreGroups (k plan) (bound_length (t plan)) start (drop j plan.table.now.groups) (drop start plan.table.now.chunks.items)
 
@@ -264,16 +199,16 @@ module _ (plan : Scan) where
   abbrev chunks : List Chunk
   chunks = plan.table.now.chunks.items
 
-  pub at_start : (a : ScanAnswer) → a ≡ no_answer (k plan) (paths plan) → Reached plan 0 a
+  pub at_start : (a : ScanAnswer) → a ≡ no_answer (q plan) → Reached plan 0 a
   at_start a none = record {
     start = 0;
-    left = ap (λ x. with_groups (t plan) (paths plan) (e plan) 0 (grouped (map (λ g. g.chunks) groups) (map chunk_rows chunks)) x) none
-        ∙ whole_answer (t plan) (paths plan) (e plan) (sizes_sum (k plan) (bound_length (t plan)) 0 groups chunks plan.table.now.grouped ∙ sym (length-map chunks chunk_rows));
+    left = ap (λ x. with_groups (q plan) 0 (grouped (map (λ g. g.chunks) groups) (map chunk_rows chunks)) x) none
+        ∙ whole_answer (q plan) (sizes_sum (k plan) (bound_length (t plan)) 0 groups chunks plan.table.now.grouped ∙ sym (length-map chunks chunk_rows));
     counted = ap (λ (x : ScanAnswer). saturated x.rows_tested) none ∙ sym (ap (λ (x : ScanAnswer). x.rows_tested) none);
     groups = plan.table.now.grouped;
   }
 
-  pub starts_with_none : (a : ScanAnswer) (none : a ≡ no_answer (k plan) (paths plan)) → (at_start a none).start ≡ 0
+  pub starts_with_none : (a : ScanAnswer) (none : a ≡ no_answer (q plan)) → (at_start a none).start ≡ 0
   unfolding at_start
   starts_with_none a none = refl
 
@@ -317,35 +252,35 @@ module _ (plan : Scan) where
     counted : length (take g.chunks left_rows) ≡ g.chunks
     counted = ap length front ∙ length-map (chunks_of chunks g) chunk_rows ∙ group_here.count
 
-    through : with_groups (t plan) (paths plan) (e plan) reached.start (grouped (map (λ x. x.chunks) (drop j groups)) left_rows) a
-        ≡ with_groups (t plan) (paths plan) (e plan) behind (grouped (map (λ x. x.chunks) (drop (j + 1) groups)) (map chunk_rows (drop behind chunks))) (with_group (t plan) (paths plan) (e plan) g.first own a)
+    through : with_groups (q plan) reached.start (grouped (map (λ x. x.chunks) (drop j groups)) left_rows) a
+        ≡ with_groups (q plan) behind (grouped (map (λ x. x.chunks) (drop (j + 1) groups)) (map chunk_rows (drop behind chunks))) (with_group (q plan) g.first own a)
     through =
-        ap (λ gs. with_groups (t plan) (paths plan) (e plan) reached.start (grouped (map (λ (x : Group). x.chunks) gs) left_rows) a) next
-        ∙ (λ i. with_groups (t plan) (paths plan) (e plan) (reached.start + counted i) (grouped (map (λ (x : Group). x.chunks) (drop (suc j) groups)) (rest i))
-        (with_group (t plan) (paths plan) (e plan) (sym here.0 i) (front i) a))
-        ∙ ap (λ m. with_groups (t plan) (paths plan) (e plan) behind (grouped (map (λ (x : Group). x.chunks) (drop m groups)) (map chunk_rows (drop behind chunks))) (with_group (t plan) (paths plan) (e plan) g.first own a))
+        ap (λ gs. with_groups (q plan) reached.start (grouped (map (λ (x : Group). x.chunks) gs) left_rows) a) next
+        ∙ (λ i. with_groups (q plan) (reached.start + counted i) (grouped (map (λ (x : Group). x.chunks) (drop (suc j) groups)) (rest i))
+        (with_group (q plan) (sym here.0 i) (front i) a))
+        ∙ ap (λ m. with_groups (q plan) behind (grouped (map (λ (x : Group). x.chunks) (drop m groups)) (map chunk_rows (drop behind chunks))) (with_group (q plan) g.first own a))
         (sym (add-one j))
 
-    pub one_on : (b : ScanAnswer) → b ≡ with_group (t plan) (paths plan) (e plan) g.first own a → Reached plan (j + 1) b
+    pub one_on : (b : ScanAnswer) → b ≡ with_group (q plan) g.first own a → Reached plan (j + 1) b
     one_on b made = record {
       start = behind;
       counted =
-          (let f = outcome_in (is_group_skipped (t plan) (e plan) own) (t plan) (e plan) in let now = looked_at (t plan) (e plan) (is_many own) a in
-          let same = ap (λ (x : ScanAnswer). x.rows_tested) made ∙ tested_after (k plan) (paths plan) (e plan) f g.first own now reached.counted in
+          (let f = outcome_in (is_group_skipped (q plan) own) (q plan) in let now = looked_at (q plan) (is_many own) a in
+          let same = ap (λ (x : ScanAnswer). x.rows_tested) made ∙ tested_after (q plan) f g.first own now reached.counted in
           ap saturated same ∙ saturated_once (a.rows_tested + tested_lengths (map f own) own) ∙ sym same);
       left =
-          ap (λ x. with_groups (t plan) (paths plan) (e plan) behind (grouped (map (λ (x : Group). x.chunks) (drop (j + 1) groups)) (map chunk_rows (drop behind chunks))) x) made
+          ap (λ x. with_groups (q plan) behind (grouped (map (λ (x : Group). x.chunks) (drop (j + 1) groups)) (map chunk_rows (drop behind chunks))) x) made
           ∙ sym through ∙ reached.left;
       groups =
           subst (λ m. AreGroups (k plan) (bound_length (t plan)) behind (drop m groups) (drop behind chunks)) (sym (add-one j))
           (subst (λ cs. AreGroups (k plan) (bound_length (t plan)) behind (drop (suc j) groups) cs) (drop_on reached.start g.chunks chunks) here.2);
     }
 
-    pub starts_behind : (b : ScanAnswer) (made : b ≡ with_group (t plan) (paths plan) (e plan) g.first own a) → (one_on b made).start ≡ reached.start + g.chunks
+    pub starts_behind : (b : ScanAnswer) (made : b ≡ with_group (q plan) g.first own a) → (one_on b made).start ≡ reached.start + g.chunks
     unfolding one_on
     starts_behind b made = refl
 
-  pub at_end : (j : ℕ) (a : ScanAnswer) → length groups ≤ j → Reached plan j a → a ≡ scanned (t plan) (paths plan) (e plan)
+  pub at_end : (j : ℕ) (a : ScanAnswer) → length groups ≤ j → Reached plan j a → a ≡ answer_to (q plan)
   at_end j a done reached =
-      sym (ap (λ gs. with_groups (t plan) (paths plan) (e plan) reached.start (grouped (map (λ (x : Group). x.chunks) gs) (map chunk_rows (drop reached.start chunks))) a) (past groups j done))
+      sym (ap (λ gs. with_groups (q plan) reached.start (grouped (map (λ (x : Group). x.chunks) gs) (map chunk_rows (drop reached.start chunks))) a) (past groups j done))
       ∙ reached.left

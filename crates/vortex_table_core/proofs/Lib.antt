@@ -1,5 +1,6 @@
 pub mod Added
 pub mod Appended
+pub mod ByProofs
 pub mod Counts
 pub mod Found
 pub mod JoinedGroups
@@ -8,9 +9,11 @@ pub mod Proven
 pub mod PushedGroups
 pub mod Rows
 pub mod Stretches
+pub mod Tables
 pub mod Groups
 pub mod OwnType
 pub mod Rearrayed
 pub mod Regrouped
 pub mod Described
 pub mod Walked
+pub mod ZoneValues

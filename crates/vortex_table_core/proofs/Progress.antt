@@ -1,22 +1,18 @@
 -- A scan that goes from group to group, and in these from chunk to chunk, makes the whole answer.
 use Rattle.std.proofs.Common.{◌≡◌, refl, sym, ◌∙◌, ap, ℕ, suc, ◌+◌, ◌*◌, List, [], ◌∷◌, ◌++◌, length, map, filter, count_by, Bool, true, false, not, if◌then◌else◌, arith, append-nil, append_assoc, cond, add-zero, zero-add}
-use Rattle.std.specs.Prelude.{flat_map, sum, take, drop, is_some, nat_lt}
-use Rattle.std.proofs.lemmas.List.Elements.{filter-append}
+use Rattle.std.specs.Prelude.{flat_map, sum, take, drop, zip, is_some, nat_lt}
 use Rattle.std.proofs.lemmas.List.Sums.{length-filter, sum_by-append}
 use Rattle.std.proofs.lemmas.List.{map-append, length-map, length-take-le, length-drop, take-append-drop}
-use Rattle.std.proofs.lemmas.Grind.{flat_map-append}
 use Rattle.std.proofs.lemmas.Bool.Decides.{nat_tests}
-use Rattle.vortex_model.specs.LogicalType.{LogicalType}
 use Rattle.vortex_model.specs.Content.{Content}
-use Rattle.vortex_model.specs.Path.{Names}
-use Rattle.vortex_model.specs.Expression.{Expression}
 use Rattle.vortex_model.specs.Truth.{selects}
 use Rattle.vortex_model.specs.Cut.{cut_row}
-use Rattle.vortex_model.specs.Rewrite.{falsifier, satisfier}
-use Rattle.vortex_model.specs.Scan.{Outcome, skipped_in_group, skipped, whole, tested, is_skipped, is_whole, is_tested, is_in_group, saturated, one_if, ScanAnswer, chunk_outcome, group_outcomes, grouped, is_many, numbers, tested_lengths, scanned}
+use Rattle.vortex_model.specs.Scan.{Outcome, skipped_in_group, skipped, whole, tested, is_skipped, is_whole, is_tested, is_in_group, saturated, one_if, ScanAnswer, grouped, is_many, numbers, tested_lengths}
+use Rattle.vortex_model.specs.Pruning.{found_in}
 use Rattle.vortex_model.specs.Table.{Table}
 use Rattle.vortex_model.proofs.Outcomes.{tested_first as length_first, sum_first}
-use Rattle.vortex_table_core.specs.Progress.{found_rows, push_if, tested_rows, proofs_at, with_chunk, with_chunks, is_group_skipped, outcome_in, group_proofs, looked_at, with_group, with_groups, no_answer}
+use Rattle.vortex_model_rules.specs.Scanned.{group_outcomes_by}
+use Rattle.vortex_table_core.specs.Progress.{Question, answer_to, outcome_to, found_rows, push_if, tested_rows, proofs_at, with_chunk, with_chunks, is_group_skipped, outcome_in, group_proofs, looked_at, with_group, with_groups, no_answer}
 
 -- ---- counts that stay at the greatest
 
@@ -42,8 +38,8 @@ count_first p x xs = sym (length-filter p (x ∷ xs)) ∙ first_length (p x) ∙
     first_length false = omega arith
 
 -- the proofs at these chunks
-abbrev proofs_of : LogicalType → Expression → List Outcome → ℕ
-proofs_of k e os = one_if (is_some (falsifier k e)) * count_by (λ o. not (is_in_group o)) os + one_if (is_some (satisfier k e)) * count_by (λ o. not (is_skipped o)) os
+abbrev proofs_of : Question → List Outcome → ℕ
+proofs_of q os = one_if (is_some q.falsifier) * count_by (λ o. not (is_in_group o)) os + one_if (is_some q.satisfier) * count_by (λ o. not (is_skipped o)) os
 
 sum_of_three : (a b c : ℕ) → a + b + c ≡ a + (b + c)
 sum_of_three a b c = omega arith
@@ -72,29 +68,39 @@ left_over n sizes chunks h =
 
 -- ---- each part of the answer
 
-module _ (k : LogicalType) (paths : List Names) (e : Expression) (outcome : List Content → Outcome) where
-  abbrev flat : List (List Content) → List Content
-  flat chunks = flat_map (λ chunk. chunk) chunks
+module _ (q : Question) where
+  -- what is taken of these chunks, by their outcomes
+  abbrev pub taken_of : List Outcome → List (List Content) → List Content
+  taken_of os chunks = flat_map (λ pair. found_in (selects q.table.kind q.predicate) pair.0 pair.1) (zip os chunks)
 
   abbrev cut : List Content → List Content
-  cut rows = map (cut_row paths k) rows
+  cut rows = map (cut_row q.paths q.table.kind) rows
 
+  cut_both : (o : Outcome) (chunk rows : List Content) → cut (found_in (selects q.table.kind q.predicate) o chunk ++ rows) ≡ found_rows q o chunk ++ cut rows
+  cut_both o chunk rows = map-append (cut_row q.paths q.table.kind) (found_in (selects q.table.kind q.predicate) o chunk) rows
+
+  taken_append : (os us : List Outcome) (xs ys : List (List Content)) → length os ≡ length xs → taken_of (os ++ us) (xs ++ ys) ≡ taken_of os xs ++ taken_of us ys
+  taken_append [] us [] ys h = refl
+  taken_append [] us (x ∷ xs) ys h = absurd (omega (arith, h))
+  taken_append (o ∷ os) us [] ys h = absurd (omega (arith, h))
+  taken_append (o ∷ os) us (x ∷ xs) ys h =
+      let here = found_in (selects q.table.kind q.predicate) o x in
+      ap (λ rows. here ++ rows) (taken_append os us xs ys (omega (arith, h))) ∙ sym (append_assoc here (taken_of os xs) (taken_of us ys))
+
+module _ (q : Question) (outcome : List Content → Outcome) where
   abbrev seen : ℕ → List (List Content) → ScanAnswer → ScanAnswer
-  seen = with_chunks k paths e outcome
+  seen = with_chunks q outcome
 
-  cut_both : (xs ys : List Content) → cut (filter (selects k e) (xs ++ ys)) ≡ found_rows k paths e xs ++ cut (filter (selects k e) ys)
-  cut_both xs ys = ap cut (filter-append (selects k e) xs ys) ∙ map-append (cut_row paths k) (filter (selects k e) xs) (filter (selects k e) ys)
-
-  pub rows_after : (i : ℕ) (chunks : List (List Content)) (a : ScanAnswer) → (seen i chunks a).rows ≡ a.rows ++ cut (filter (selects k e) (flat chunks))
+  pub rows_after : (i : ℕ) (chunks : List (List Content)) (a : ScanAnswer) → (seen i chunks a).rows ≡ a.rows ++ cut q (taken_of q (map outcome chunks) chunks)
   rows_after i [] a = sym (append-nil a.rows)
   rows_after i (chunk ∷ chunks) a =
-      rows_after (suc i) chunks (with_chunk k paths e i chunk (outcome chunk) a)
-      ∙ append_assoc a.rows (found_rows k paths e chunk) (cut (filter (selects k e) (flat chunks)))
-      ∙ ap (λ rows. a.rows ++ rows) (sym (cut_both chunk (flat chunks)))
+      rows_after (suc i) chunks (with_chunk q i chunk (outcome chunk) a)
+      ∙ append_assoc a.rows (found_rows q (outcome chunk) chunk) (cut q (taken_of q (map outcome chunks) chunks))
+      ∙ ap (λ rows. a.rows ++ rows) (sym (cut_both q (outcome chunk) chunk (taken_of q (map outcome chunks) chunks)))
 
   pub kind_after : (i : ℕ) (chunks : List (List Content)) (a : ScanAnswer) → (seen i chunks a).kind ≡ a.kind
   kind_after i [] a = refl
-  kind_after i (chunk ∷ chunks) a = kind_after (suc i) chunks (with_chunk k paths e i chunk (outcome chunk) a)
+  kind_after i (chunk ∷ chunks) a = kind_after (suc i) chunks (with_chunk q i chunk (outcome chunk) a)
 
   pushed : (b : Bool) (i : ℕ) (xs ys : List ℕ) → push_if b i xs ++ ys ≡ xs ++ (if b then i ∷ ys else ys)
   pushed true i xs ys = append_assoc xs (i ∷ []) ys
@@ -103,13 +109,13 @@ module _ (k : LogicalType) (paths : List Names) (e : Expression) (outcome : List
   pub skipped_after : (i : ℕ) (chunks : List (List Content)) (a : ScanAnswer) → (seen i chunks a).skipped ≡ a.skipped ++ numbers is_skipped i (map outcome chunks)
   skipped_after i [] a = sym (append-nil a.skipped)
   skipped_after i (chunk ∷ chunks) a =
-      skipped_after (suc i) chunks (with_chunk k paths e i chunk (outcome chunk) a)
+      skipped_after (suc i) chunks (with_chunk q i chunk (outcome chunk) a)
       ∙ pushed (is_skipped (outcome chunk)) i a.skipped (numbers is_skipped (suc i) (map outcome chunks))
 
   pub whole_after : (i : ℕ) (chunks : List (List Content)) (a : ScanAnswer) → (seen i chunks a).whole ≡ a.whole ++ numbers is_whole i (map outcome chunks)
   whole_after i [] a = sym (append-nil a.whole)
   whole_after i (chunk ∷ chunks) a =
-      whole_after (suc i) chunks (with_chunk k paths e i chunk (outcome chunk) a)
+      whole_after (suc i) chunks (with_chunk q i chunk (outcome chunk) a)
       ∙ pushed (is_whole (outcome chunk)) i a.whole (numbers is_whole (suc i) (map outcome chunks))
 
   tested_first : (o : Outcome) (chunk : List Content) (os : List Outcome) (chunks : List (List Content)) →
@@ -129,23 +135,23 @@ module _ (k : LogicalType) (paths : List Names) (e : Expression) (outcome : List
       (seen i chunks a).rows_tested ≡ saturated (a.rows_tested + tested_lengths (map outcome chunks) chunks)
   tested_after i [] a h = sym h ∙ ap saturated (sym (add-zero a.rows_tested))
   tested_after i (chunk ∷ chunks) a h =
-      tested_after (suc i) chunks (with_chunk k paths e i chunk (outcome chunk) a) (saturated_once (a.rows_tested + tested_rows (outcome chunk) chunk))
+      tested_after (suc i) chunks (with_chunk q i chunk (outcome chunk) a) (saturated_once (a.rows_tested + tested_rows (outcome chunk) chunk))
       ∙ regrouped a.rows_tested (tested_rows (outcome chunk) chunk) (tested_lengths (map outcome chunks) chunks) _ (tested_first (outcome chunk) chunk (map outcome chunks) chunks)
 
-  proofs_first : (o : Outcome) (os : List Outcome) → proofs_of k e (o ∷ os) ≡ proofs_at (is_some (falsifier k e)) (is_some (satisfier k e)) o + proofs_of k e os
+  proofs_first : (o : Outcome) (os : List Outcome) → proofs_of q (o ∷ os) ≡ proofs_at (is_some q.falsifier) (is_some q.satisfier) o + proofs_of q os
   proofs_first o os =
-      let f : ℕ = one_if (is_some (falsifier k e)) in
-      let s : ℕ = one_if (is_some (satisfier k e)) in
+      let f : ℕ = one_if (is_some q.falsifier) in
+      let s : ℕ = one_if (is_some q.satisfier) in
       let p : Outcome → Bool = λ o. not (is_in_group o) in
-      let q : Outcome → Bool = λ o. not (is_skipped o) in
-      (λ i. f * count_first p o os i + s * count_first q o os i) ∙ spread f s (one_if (p o)) (count_by p os) (one_if (q o)) (count_by q os)
+      let r : Outcome → Bool = λ o. not (is_skipped o) in
+      (λ i. f * count_first p o os i + s * count_first r o os i) ∙ spread f s (one_if (p o)) (count_by p os) (one_if (r o)) (count_by r os)
 
   pub proofs_after : (i : ℕ) (chunks : List (List Content)) (a : ScanAnswer) → saturated a.proofs ≡ a.proofs →
-      (seen i chunks a).proofs ≡ saturated (a.proofs + proofs_of k e (map outcome chunks))
-  proofs_after i [] a h = sym h ∙ ap saturated (none_counted a.proofs (one_if (is_some (falsifier k e))) (one_if (is_some (satisfier k e))))
+      (seen i chunks a).proofs ≡ saturated (a.proofs + proofs_of q (map outcome chunks))
+  proofs_after i [] a h = sym h ∙ ap saturated (none_counted a.proofs (one_if (is_some q.falsifier)) (one_if (is_some q.satisfier)))
   proofs_after i (chunk ∷ chunks) a h =
-      proofs_after (suc i) chunks (with_chunk k paths e i chunk (outcome chunk) a) (saturated_once (a.proofs + proofs_at (is_some (falsifier k e)) (is_some (satisfier k e)) (outcome chunk)))
-      ∙ regrouped a.proofs (proofs_at (is_some (falsifier k e)) (is_some (satisfier k e)) (outcome chunk)) (proofs_of k e (map outcome chunks)) _ (proofs_first (outcome chunk) (map outcome chunks))
+      proofs_after (suc i) chunks (with_chunk q i chunk (outcome chunk) a) (saturated_once (a.proofs + proofs_at (is_some q.falsifier) (is_some q.satisfier) (outcome chunk)))
+      ∙ regrouped a.proofs (proofs_at (is_some q.falsifier) (is_some q.satisfier) (outcome chunk)) (proofs_of q (map outcome chunks)) _ (proofs_first (outcome chunk) (map outcome chunks))
 
 -- ---- lists behind lists
 
@@ -189,62 +195,58 @@ many_so (n ∷ sizes) chunks h =
 
 -- ---- what becomes of a group
 
-module _ (t : Table) (paths : List Names) (e : Expression) where
+module _ (q : Question) where
   abbrev of_group : List (List Content) → List Content → Outcome
-  of_group chunks = outcome_in (is_group_skipped t e chunks) t e
+  of_group chunks = outcome_in (is_group_skipped q chunks) q
 
-  each_outcome : (chunks : List (List Content)) → map (of_group chunks) chunks ≡ group_outcomes t e chunks
-  each_outcome chunks = by_test (is_group_skipped t e chunks)
+  abbrev group_outcomes : List (List Content) → List Outcome
+  group_outcomes = group_outcomes_by q.table q.falsifier q.satisfier
+
+  each_outcome : (chunks : List (List Content)) → map (of_group chunks) chunks ≡ group_outcomes chunks
+  each_outcome chunks = by_test (is_group_skipped q chunks)
     where
-      by_test : (b : Bool) → map (outcome_in b t e) chunks ≡ (if b then map (λ chunk. skipped_in_group) chunks else map (chunk_outcome t e) chunks)
+      by_test : (b : Bool) → map (outcome_in b q) chunks ≡ (if b then map (λ chunk. skipped_in_group) chunks else map (outcome_to q) chunks)
       by_test true = refl
       by_test false = refl
 
-  as_many : (chunks : List (List Content)) → length (group_outcomes t e chunks) ≡ length chunks
+  as_many : (chunks : List (List Content)) → length (group_outcomes chunks) ≡ length chunks
   as_many chunks = ap length (sym (each_outcome chunks)) ∙ length-map chunks (of_group chunks)
 
   abbrev all_outcomes : List (List (List Content)) → List Outcome
-  all_outcomes groups = flat_map (group_outcomes t e) groups
-
-  abbrev k : LogicalType
-  k = t.kind
-
-  abbrev flat_rows : List (List Content) → List Content
-  flat_rows chunks = flat_map (λ chunk. chunk) chunks
-
-  abbrev selected : List Content → List Content
-  selected rows = map (cut_row paths k) (filter (selects k e) rows)
+  all_outcomes groups = flat_map (group_outcomes) groups
 
   abbrev through : ℕ → List (List (List Content)) → ScanAnswer → ScanAnswer
-  through = with_groups t paths e
+  through = with_groups q
 
   abbrev with_one : ℕ → List (List Content) → ScanAnswer → ScanAnswer
-  with_one = with_group t paths e
+  with_one = with_group q
 
-  rows_through : (i : ℕ) (groups : List (List (List Content))) (a : ScanAnswer) → (through i groups a).rows ≡ a.rows ++ selected (flat_rows (concat groups))
+  rows_through : (i : ℕ) (groups : List (List (List Content))) (a : ScanAnswer) → (through i groups a).rows ≡ a.rows ++ cut q (taken_of q (all_outcomes groups) (concat groups))
   rows_through i [] a = sym (append-nil a.rows)
   rows_through i (chunks ∷ groups) a =
+      let os = group_outcomes chunks in let here = taken_of q os chunks in let rest = taken_of q (all_outcomes groups) (concat groups) in
       rows_through (i + length chunks) groups (with_one i chunks a)
-      ∙ ap (λ rows. rows ++ selected (flat_rows (concat groups))) (rows_after k paths e (of_group chunks) i chunks (looked_at t e (is_many chunks) a))
-      ∙ append_assoc a.rows (selected (flat_rows chunks)) (selected (flat_rows (concat groups)))
-      ∙ ap (λ rows. a.rows ++ rows) (sym (ap selected (flat_map-append (λ (chunk : List Content). chunk) chunks (concat groups)) ∙ cut_both k paths e (of_group chunks) (flat_rows chunks) (flat_rows (concat groups))))
+      ∙ ap (λ rows. rows ++ cut q rest) (rows_after q (of_group chunks) i chunks (looked_at q (is_many chunks) a) ∙ ap (λ outcomes. a.rows ++ cut q (taken_of q outcomes chunks)) (each_outcome chunks))
+      ∙ append_assoc a.rows (cut q here) (cut q rest)
+      ∙ ap (λ rows. a.rows ++ rows)
+      (sym (map-append (cut_row q.paths q.table.kind) here rest) ∙ ap (cut q) (sym (taken_append q os (all_outcomes groups) chunks (concat groups) (as_many chunks))))
 
   kind_through : (i : ℕ) (groups : List (List (List Content))) (a : ScanAnswer) → (through i groups a).kind ≡ a.kind
   kind_through i [] a = refl
   kind_through i (chunks ∷ groups) a =
-      kind_through (i + length chunks) groups (with_one i chunks a) ∙ kind_after k paths e (of_group chunks) i chunks (looked_at t e (is_many chunks) a)
+      kind_through (i + length chunks) groups (with_one i chunks a) ∙ kind_after q (of_group chunks) i chunks (looked_at q (is_many chunks) a)
 
   numbers_more : (p : Outcome → Bool) (i : ℕ) (chunks : List (List Content)) (groups : List (List (List Content))) →
       numbers p i (map (of_group chunks) chunks) ++ numbers p (i + length chunks) (all_outcomes groups) ≡ numbers p i (all_outcomes (chunks ∷ groups))
   numbers_more p i chunks groups =
       (λ j. numbers p i (each_outcome chunks j) ++ numbers p (i + sym (as_many chunks) j) (all_outcomes groups))
-      ∙ sym (numbers_append p i (group_outcomes t e chunks) (all_outcomes groups))
+      ∙ sym (numbers_append p i (group_outcomes chunks) (all_outcomes groups))
 
   skipped_through : (i : ℕ) (groups : List (List (List Content))) (a : ScanAnswer) → (through i groups a).skipped ≡ a.skipped ++ numbers is_skipped i (all_outcomes groups)
   skipped_through i [] a = sym (append-nil a.skipped)
   skipped_through i (chunks ∷ groups) a =
       skipped_through (i + length chunks) groups (with_one i chunks a)
-      ∙ ap (λ xs. xs ++ numbers is_skipped (i + length chunks) (all_outcomes groups)) (skipped_after k paths e (of_group chunks) i chunks (looked_at t e (is_many chunks) a))
+      ∙ ap (λ xs. xs ++ numbers is_skipped (i + length chunks) (all_outcomes groups)) (skipped_after q (of_group chunks) i chunks (looked_at q (is_many chunks) a))
       ∙ append_assoc a.skipped (numbers is_skipped i (map (of_group chunks) chunks)) (numbers is_skipped (i + length chunks) (all_outcomes groups))
       ∙ ap (λ xs. a.skipped ++ xs) (numbers_more is_skipped i chunks groups)
 
@@ -252,7 +254,7 @@ module _ (t : Table) (paths : List Names) (e : Expression) where
   whole_through i [] a = sym (append-nil a.whole)
   whole_through i (chunks ∷ groups) a =
       whole_through (i + length chunks) groups (with_one i chunks a)
-      ∙ ap (λ xs. xs ++ numbers is_whole (i + length chunks) (all_outcomes groups)) (whole_after k paths e (of_group chunks) i chunks (looked_at t e (is_many chunks) a))
+      ∙ ap (λ xs. xs ++ numbers is_whole (i + length chunks) (all_outcomes groups)) (whole_after q (of_group chunks) i chunks (looked_at q (is_many chunks) a))
       ∙ append_assoc a.whole (numbers is_whole i (map (of_group chunks) chunks)) (numbers is_whole (i + length chunks) (all_outcomes groups))
       ∙ ap (λ xs. a.whole ++ xs) (numbers_more is_whole i chunks groups)
 
@@ -261,40 +263,40 @@ module _ (t : Table) (paths : List Names) (e : Expression) where
   tested_through i [] a h = sym h ∙ ap saturated (sym (add-zero a.rows_tested))
   tested_through i (chunks ∷ groups) a h =
       let here : ℕ = tested_lengths (map (of_group chunks) chunks) chunks in
-      let now = tested_after k paths e (of_group chunks) i chunks (looked_at t e (is_many chunks) a) h in
+      let now = tested_after q (of_group chunks) i chunks (looked_at q (is_many chunks) a) h in
       let rest : ℕ = tested_lengths (all_outcomes groups) (concat groups) in
       tested_through (i + length chunks) groups (with_one i chunks a) (ap saturated now ∙ saturated_once (a.rows_tested + here) ∙ sym now)
       ∙ ap (λ n. saturated (n + rest)) now
       ∙ saturated_twice (a.rows_tested + here) rest
       ∙ ap saturated (sum_of_three a.rows_tested here rest)
       ∙ ap (λ n. saturated (a.rows_tested + n))
-      (ap (λ os. tested_lengths os chunks + rest) (each_outcome chunks) ∙ sym (tested_append (group_outcomes t e chunks) (all_outcomes groups) chunks (concat groups) (as_many chunks)))
+      (ap (λ os. tested_lengths os chunks + rest) (each_outcome chunks) ∙ sym (tested_append (group_outcomes chunks) (all_outcomes groups) chunks (concat groups) (as_many chunks)))
 
   abbrev proofs_in : List (List (List Content)) → ℕ
   proofs_in groups =
-      one_if (is_some (falsifier k e)) * (count_by is_many groups + count_by (λ o. not (is_in_group o)) (all_outcomes groups))
-      + one_if (is_some (satisfier k e)) * count_by (λ o. not (is_skipped o)) (all_outcomes groups)
+      one_if (is_some q.falsifier) * (count_by is_many groups + count_by (λ o. not (is_in_group o)) (all_outcomes groups))
+      + one_if (is_some q.satisfier) * count_by (λ o. not (is_skipped o)) (all_outcomes groups)
 
   proofs_more : (chunks : List (List Content)) (groups : List (List (List Content))) →
-      group_proofs t e (is_many chunks) + proofs_of k e (map (of_group chunks) chunks) + proofs_in groups ≡ proofs_in (chunks ∷ groups)
+      group_proofs q (is_many chunks) + proofs_of q (map (of_group chunks) chunks) + proofs_in groups ≡ proofs_in (chunks ∷ groups)
   proofs_more chunks groups =
-      let f : ℕ = one_if (is_some (falsifier k e)) in
-      let s : ℕ = one_if (is_some (satisfier k e)) in
+      let f : ℕ = one_if (is_some q.falsifier) in
+      let s : ℕ = one_if (is_some q.satisfier) in
       let p : Outcome → Bool = λ o. not (is_in_group o) in
-      let q : Outcome → Bool = λ o. not (is_skipped o) in
-      ap (λ os. f * one_if (is_many chunks) + (f * count_by p os + s * count_by q os) + proofs_in groups) (each_outcome chunks)
-      ∙ gathered f s (one_if (is_many chunks)) (count_by p (group_outcomes t e chunks)) (count_by q (group_outcomes t e chunks))
-      (count_by is_many groups) (count_by p (all_outcomes groups)) (count_by q (all_outcomes groups))
-      ∙ sym (λ i. f * (count_first is_many chunks groups i + count_append p (group_outcomes t e chunks) (all_outcomes groups) i) + s * count_append q (group_outcomes t e chunks) (all_outcomes groups) i)
+      let r : Outcome → Bool = λ o. not (is_skipped o) in
+      ap (λ os. f * one_if (is_many chunks) + (f * count_by p os + s * count_by r os) + proofs_in groups) (each_outcome chunks)
+      ∙ gathered f s (one_if (is_many chunks)) (count_by p (group_outcomes chunks)) (count_by r (group_outcomes chunks))
+      (count_by is_many groups) (count_by p (all_outcomes groups)) (count_by r (all_outcomes groups))
+      ∙ sym (λ i. f * (count_first is_many chunks groups i + count_append p (group_outcomes chunks) (all_outcomes groups) i) + s * count_append r (group_outcomes chunks) (all_outcomes groups) i)
 
   proofs_through : (i : ℕ) (groups : List (List (List Content))) (a : ScanAnswer) → saturated a.proofs ≡ a.proofs →
       (through i groups a).proofs ≡ saturated (a.proofs + proofs_in groups)
-  proofs_through i [] a h = sym h ∙ ap saturated (no_proofs a.proofs (one_if (is_some (falsifier k e))) (one_if (is_some (satisfier k e))))
+  proofs_through i [] a h = sym h ∙ ap saturated (no_proofs a.proofs (one_if (is_some q.falsifier)) (one_if (is_some q.satisfier)))
   proofs_through i (chunks ∷ groups) a h =
-      let g : ℕ = group_proofs t e (is_many chunks) in
-      let c : ℕ = proofs_of k e (map (of_group chunks) chunks) in
+      let g : ℕ = group_proofs q (is_many chunks) in
+      let c : ℕ = proofs_of q (map (of_group chunks) chunks) in
       let now : (with_one i chunks a).proofs ≡ saturated (a.proofs + (g + c)) =
-      proofs_after k paths e (of_group chunks) i chunks (looked_at t e (is_many chunks) a) (saturated_once (a.proofs + g)) ∙ saturated_twice (a.proofs + g) c ∙ ap saturated (sum_of_three a.proofs g c) in
+      proofs_after q (of_group chunks) i chunks (looked_at q (is_many chunks) a) (saturated_once (a.proofs + g)) ∙ saturated_twice (a.proofs + g) c ∙ ap saturated (sum_of_three a.proofs g c) in
       proofs_through (i + length chunks) groups (with_one i chunks a) (ap saturated now ∙ saturated_once (a.proofs + (g + c)) ∙ sym now)
       ∙ ap (λ n. saturated (n + proofs_in groups)) now
       ∙ saturated_twice (a.proofs + (g + c)) (proofs_in groups)
@@ -303,18 +305,21 @@ module _ (t : Table) (paths : List Names) (e : Expression) where
 
   -- ---- the whole answer
 
-  abbrev answered : ScanAnswer
-  answered = through 0 (grouped t.groups t.chunks) (no_answer k paths)
+  abbrev t : Table
+  t = q.table
 
-  pub whole_answer : sum t.groups ≡ length t.chunks → answered ≡ scanned t paths e
+  abbrev answered : ScanAnswer
+  answered = through 0 (grouped t.groups t.chunks) (no_answer q)
+
+  pub whole_answer : sum t.groups ≡ length t.chunks → answered ≡ answer_to q
   whole_answer fits =
-      let groups = grouped t.groups t.chunks in let none = no_answer k paths in let all = all_grouped t.groups t.chunks fits in λ i. record {
-        rows = (rows_through 0 groups none ∙ ap (λ cs. selected (flat_rows cs)) all) i;
+      let groups = grouped t.groups t.chunks in let none = no_answer q in let all = all_grouped t.groups t.chunks fits in λ i. record {
+        rows = (rows_through 0 groups none ∙ ap (λ cs. cut q (taken_of q (all_outcomes groups) cs)) all) i;
         kind = kind_through 0 groups none i;
         skipped = skipped_through 0 groups none i;
         whole = whole_through 0 groups none i;
         rows_tested = (tested_through 0 groups none refl ∙ ap saturated (zero-add _) ∙ ap (λ cs. saturated (tested_lengths (all_outcomes groups) cs)) all) i;
         proofs = (proofs_through 0 groups none refl ∙ ap saturated (zero-add _)
-            ∙ ap (λ n. saturated (one_if (is_some (falsifier k e)) * (n + count_by (λ o. not (is_in_group o)) (all_outcomes groups))
-            + one_if (is_some (satisfier k e)) * count_by (λ o. not (is_skipped o)) (all_outcomes groups))) (many_so t.groups t.chunks fits)) i;
+            ∙ ap (λ n. saturated (one_if (is_some q.falsifier) * (n + count_by (λ o. not (is_in_group o)) (all_outcomes groups))
+            + one_if (is_some q.satisfier) * count_by (λ o. not (is_skipped o)) (all_outcomes groups))) (many_so t.groups t.chunks fits)) i;
       }

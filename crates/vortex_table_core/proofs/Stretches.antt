@@ -4,17 +4,14 @@ use Rattle.std.specs.Prelude.{is_some, option_map}
 use Rattle.std.specs.List.{list_all}
 use Rattle.std.proofs.lemmas.List.{length-drop, length-take, length-map, get_or-map}
 use Rattle.vortex_model.specs.Content.{Content}
-use Rattle.vortex_model.specs.Expression.{Expression}
-use Rattle.vortex_model.specs.Path.{Names}
 use Rattle.vortex_model.specs.Table.{Table, bound_length}
-use Rattle.vortex_model.specs.Rewrite.{falsifier, satisfier}
-use Rattle.vortex_model.specs.Scan.{ScanAnswer, chunk_outcome, is_many, is_skipped, is_in_group, one_if, saturated, scanned}
+use Rattle.vortex_model.specs.Scan.{ScanAnswer, is_many, is_skipped, is_in_group, one_if, saturated}
 use Rattle.vortex_table_chunk.specs.Chunk.{chunk_rows}
 use Rattle.vortex_table_chunk.specs.Formed.{is_formed}
 use Rattle.vortex_table_chunk.specs.declared.chunk.Chunk.{Chunk}
 use Rattle.vortex_table_core.specs.Group.{HasStatistics, IsGroup, chunks_of}
-use Rattle.vortex_table_core.specs.Plan.{IsPlan, table_in, paths_in, predicate_in, stretch_of}
-use Rattle.vortex_table_core.specs.Progress.{with_chunk, with_group, looked_at, is_group_skipped, outcome_in, group_proofs, no_answer}
+use Rattle.vortex_table_core.specs.Plan.{IsPlan, table_in, question_in, stretch_of}
+use Rattle.vortex_table_core.specs.Progress.{Question, answer_to, outcome_to, with_chunk, with_group, looked_at, is_group_skipped, outcome_in, group_proofs, no_answer}
 use Rattle.vortex_table_core.specs.declared.group.Group.{Group}
 use Rattle.vortex_table_core.specs.declared.plan.Scan.{Scan}
 use Rattle.vortex_table_core.proofs.Groups.{ahead, drop_on, formed_in, group_entered, Reached, at_start, starts_with_none, first_here, group_here, within, one_on, starts_behind, at_end}
@@ -37,7 +34,7 @@ plus_none n f = grind arith
 ahead_both : (plan : Scan) (i : ℕ) (xs ys : List Chunk) (a : ScanAnswer) → ahead plan i (xs ++ ys) a ≡ ahead plan (i + length xs) ys (ahead plan i xs a)
 ahead_both plan i [] ys a = ap (λ n. ahead plan n ys a) (sym (add-zero i))
 ahead_both plan i (x ∷ xs) ys a =
-    let one = with_chunk (table_in plan).kind (paths_in plan) (predicate_in plan) i (chunk_rows x) (chunk_outcome (table_in plan) (predicate_in plan) (chunk_rows x)) a in
+    let q = question_in plan in let one = with_chunk q i (chunk_rows x) (outcome_to q (chunk_rows x)) a in
     ahead_both plan (suc i) xs ys one ∙ ap (λ n. ahead plan n ys (ahead plan (suc i) xs one)) (let e : suc i + length xs ≡ i + suc (length xs) = omega arith in e)
 
 -- The groups up to here are looked at, but for the chunks of a stretch of them. This is the answer before that.
@@ -47,7 +44,7 @@ pub record Waiting (plan : Scan) (j first count : ℕ) (a : ScanAnswer) : Type 0
   pub inside : first + count ≤ length plan.table.now.chunks.items
   pub proofs : saturated a.proofs ≡ a.proofs
 
-pub waiting_start : (plan : Scan) (a : ScanAnswer) → a ≡ no_answer (table_in plan).kind (paths_in plan) → Waiting plan 0 0 0 a
+pub waiting_start : (plan : Scan) (a : ScanAnswer) → a ≡ no_answer (question_in plan) → Waiting plan 0 0 0 a
 waiting_start plan a none = record {
   reached = at_start plan a none;
   at = (let h = starts_with_none plan a none in omega (arith, h));
@@ -62,8 +59,8 @@ module _ (plan : Scan) (is : IsPlan plan) (j first count : ℕ) (a : ScanAnswer)
   abbrev t : Table
   t = table_in plan
 
-  abbrev e : Expression
-  e = predicate_in plan
+  abbrev q : Question
+  q = question_in plan
 
   abbrev all : List Chunk
   all = plan.table.now.chunks.items
@@ -101,18 +98,18 @@ module _ (plan : Scan) (is : IsPlan plan) (j first count : ℕ) (a : ScanAnswer)
 
   saved : saturated before.proofs ≡ before.proofs
   saved =
-      let now = proofs_after t.kind (paths_in plan) e (chunk_outcome t e) first (map chunk_rows (stretch_of plan first count)) a w.proofs in
+      let now = proofs_after q (outcome_to q) first (map chunk_rows (stretch_of plan first count)) a w.proofs in
       ap saturated now
-      ∙ saturated_once (a.proofs + (one_if (is_some (falsifier t.kind e)) * count_by (λ o. not (is_in_group o)) (map (chunk_outcome t e) (map chunk_rows (stretch_of plan first count)))
-      + one_if (is_some (satisfier t.kind e)) * count_by (λ o. not (is_skipped o)) (map (chunk_outcome t e) (map chunk_rows (stretch_of plan first count)))))
+      ∙ saturated_once (a.proofs + (one_if (is_some q.falsifier) * count_by (λ o. not (is_in_group o)) (map (outcome_to q) (map chunk_rows (stretch_of plan first count)))
+      + one_if (is_some q.satisfier) * count_by (λ o. not (is_skipped o)) (map (outcome_to q) (map chunk_rows (stretch_of plan first count)))))
       ∙ sym now
 
-  as_before : before.proofs ≡ saturated (before.proofs + group_proofs t e (is_many (map chunk_rows own)))
+  as_before : before.proofs ≡ saturated (before.proofs + group_proofs q (is_many (map chunk_rows own)))
   as_before =
-      sym saved ∙ ap saturated (plus_none before.proofs (one_if (is_some (falsifier t.kind e))))
-      ∙ ap (λ b. saturated (before.proofs + group_proofs t e b)) (sym not_many)
+      sym saved ∙ ap saturated (plus_none before.proofs (one_if (is_some q.falsifier)))
+      ∙ ap (λ b. saturated (before.proofs + group_proofs q b)) (sym not_many)
 
-  entered : before ≡ looked_at t e (is_many (map chunk_rows own)) before
+  entered : before ≡ looked_at q (is_many (map chunk_rows own)) before
   entered = λ i. record {
     rows = before.rows;
     kind = before.kind;
@@ -122,7 +119,7 @@ module _ (plan : Scan) (is : IsPlan plan) (j first count : ℕ) (a : ScanAnswer)
     proofs = as_before i;
   }
 
-  one_by_one : ahead plan first (stretch_of plan first (count + 1)) a ≡ with_group t (paths_in plan) e g.first (map chunk_rows own) before
+  one_by_one : ahead plan first (stretch_of plan first (count + 1)) a ≡ with_group q g.first (map chunk_rows own) before
   one_by_one =
       group_entered plan is g own formed grouped before (ahead plan first (stretch_of plan first (count + 1)) a) before
       (sym (one_is_none plan is g own formed grouped _ alone grouped.statistics)) entered
@@ -145,16 +142,16 @@ module _ (plan : Scan) (j first count : ℕ) (a b : ScanAnswer) (w : Waiting pla
   pub none_waits : Reached plan j b
   none_waits = subst (Reached plan j) (sym found) w.reached
 
-  pub all_looked_at : length plan.table.now.groups ≤ j → b ≡ scanned (table_in plan) (paths_in plan) (predicate_in plan)
+  pub all_looked_at : length plan.table.now.groups ≤ j → b ≡ answer_to (question_in plan)
   all_looked_at done = at_end plan j b done none_waits
 
   -- a group of more chunks
   pub group_next : (g : Group) (c : ScanAnswer) → j < length plan.table.now.groups → g ≡ get_or plan.table.now.groups j g →
-      c ≡ with_group (table_in plan) (paths_in plan) (predicate_in plan) g.first (map chunk_rows (chunks_of plan.table.now.chunks.items g)) b → Waiting plan (j + 1) (g.first + g.chunks) 0 c
+      c ≡ with_group (question_in plan) g.first (map chunk_rows (chunks_of plan.table.now.chunks.items g)) b → Waiting plan (j + 1) (g.first + g.chunks) 0 c
   group_next g c there here made =
-      let rows : List (List Content) = map chunk_rows (chunks_of plan.table.now.chunks.items g) in let s = table_in plan in let p = predicate_in plan in
-      let now = looked_at s p (is_many rows) b in let f = outcome_in (is_group_skipped s p rows) s p in
-      let same = ap (λ (x : ScanAnswer). x.proofs) made ∙ proofs_after s.kind (paths_in plan) p f g.first rows now (saturated_once (b.proofs + group_proofs s p (is_many rows))) in record {
+      let rows : List (List Content) = map chunk_rows (chunks_of plan.table.now.chunks.items g) in let q = question_in plan in
+      let now = looked_at q (is_many rows) b in let f = outcome_in (is_group_skipped q rows) q in
+      let same = ap (λ (x : ScanAnswer). x.proofs) made ∙ proofs_after q f g.first rows now (saturated_once (b.proofs + group_proofs q (is_many rows))) in record {
         reached = one_on plan j g b there here none_waits c made;
         at =
             (let s = starts_behind plan j g b there here none_waits c made in
@@ -162,7 +159,7 @@ module _ (plan : Scan) (j first count : ℕ) (a b : ScanAnswer) (w : Waiting pla
         inside = (let h = within plan j g b there here none_waits in omega (arith, h));
         proofs =
             ap saturated same
-            ∙ saturated_once (now.proofs + (one_if (is_some (falsifier s.kind p)) * count_by (λ o. not (is_in_group o)) (map f rows) + one_if (is_some (satisfier s.kind p)) * count_by (λ o. not (is_skipped o)) (map f rows)))
+            ∙ saturated_once (now.proofs + (one_if (is_some q.falsifier) * count_by (λ o. not (is_in_group o)) (map f rows) + one_if (is_some q.satisfier) * count_by (λ o. not (is_skipped o)) (map f rows)))
             ∙ sym same;
       }
 

@@ -5,7 +5,6 @@ pub mod arrays;
 mod describe;
 mod group;
 pub mod join;
-mod make;
 mod plan;
 pub mod retype;
 mod run;

@@ -8,12 +8,11 @@ use crate::table::Table;
 use std::alloc::{AllocError, Global};
 use vortex_dtype_path::path::FieldPath;
 use vortex_scalar_core::scalar::Scalar;
-use vortex_stats_bind::bound::BoundExpression;
 use vortex_stats_expr::expression::Expression;
 use vortex_table_chunk::chunk::Chunk;
 use vortex_table_chunk::zones::bounds::ColumnBounds;
+use vortex_table_plan::plan::ScanPlan;
 use vortex_table_schema::answer::ScanAnswer;
-use vortex_table_schema::cut::RowProjection;
 use vortex_table_select::select::{select_rows, take_rows};
 use vortex_table_zones::operands::ZoneOperands;
 use vortex_table_zones::proof::{ZoneProof, is_proved};
@@ -27,21 +26,6 @@ pub enum Pruning {
     TakeAll,
     /// The predicate is evaluated at each row.
     Filter,
-}
-
-/// The two proofs of a predicate, each if there is one, with their columns resolved.
-#[derive(Drop)]
-pub struct Proofs {
-    pub falsifier: Option<BoundExpression>,
-    pub satisfier: Option<BoundExpression>,
-}
-
-/// What is made of a scan once and used at every chunk.
-#[derive(Drop)]
-pub struct ScanPlan {
-    pub bound: BoundExpression,
-    pub proofs: Proofs,
-    pub cut: RowProjection,
 }
 
 /// A scan of a table with what is prepared for it.
@@ -58,7 +42,6 @@ pub struct Scan<'a> {
 impl Scan<'_> {
     ghost use Rattle.std.specs.Prelude.{◌≡◌, ◌++◌, All, IfOk, OnOk, IsTrue, is_some, map};
     ghost use Rattle.vortex_model.specs.Table.{bound_length};
-    ghost use Rattle.vortex_model.specs.Scan.{chunk_outcome};
     ghost use Rattle.vortex_dtype_core.specs.View.{type_of};
     ghost use Rattle.vortex_scalar_core.specs.Scalar.{scalar_type, scalar_content};
     ghost use Rattle.vortex_table_schema.specs.Answer.{answer_of};
@@ -66,8 +49,8 @@ impl Scan<'_> {
     ghost use Rattle.vortex_table_chunk.specs.Chunk.{chunk_rows};
     ghost use Rattle.vortex_table_zones.specs.Zone.{zone_proved};
     ghost use Rattle.vortex_table_core.specs.Outcome.{outcome_of};
-    ghost use Rattle.vortex_table_core.specs.Plan.{IsPlan, table_in, paths_in, predicate_in, falsified_by};
-    ghost use Rattle.vortex_table_core.specs.Progress.{with_chunk, found_rows, proofs_at};
+    ghost use Rattle.vortex_table_core.specs.Plan.{IsPlan, table_in, question_in, falsified_by};
+    ghost use Rattle.vortex_table_core.specs.Progress.{outcome_to, with_chunk, found_rows, proofs_at};
     ghost use Rattle.vortex_table_chunk.specs.Formed.{is_formed};
 
     /// Whether the statistics of the table's leaf columns in so many rows make the proof true.
@@ -89,8 +72,7 @@ impl Scan<'_> {
         requires formed { IsTrue
             (is_formed (bound_length (table_in self.now)) (table_in self.now).kind chunk.now) }
         requires falsified { falsified ≡ falsified_by self.now chunk.now }
-        ensures { outcome_of result ≡ chunk_outcome (table_in self.now)
-            (predicate_in self.now) (chunk_rows chunk.now) }
+        ensures { outcome_of result ≡ outcome_to (question_in self.now) (chunk_rows chunk.now) }
     {
         if falsified {
             return Pruning::Skip;
@@ -127,13 +109,11 @@ impl Scan<'_> {
         requires plan { IsPlan self.now }
         requires formed { IsTrue
             (is_formed (bound_length (table_in self.now)) (table_in self.now).kind chunk.now) }
-        requires outcome { outcome_of outcome ≡ chunk_outcome (table_in self.now)
-            (predicate_in self.now) (chunk_rows chunk.now) }
         requires typed { All (λ row. scalar_type row ≡ type_of self.now.prepared.now.cut.dtype)
             found.old.items }
         ensures rows { OnOk result (map scalar_content found.new.items
-            ≡ map scalar_content found.old.items ++ found_rows (table_in self.now).kind
-            (paths_in self.now) (predicate_in self.now) (chunk_rows chunk.now)) }
+            ≡ map scalar_content found.old.items ++ found_rows (question_in self.now)
+            (outcome_of outcome) (chunk_rows chunk.now)) }
         ensures typed { OnOk result
             (All (λ row. scalar_type row ≡ type_of self.now.prepared.now.cut.dtype)
             found.new.items) }
@@ -173,10 +153,9 @@ impl Scan<'_> {
         requires falsified { falsified ≡ falsified_by self.now chunk.now }
         requires typed { All (λ row. scalar_type row ≡ type_of self.now.prepared.now.cut.dtype)
             answer.old.rows.items }
-        ensures found { OnOk result (answer_of answer.new ≡ with_chunk (table_in self.now).kind
-            (paths_in self.now) (predicate_in self.now)
-            number (chunk_rows chunk.now) (chunk_outcome (table_in self.now) (predicate_in self.now)
-            (chunk_rows chunk.now)) (answer_of answer.old)) }
+        ensures found { OnOk result (answer_of answer.new ≡ with_chunk (question_in self.now)
+            number (chunk_rows chunk.now) (outcome_to (question_in self.now) (chunk_rows chunk.now))
+            (answer_of answer.old)) }
         ensures typed { OnOk result
             (All (λ row. scalar_type row ≡ type_of self.now.prepared.now.cut.dtype)
             answer.new.rows.items) }

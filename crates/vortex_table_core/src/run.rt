@@ -26,15 +26,15 @@ impl Scan<'_> {
     ghost use Rattle.std.specs.Prelude.{◌≡◌, ◌≤◌, ◌<◌, ◌+◌, ◌*◌, ◌^◌, All, List, IfOk, OnOk, IsTrue, is_some, length, map};
     ghost use Rattle.std.specs.List.{list_all};
     ghost use Rattle.vortex_model.specs.Table.{bound_length};
-    ghost use Rattle.vortex_model.specs.Scan.{chunk_outcome, one_if, saturated, scanned};
+    ghost use Rattle.vortex_model.specs.Scan.{one_if, saturated};
     ghost use Rattle.vortex_dtype_core.specs.View.{type_of};
     ghost use Rattle.vortex_scalar_core.specs.Scalar.{scalar_type};
     ghost use Rattle.vortex_table_schema.specs.Answer.{answer_of, IsTyped};
     ghost use Rattle.vortex_table_chunk.specs.Chunk.{chunk_rows};
     ghost use Rattle.vortex_table_chunk.specs.declared.chunk.Chunk.{Chunk};
     ghost use Rattle.vortex_table_core.specs.Group.{IsGroup, chunks_of};
-    ghost use Rattle.vortex_table_core.specs.Plan.{IsPlan, table_in, paths_in, predicate_in, stretch_of, falsified_in};
-    ghost use Rattle.vortex_table_core.specs.Progress.{with_chunks, with_group, is_group_skipped};
+    ghost use Rattle.vortex_table_core.specs.Plan.{IsPlan, table_in, question_in, stretch_of, falsified_in};
+    ghost use Rattle.vortex_table_core.specs.Progress.{answer_to, outcome_to, with_chunks, with_group, is_group_skipped};
     ghost use Rattle.vortex_table_chunk.specs.Formed.{is_formed};
 
     // A group of one chunk isn't looked at, since its chunk is.
@@ -44,8 +44,7 @@ impl Scan<'_> {
             → IsTrue (list_all
             (is_formed (bound_length (table_in self.now)) (table_in self.now).kind) chunks)
             → IsGroup (table_in self.now).kind (bound_length (table_in self.now)) group.now chunks
-            → result ≡ is_group_skipped (table_in self.now) (predicate_in self.now)
-            (map chunk_rows chunks) }
+            → result ≡ is_group_skipped (question_in self.now) (map chunk_rows chunks) }
     {
         match &group.joined {
             Some(bounds) => {
@@ -108,10 +107,9 @@ impl Scan<'_> {
         requires fits { first + length chunks.now < 2 ^ 64 }
         requires typed { All (λ row. scalar_type row ≡ type_of self.now.prepared.now.cut.dtype)
             answer.old.rows.items }
-        ensures found { OnOk result (answer_of answer.new ≡ with_chunks (table_in self.now).kind
-            (paths_in self.now) (predicate_in self.now)
-            (chunk_outcome (table_in self.now) (predicate_in self.now)) first
-            (map chunk_rows chunks.now) (answer_of answer.old)) }
+        ensures found { OnOk result (answer_of answer.new ≡ with_chunks (question_in self.now)
+            (outcome_to (question_in self.now)) first (map chunk_rows chunks.now)
+            (answer_of answer.old)) }
         ensures typed { OnOk result
             (All (λ row. scalar_type row ≡ type_of self.now.prepared.now.cut.dtype)
             answer.new.rows.items) }
@@ -134,9 +132,8 @@ impl Scan<'_> {
         requires within { first + count ≤ length self.now.table.now.chunks.items }
         requires typed { All (λ row. scalar_type row ≡ type_of self.now.prepared.now.cut.dtype)
             answer.old.rows.items }
-        ensures found { OnOk result (answer_of answer.new ≡ with_chunks (table_in self.now).kind
-            (paths_in self.now) (predicate_in self.now)
-            (chunk_outcome (table_in self.now) (predicate_in self.now)) first
+        ensures found { OnOk result (answer_of answer.new ≡ with_chunks (question_in self.now)
+            (outcome_to (question_in self.now)) first
             (map chunk_rows (stretch_of self.now first count)) (answer_of answer.old)) }
         ensures typed { OnOk result
             (All (λ row. scalar_type row ≡ type_of self.now.prepared.now.cut.dtype)
@@ -163,8 +160,8 @@ impl Scan<'_> {
         requires counted { saturated answer.old.rows_tested ≡ answer.old.rows_tested }
         requires typed { All (λ row. scalar_type row ≡ type_of self.now.prepared.now.cut.dtype)
             answer.old.rows.items }
-        ensures found { OnOk result (answer_of answer.new ≡ with_group (table_in self.now)
-            (paths_in self.now) (predicate_in self.now) group.now.first
+        ensures found { OnOk result (answer_of answer.new ≡ with_group (question_in self.now)
+            group.now.first
             (map chunk_rows (chunks_of self.now.table.now.chunks.items group.now))
             (answer_of answer.old)) }
         ensures typed { OnOk result
@@ -185,7 +182,7 @@ impl Scan<'_> {
     pub fn run(&self, alloc: Global) -> Result<ScanAnswer, AllocError>
         requires { IsPlan self.now }
         ensures found { IfOk result (λ answer. answer_of answer
-            ≡ scanned (table_in self.now) (paths_in self.now) (predicate_in self.now)) }
+            ≡ answer_to (question_in self.now)) }
         ensures typed { IfOk result (λ answer. IsTyped answer) }
     {
         let mut answer = ScanAnswer {

@@ -1,23 +1,31 @@
 //! Scans over the chunks of a table.
 
-use crate::make::prepare;
-use crate::plan::{Scan, ScanPlan};
+use crate::plan::Scan;
 use crate::table::Table;
 use std::alloc::{AllocError, Global};
 use vortex_dtype_path::path::FieldPath;
+use vortex_model_rules::laws::scans_with_rules_lose_none;
 use vortex_stats_expr::expression::Expression;
+use vortex_stats_rules::rule::StatsRewriteRuleRef;
 use vortex_table_check::error::TableError;
+use vortex_table_plan::make::prepare;
+use vortex_table_plan::plan::ScanPlan;
+use vortex_table_plan::rules::prepare_with;
 use vortex_table_schema::answer::ScanAnswer;
 use vortex_table_zones::proof::resolve;
 
 impl Table {
-    ghost use Rattle.std.specs.Prelude.{◌≡◌, None, map, IfOk, OnOk, IfErr};
+    ghost use Rattle.std.specs.Prelude.{◌≡◌, None, Some, false, map, IfOk, OnOk, IfErr};
     ghost use Rattle.vortex_model.specs.Scan.{scanned};
+    ghost use Rattle.vortex_model.specs.Table.{answer};
     ghost use Rattle.vortex_model.specs.Command.{scan, names_of, refusal};
+    ghost use Rattle.vortex_model_rules.specs.Scanned.{scanned_by, scanned_with};
     ghost use Rattle.vortex_dtype_path.specs.View.{steps_of};
     ghost use Rattle.vortex_dtype_core.specs.View.{type_of};
+    ghost use Rattle.vortex_stats_rules.specs.Meanings.{rules_of};
     ghost use Rattle.vortex_table_check.specs.Error.{Explains};
-    ghost use Rattle.vortex_table_core.specs.Plan.{IsPreparedFor};
+    ghost use Rattle.vortex_table_plan.specs.Prepared.{IsPreparedFor};
+    ghost use Rattle.vortex_table_plan.specs.Rules.{have_fault, ExplainsWith};
     ghost use Rattle.vortex_table_core.specs.TableView.{table_of};
     ghost use Rattle.vortex_table_schema.specs.Answer.{answer_of, IsTyped};
     ghost use Rattle.vortex_table_schema.specs.Cut.{paths_of};
@@ -57,6 +65,43 @@ impl Table {
         Ok(answer)
     }
 
+    /// As `scan`, by proofs that are made with these rules beside the built-in ones: which chunks
+    /// are skipped, taken whole and tested may differ, and the rows never do, since each rule is
+    /// handed in with why its proofs may be believed.
+    ///
+    /// Refused as `scan`, and then `RuleFault` where a rule answers an error other than `Memory`,
+    /// or a proof that can't be used: one without a type or a truth, of another type than truth
+    /// values, or with a column outside placeholders.
+    pub fn scan_with(
+        &self,
+        alloc: Global,
+        paths: &[FieldPath],
+        predicate: &Expression,
+        rules: &[StatsRewriteRuleRef],
+    ) -> Result<ScanAnswer, TableError>
+        ensures found { IfOk result (λ a. scanned_with (table_of self.now)
+            (rules_of meaning rules.now) (map names_of (map steps_of paths.now)) predicate.now
+            ≡ Some (answer_of a)) }
+        ensures rows { IfOk result (λ a. (answer_of a).rows
+            ≡ answer (table_of self.now) (map names_of (map steps_of paths.now)) predicate.now) }
+        ensures typed { IfOk result (λ a. IsTyped a) }
+        ensures accepted { OnOk result
+            (refusal (table_of self.now) (scan (map steps_of paths.now) predicate.now) ≡ None) }
+        ensures faultless { OnOk result (have_fault (table_of self.now).kind
+            (rules_of meaning rules.now) predicate.now ≡ false) }
+        ensures refused { IfErr result (ExplainsWith
+            (refusal (table_of self.now) (scan (map steps_of paths.now) predicate.now))
+            (have_fault (table_of self.now).kind (rules_of meaning rules.now) predicate.now)) }
+    {
+        scans_with_rules_lose_none();
+        let prepared = prepare_with(alloc, &self.dtype, paths, predicate, rules)?;
+        let found = (&*self).run_prepared(alloc, &*paths, &*predicate, &prepared);
+        // As in `scan`.
+        drop(prepared);
+        let answer = found?;
+        Ok(answer)
+    }
+
     // The answer to a scan for which this is prepared.
     fn run_prepared<'s>(
         &'s self,
@@ -68,7 +113,8 @@ impl Table {
         requires { IsPreparedFor (type_of self.now.dtype) (paths_of paths.now) predicate.now
             prepared.now }
         ensures found { IfOk result (λ a. answer_of a
-            ≡ scanned (table_of self.now) (paths_of paths.now) predicate.now) }
+            ≡ scanned_by (table_of self.now) (paths_of paths.now) predicate.now
+            prepared.now.trees.falsifier prepared.now.trees.satisfier) }
         ensures typed { IfOk result (λ a. IsTyped a) }
     {
         let falsifier = resolve(alloc, &self.leaves, &prepared.proofs.falsifier)?;

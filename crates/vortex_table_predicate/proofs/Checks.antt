@@ -100,6 +100,7 @@ pub ruleset of_columns = (leaf_column, float_column, decimal_column, other_colum
 pub first_reason : (r : TableError) (p q : Option Refusal) → IsReason r p → IsReason r (or_else p q)
 first_reason error.Memory p q h = tt
 first_reason error.Total p q h = absurd h
+first_reason error.RuleFault p q h = absurd h
 first_reason error.NotARecord p q h = ap (λ o. or_else o q) h
 first_reason error.UnkeptType p q h = ap (λ o. or_else o q) h
 first_reason error.RepeatedName p q h = ap (λ o. or_else o q) h

@@ -114,6 +114,7 @@ some_chunk k (x ∷ chunks) (suc i) c inside is h = inr (some_chunk k chunks i c
 first_of_more : (P Q : Type 0) (p q : Option Refusal) (e : TableError) → (P → Q) → Explains P p e → Explains Q (or_else p q) e
 first_of_more P Q p q error.Memory f h = tt
 first_of_more P Q p q error.Total f h = f h
+first_of_more P Q p q error.RuleFault f h = absurd h
 first_of_more P Q p q e f h = ap (λ o. or_else o q) h
 
 pub explained_more : (P Q : Type 0) (p : Option Refusal) (e : TableError) → (P → Q) → Explains P p e → Explains Q p e

@@ -1,3 +1,4 @@
 pub mod ConvertedRows
 pub mod InOrder
 pub mod LaidOut
+pub mod RangeLemmas

@@ -2,5 +2,6 @@
 #![tactic(auto)]
 
 pub mod groups;
+mod ranges;
 pub mod retyping;
 pub mod rows;

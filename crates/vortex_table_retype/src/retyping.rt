@@ -1,5 +1,5 @@
 //! Chunks of one type as chunks of another.
-use crate::rows::{convert_array, convert_rows};
+use crate::rows::{convert_chunk, convert_rows};
 use std::alloc::Global;
 use std::rc::Rc;
 use vortex_dtype_core::dtype::DType;
@@ -51,7 +51,7 @@ impl Retyping<'_> {
             (AreTooLarge (target_of self.now) (chunk_rows chunk.now)) (first_unconvertible first
             (source_of self.now) (target_of self.now) (chunk_rows chunk.now)) e) }
     {
-        let array = convert_array(alloc, self.target, first, &chunk.array)?;
+        let array = convert_chunk(alloc, self.target, first, chunk)?;
         let new = retyped_chunk(alloc, chunk, self.leaves, self.lengths, array)?;
         Ok(new)
     }

@@ -15,17 +15,19 @@ ghost use Rattle.vortex_table_schema.specs.Rows.{row_content};
 ghost use Rattle.vortex_table_check.specs.Error.{Explains};
 ghost use Rattle.vortex_arrays_builder.specs.TooLarge.{AreTooLarge};
 
+use crate::ranges::ranges_of;
 use std::alloc::{AllocError, Global};
 use vortex_arrays_buffer::error::ArrayError;
 use vortex_arrays_builder::laws::tables_hold_plain_types;
 use vortex_arrays_builder::plain::build_plain;
-use vortex_arrays_cast::cast::cast_array;
+use vortex_arrays_cast::cast::cast_array_within;
 use vortex_arrays_core::array::ArrayRef;
 use vortex_dtype_core::dtype::DType;
 use vortex_scalar_core::scalar::Scalar;
 use vortex_scalar_value::scalar_value::ScalarValue;
 use vortex_table_check::append::convert_row;
 use vortex_table_check::error::TableError;
+use vortex_table_chunk::chunk::Chunk;
 
 // The row at the index, as a value of the array's type.
 fn row_at(alloc: Global, array: &ArrayRef, index: usize) -> Result<Scalar, TableError>
@@ -157,31 +159,35 @@ fn convert_by_rows(
     Ok(new)
 }
 
-/// The rows of the array as an array of the target type, laid out plain: column by column where
+/// The rows of the chunk as an array of the target type, laid out plain: column by column where
 /// that can be done, and else row by row, which finds what is to be refused. `NotConvertible` has
 /// the index of the first row that the target can't hold, where the first row has the index
 /// `first`. `Total` where the texts or the bytes of a column can't be held by its views and
 /// buffers.
+///
+/// The integers of a leaf column are not tested where the target holds their least and their
+/// greatest.
 #[tactic(auto, using(crate::proofs::ConvertedRows::all_convertible))]
-pub fn convert_array(
+pub(crate) fn convert_chunk(
     alloc: Global,
     target: &DType,
     first: usize,
-    array: &ArrayRef,
+    chunk: &Chunk,
 ) -> Result<ArrayRef, TableError>
     requires kept { type_fault (type_of target.now) ≡ None }
-    requires fits { first + len_of array.now < 2 ^ 64 }
+    requires fits { first + len_of chunk.now.array < 2 ^ 64 }
     ensures dtype { IfOk result (λ new. array_type_of new ≡ type_of target.now) }
-    ensures rows { IfOk result (λ new. rows_of new ≡ rows_of array.now) }
+    ensures rows { IfOk result (λ new. rows_of new ≡ rows_of chunk.now.array) }
     ensures layout { IfOk result (λ new. IsPlainLayout new) }
-    ensures converts { OnOk result (first_unconvertible first (array_type_of array.now)
-        (type_of target.now) (rows_of array.now) ≡ None) }
+    ensures converts { OnOk result (first_unconvertible first (array_type_of chunk.now.array)
+        (type_of target.now) (rows_of chunk.now.array) ≡ None) }
     ensures refused { IfErr result (λ e. Explains
-        (AreTooLarge (type_of target.now) (rows_of array.now)) (first_unconvertible first
-        (array_type_of array.now) (type_of target.now) (rows_of array.now)) e) }
+        (AreTooLarge (type_of target.now) (rows_of chunk.now.array)) (first_unconvertible first
+        (array_type_of chunk.now.array) (type_of target.now) (rows_of chunk.now.array)) e) }
 {
-    match cast_array(alloc, array, target)? {
+    let ranges = ranges_of(alloc, chunk)?;
+    match cast_array_within(alloc, &chunk.array, target, &ranges)? {
         Some(cast) => Ok(cast),
-        None => convert_by_rows(alloc, target, first, array),
+        None => convert_by_rows(alloc, target, first, &chunk.array),
     }
 }

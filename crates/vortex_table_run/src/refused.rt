@@ -1,14 +1,16 @@
 //! Refusals as texts that take no memory.
-ghost use Rattle.std.specs.Prelude.{ℕ, List};
+ghost use Rattle.std.specs.Prelude.{◌≢◌, ℕ, List};
+ghost use Rattle.vortex_table_check.specs.declared.error.TableError.TheVariants.{RuleFault};
 ghost use Rattle.vortex_table_run.specs.CommandAnswers.{IsWrittenAs, error_answer};
 
 use vortex_table_check::error::TableError;
 use vortex_table_io::Response;
 use vortex_table_response::refusal;
 
-/// What is said of an error.
+/// What is said of an error. No line hands in a rule that could be at fault.
 pub(crate) fn fault(error: TableError) -> Response
-    ensures { (out : List ℕ) → IsWrittenAs (error_answer error) result out }
+    ensures { (out : List ℕ) → error ≢ RuleFault
+        → IsWrittenAs (error_answer error) result out }
 {
     if error == TableError::Memory {
         return Response::NoMemory;

@@ -2,20 +2,16 @@
 use Rattle.std.proofs.Math.Bool.{and-false}
 use Rattle.std.proofs.Common.{◌≡◌, ◌<◌, ◌≤◌, ◌-◌, ◌&&◌, arith, drop, drop-cons, get_or, length, zero, suc, refl, sym, ap, ◌∙◌, ℕ, Bool, true, false, cond, not, ◌||◌, List, [], ◌∷◌, Bor}
 use Rattle.std.specs.BTreeSet.{BTreeSet, contains, IsEmpty, Updates}
-use Rattle.std.specs.declared.cmp.Ordering.{Ordering}
-use Rattle.std.specs.Ordering.{nat_cmp, is_eq}
+use Rattle.std.specs.Ordering.{is_eq}
 use Rattle.std.specs.Str.{bytes_eq}
 use Rattle.std.specs.List.{list_any}
-use Rattle.std.specs.Cmp.Lexicographic.{slice_cmp}
 use Rattle.std.proofs.lemmas.Cmp.{nat_list_eq_equiv}
 use Rattle.std.proofs.lemmas.Map.Text.{is_eq-slice_cmp}
 use Rattle.vortex_model.specs.Kept.{has_name, names_distinct}
 use Rattle.vortex_dtype_core.specs.View.{fields_of}
 use Rattle.vortex_dtype_core.specs.declared.struct_fields.StructField.{StructField}
 use Rattle.vortex_dtype_core.proofs.Views.{field_of-parts}
-
-abbrev pub text_cmp : Bor (List ℕ) → Bor (List ℕ) → Ordering
-text_cmp x y = slice_cmp nat_cmp x.now y.now
+use Rattle.vortex_table_schema.specs.Cut.{text_cmp}
 
 -- the set has the names of these fields
 abbrev pub IsSeen : BTreeSet (Bor (List ℕ)) → List StructField → Type 0

@@ -1,12 +1,10 @@
 -- What a table can hold, part by part.
-use Rattle.std.proofs.Common.{◌≡◌, refl, ap, sym, ◌∙◌, Bool, true, false, not, Some, None, List, ◌∷◌, if◌then◌else◌, rules}
+use Rattle.std.proofs.Common.{◌≡◌, refl, ap, sym, ◌∙◌, Bool, true, false, not, Some, None, List, ◌∷◌, if◌then◌else◌}
 use Rattle.vortex_model.specs.LogicalType.{struct, Fields, Nullability, non_nullable}
 use Rattle.vortex_model.specs.Refusal.{not_a_record, unkept_type, repeated_name, or_else}
 use Rattle.vortex_model.specs.Kept.{type_fault, part_fault, fields_fault, names_distinct}
 use Rattle.vortex_dtype_ptype.specs.Numbers.{NumberKind, integral, floating, type_of_numbers, is_real}
 use Rattle.vortex_dtype_core.specs.View.{type_of, fields_of}
-use Rattle.vortex_dtype_ptype.specs.declared.nullability.Nullability as outer
-use Rattle.vortex_dtype_core.specs.declared.dtype.DType as type
 use Rattle.vortex_dtype_core.specs.declared.struct_fields.StructField.{StructField}
 use Rattle.vortex_dtype_core.proofs.Views.{one_level, field_of-parts, extension_type-parts}
 use Rattle.vortex_table_schema.specs.Fault.{fault_of_numbers}

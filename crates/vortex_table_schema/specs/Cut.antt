@@ -1,8 +1,13 @@
 -- What a cut keeps of a type and of its values.
-use Rattle.std.specs.Prelude.{ℕ, suc, List, [], ◌∷◌, map, filter_map, Option, Some, None, Bool, true, false, if◌then◌else◌}
+use Rattle.std.specs.Prelude.{◌≡◌, ℕ, suc, List, [], ◌∷◌, map, filter_map, Option, Some, None, Bool, true, false, if◌then◌else◌}
 use Rattle.std.specs.Str.{bytes_eq}
 use Rattle.std.specs.List.{list_any}
 use Rattle.std.specs.Borrow.{Bor}
+use Rattle.std.specs.BTreeMap.{BTreeMap, get}
+use Rattle.std.specs.Cmp.Lexicographic.{slice_cmp}
+use Rattle.std.specs.Ordering.{nat_cmp}
+use Rattle.std.specs.declared.cmp.Ordering.{Ordering}
+use Rattle.std.specs.Global.{Vec}
 use Rattle.vortex_model.specs.LogicalType.{LogicalType, struct, Fields, no_fields, field}
 use Rattle.vortex_model.specs.Content.{Content, tuple, Contents, nothing, first, nth, Raw, raw_tuple, Raws, no_raws, raw_first}
 use Rattle.vortex_model.specs.Path.{Names}
@@ -81,10 +86,36 @@ is_root (x ∷ path) = false
 abbrev pub ask_for_all : List Names → Bool
 ask_for_all paths = list_any is_root paths
 
+-- the first name of a path, and what is left behind it
+abbrev pub first_step : Names → Option (List ℕ × Names)
+first_step [] = None
+first_step (x ∷ path) = Some (x, path)
+
+-- ---- paths by their first name, each without it
+
+abbrev pub text_cmp : Bor (List ℕ) → Bor (List ℕ) → Ordering
+text_cmp x y = slice_cmp nat_cmp x.now y.now
+
+abbrev pub PathIndex : Type 0
+PathIndex = BTreeMap (Bor (List ℕ)) (Vec (Bor (List Field)))
+
+abbrev pub group_of : Option (Vec (Bor (List Field))) → List Names
+group_of None = []
+group_of (Some v) = map names_at v.items
+
+-- under each name stand, in order, those of the paths that lead through it
+abbrev pub IsIndex : PathIndex → List Names → Type 0
+IsIndex m paths = (name : Bor (List ℕ)) → group_of (get text_cmp m name) ≡ strip_all name.now paths
+
 -- there are paths
 abbrev pub is_not_root : List Names → Bool
 is_not_root [] = false
 is_not_root (path ∷ paths) = true
+
+-- these are the paths, and there are some; or there are none
+abbrev pub AreBelow : Option (Bor (List (Bor (List Field)))) → List Names → Type 0
+AreBelow None paths = paths ≡ []
+AreBelow (Some left) paths = (map names_at left.now ≡ paths) × (is_not_root paths ≡ true)
 
 -- what the paths keep of a value of the type, and of a record's fields, of which the first has this
 -- position

@@ -1,19 +1,21 @@
 //! The part of a row that paths ask for: its type, and how it is taken from a row.
 //!
 //! `make_cut` is called once for a scan, and `cut_row` once for each row that is answered.
-ghost use Rattle.std.specs.Prelude.{◌≡◌, ◌++◌, ◌∷◌, [], IfOk, OnOk, IsTrue, map, option_map};
+ghost use Rattle.std.specs.Prelude.{◌≡◌, ◌++◌, ◌∷◌, [], false, List, IfOk, OnOk, IsTrue, map, option_map};
 ghost use Rattle.vortex_model.specs.Content.{content_of};
 ghost use Rattle.vortex_model.specs.Valid.{valid};
+ghost use Rattle.vortex_model.specs.Path.{Names};
 ghost use Rattle.vortex_model.specs.Cut.{cut_kind, cut_type};
 ghost use Rattle.vortex_model.specs.Command.{names_of};
 ghost use Rattle.vortex_dtype_core.specs.View.{type_of, field_of};
 ghost use Rattle.vortex_dtype_path.specs.View.{step_of};
 ghost use Rattle.vortex_scalar_value.specs.View.{raw_of};
 ghost use Rattle.vortex_scalar_core.specs.Scalar.{scalar_type, scalar_content};
-ghost use Rattle.vortex_table_schema.specs.Cut.{paths_of, names_at, strip_step, strip_all, is_root, ask_for_all, is_not_root, kept_by, whole, cut_named, kept_list, tree_of, part_of_field, raw_cut};
+ghost use Rattle.vortex_table_schema.specs.Cut.{paths_of, names_at, strip_all, is_root, ask_for_all, first_step, IsIndex, AreBelow, kept_by, whole, cut_named, kept_list, tree_of, part_of_field, raw_cut};
 
 use crate::projection::{ProjectedField, Projection, cut_value};
 use std::alloc::{AllocError, Global};
+use std::collections::BTreeMap;
 use vortex_dtype_core::dtype::DType;
 use vortex_dtype_core::struct_fields::{StructField, StructFields};
 use vortex_dtype_path::field::Field;
@@ -38,7 +40,7 @@ struct ProjectedFields {
 }
 
 impl ProjectedFields {
-    ghost use Rattle.std.specs.Prelude.{◌≡◌, ◌++◌, ◌∷◌, [], IfOk, OnOk, map};
+    ghost use Rattle.std.specs.Prelude.{◌≡◌, ◌++◌, ◌∷◌, [], false, List, IfOk, OnOk, map};
     ghost use Rattle.vortex_model.specs.LogicalType.{struct};
     ghost use Rattle.vortex_dtype_ptype.specs.View.{nullability_of_flag};
     ghost use Rattle.vortex_dtype_core.specs.View.{type_of, field_of, fields_of};
@@ -122,43 +124,69 @@ fn ask_for_all(paths: &[&[Field]]) -> bool
     false
 }
 
-// The steps behind a first step to this name. A path without a step asks for all, here too.
-fn strip_step<'a>(path: &'a [Field], name: &FieldName) -> Option<&'a [Field]>
-    ensures { option_map names_at result ≡ strip_step name.now (names_of (map step_of path.now)) }
+// The first name of a path, and the steps behind it.
+fn first_step<'a>(path: &'a [Field]) -> Option<(&'a FieldName, &'a [Field])>
+    ensures { option_map (λ p. (p.0.now, names_at p.1)) result
+        ≡ first_step (names_of (map step_of path.now)) }
 {
     match path {
-        [] => Some(path),
-        [Field::Name(first), rest @ ..] => { if first == name { Some(rest) } else { None } }
-        [Field::ElementType, rest @ ..] => strip_step(rest, name),
+        [] => None,
+        [Field::Name(first), rest @ ..] => Some((first, rest)),
+        [Field::ElementType, rest @ ..] => first_step(rest),
     }
 }
 
-// The steps behind this name, of each path that leads through it.
-fn strip_all<'a>(
+// One more path, which leads through this name. A group is taken out while it grows.
+
+fn add_path<'a>(
+    alloc: Global,
+    index: &mut BTreeMap<&'a str, Vec<&'a [Field]>, Global>,
+    name: &'a str,
+    rest: &'a [Field],
+) -> Result<(), AllocError>
+    ensures { OnOk result ((paths : List Names) → IsIndex index.old paths
+        → IsIndex index.new (paths ++ (name.now ∷ names_at rest.entry) ∷ [])) }
+{
+    let mut group = match index.remove(name) {
+        Some(group) => group,
+        None => Vec::new(alloc),
+    };
+    group.push(rest)?;
+    drop(index.insert(name, group)?);
+    Ok(())
+}
+
+// The paths by their first name, each without it. None is a root.
+fn index_paths<'a>(
     alloc: Global,
     paths: &[&'a [Field]],
-    name: &FieldName,
-) -> Result<Vec<&'a [Field]>, AllocError>
-    ensures { IfOk result (λ left. map names_at left.items
-        ≡ strip_all name.now (map names_at paths.now)) }
+) -> Result<BTreeMap<&'a str, Vec<&'a [Field]>, Global>, AllocError>
+    requires { ask_for_all (map names_at paths.now) ≡ false }
+    ensures { IfOk result (λ index. IsIndex index (map names_at paths.now)) }
 {
-    let mut left = Vec::new(alloc);
+    let mut index = BTreeMap::new(alloc);
     for path in paths {
-        match strip_step(path, name) {
-            Some(rest) => left.push(rest)?,
+        match first_step(path) {
+            Some((name, rest)) => add_path(alloc, &mut index, name.as_str(), rest)?,
             None => {}
         }
     }
-    Ok(left)
+    Ok(index)
 }
 
-fn is_not_root(paths: &[&[Field]]) -> bool
-    ensures { result ≡ is_not_root (map names_at paths.now) }
+// The steps behind this name, of each path that leads through it, where some do.
+fn steps_below<'i, 'a>(
+    index: &'i BTreeMap<&'a str, Vec<&'a [Field]>, Global>,
+    name: &FieldName,
+) -> Option<&'i [&'a [Field]]>
+    ensures { (paths : List Names) → IsIndex index.now paths
+        → AreBelow result (strip_all name.now paths) }
 {
-    match paths {
-        [] => false,
-        [_, ..] => true,
+    let group = index.get(name.as_str())?;
+    if group.is_empty() {
+        return None;
     }
+    Some(group.as_slice())
 }
 
 // All of a value is kept.
@@ -199,6 +227,7 @@ fn cut_fields(
     fields: &[StructField],
     paths: &[&[Field]],
 ) -> Result<ProjectedFields, AllocError>
+    requires { ask_for_all (map names_at paths.now) ≡ false }
     ensures parts { IfOk result (λ all. map field_of all.parts.items
         ≡ cut_named (map names_at paths.now) (map field_of fields.now)) }
     ensures kept { IfOk result (λ all. map part_of_field all.kept.items
@@ -208,11 +237,14 @@ fn cut_fields(
         parts: Vec::new(alloc),
         kept: Vec::new(alloc),
     };
+    let index = index_paths(alloc, paths)?;
     for (position, field) in fields.iter().enumerate() {
-        let left = strip_all(alloc, paths, &field.name)?;
-        if is_not_root(&left) {
-            let cut = cut_part(alloc, &field.dtype, &left)?;
-            all.push(position, field, cut)?;
+        match steps_below(&index, &field.name) {
+            Some(left) => {
+                let cut = cut_part(alloc, &field.dtype, left)?;
+                all.push(position, field, cut)?;
+            }
+            None => {}
         }
     }
     Ok(all)
@@ -230,7 +262,7 @@ fn steps_in<'a>(alloc: Global, paths: &'a [FieldPath]) -> Result<Vec<&'a [Field]
 }
 
 /// The part of values of the type that the paths ask for, in the order of the type's fields. It
-/// takes time in the order of the kept fields times the paths.
+/// takes time n log n in the number of fields and paths.
 pub fn make_cut(
     alloc: Global,
     dtype: &DType,

@@ -1,15 +1,25 @@
--- One more row of an answer.
-use Rattle.std.proofs.Common.{◌≡◌, refl, sym, ◌∙◌, ap, subst, ℕ, zero, suc, ◌+◌, ◌<◌, ◌≤◌, List, [], ◌∷◌, ◌++◌, length, take, map, filter, get_or, Bool, true, false, cond, append_assoc, append-nil, All, arith}
-use Rattle.std.proofs.lemmas.List.{length-map, map-append, take_more, take_all}
+-- The rows of an answer: what is read at their positions, and which positions those are.
+use Rattle.std.proofs.Common.{◌≡◌, refl, sym, ◌∙◌, ap, subst, ℕ, zero, suc, ◌+◌, ◌<◌, ◌≤◌, List, [], ◌∷◌, ◌++◌, length, take, map, filter, get_or, Bool, true, false, cond, Option, append_assoc, All, arith, IsTrue}
+use Rattle.std.specs.List.{range_with_len}
+use Rattle.std.proofs.lemmas.List.{length-map, map-append, get_or-map, take_more, take_all}
 use Rattle.std.proofs.lemmas.List.Elements.{All-push}
+use Rattle.std.proofs.lemmas.List.FromFn.{length-range_with_len, get_or-range_with_len}
+use Rattle.std.proofs.lemmas.Simd.{map-map}
 use Rattle.vortex_model.specs.LogicalType.{LogicalType}
-use Rattle.vortex_model.specs.Content.{Content, null, content_of}
-use Rattle.vortex_scalar_value.specs.View.{raw_of}
+use Rattle.vortex_model.specs.Content.{Content, null, content_of, raw_null}
+use Rattle.vortex_model.specs.Valid.{valid}
+use Rattle.vortex_model.specs.Laws.{TestsOfValidityAreRight}
+use Rattle.vortex_dtype_core.specs.View.{type_of}
+use Rattle.vortex_scalar_value.specs.View.{raw_in, content_in}
 use Rattle.vortex_scalar_core.specs.Scalar.{scalar_type, scalar_content}
 use Rattle.vortex_scalar_core.specs.declared.scalar.Scalar.{Scalar}
 use Rattle.vortex_scalar_value.specs.declared.scalar_value.ScalarValue.{ScalarValue}
-use Rattle.vortex_arrays_model.specs.Layout.{Layout, len_of, content_at, rows_of}
+use Rattle.vortex_arrays_buffer.specs.Bits.{positions_from, positions_of}
+use Rattle.vortex_arrays_buffer.proofs.Positions.{positions_within}
+use Rattle.vortex_arrays_model.specs.Layout.{Layout, len_of, array_type_of, content_at, rows_of, IsSound}
 use Rattle.vortex_arrays_model.proofs.RowsLemmas.{row_at_position, row_count}
+use Rattle.vortex_arrays_core.specs.RawRows.{raw_row}
+use Rattle.vortex_arrays_core.proofs.RawRowsLemmas.{says, raw_valid}
 use Rattle.vortex_stats_bind.specs.Bound.{Bound, bound_value}
 use Rattle.vortex_stats_select.specs.Wants.{wanted_rows}
 use Rattle.vortex_stats_select.proofs.WantLemmas.{wanted_true}
@@ -17,21 +27,49 @@ use Rattle.vortex_table_schema.specs.Rows.{row_content}
 use Rattle.vortex_table_schema.specs.Cut.{Tree, tree_of, content_cut, raw_cut}
 use Rattle.vortex_table_schema.proofs.Cuts.{cut_content_of}
 use Rattle.vortex_table_schema.specs.declared.cut.RowProjection.{RowProjection}
-use Rattle.vortex_table_select.specs.Selected.{is_selected, cut_rows, selected_rows, kept_rows}
+use Rattle.vortex_table_rows.specs.Lists.{cut_values}
+use Rattle.vortex_table_select.specs.Selected.{is_selected, selected_rows, CanBeCut}
 
--- ---- one row
+-- ---- rows that are read
 
-pub said_cut : (t : Tree) (row : ScalarValue) (c s : Content) → row_content row ≡ c → s ≡ content_of (raw_cut t (raw_of row)) → s ≡ content_cut t c
-said_cut t row c s e h = h ∙ cut_content_of t (raw_of row) ∙ ap (content_cut t) e
+-- what is said of values that are read at rows
+pub said_cut : (t : Tree) (a : Layout) (rows : List ℕ) (values : List (Option ScalarValue)) → map raw_in values ≡ cut_values t a rows → map content_in values ≡ map (content_cut t) (map (content_at a) rows)
+said_cut t a rows values e =
+    sym (map-map content_of raw_in values) ∙ ap (map content_of) e ∙ map-map content_of (λ i. raw_cut t (raw_row a i)) rows
+    ∙ (λ j. map (λ i. (cut_content_of t (raw_row a i) ∙ ap (content_cut t) (says a i)) j) rows)
+    ∙ sym (map-map (content_cut t) (content_at a) rows)
 
-pub pushed : (found new : List Scalar) (s : Scalar) (c : Content) → new ≡ found ++ s ∷ [] → scalar_content s ≡ c → map scalar_content new ≡ map scalar_content found ++ c ∷ []
-pushed found new s c e h = ap (map scalar_content) e ∙ map-append scalar_content found (s ∷ []) ∙ ap (λ x. map scalar_content found ++ x ∷ []) h
+-- each is one of the cut's type
+pub cut_valid : TestsOfValidityAreRight → (cut : RowProjection) (a : Layout) (rows : List ℕ) (values : List (Option ScalarValue)) → IsSound a → All (λ i. i < len_of a) rows → CanBeCut cut (array_type_of a) →
+    map raw_in values ≡ cut_values (tree_of cut.projection) a rows → All (λ v. IsTrue (valid (type_of cut.dtype) (raw_in v))) values
+cut_valid right cut a rows values s within can e k d l =
+    let t = tree_of cut.projection in
+    let many : length values ≡ length rows = sym (length-map values raw_in) ∙ ap length e ∙ length-map rows (λ i. raw_cut t (raw_row a i)) in
+    let inside : k < length rows = subst (λ n. k < n) many l in
+    let i = get_or rows k 0 in
+    let row = raw_row a i in
+    let is : raw_in (get_or values k d) ≡ raw_cut t row
+    = sym (get_or-map raw_in values k d raw_null l) ∙ ap (λ rs. get_or rs k raw_null) e ∙ get_or-map (λ n. raw_cut t (raw_row a n)) rows k 0 raw_null inside in
+    let held : valid (array_type_of a) row ≡ true = (right (array_type_of a) row).1 (raw_valid a s i (within k 0 inside)) in
+    subst (λ r. IsTrue (valid (type_of cut.dtype) r)) (sym is) (can row held)
+
+-- one more value as one of the type
+pub one_scalar : (found next : List Scalar) (left behind : List (Option ScalarValue)) (v : Option ScalarValue) (s : Scalar) (all : List Content) → left ≡ v ∷ behind → next ≡ found ++ s ∷ [] → scalar_content s ≡ content_in v →
+    map scalar_content found ++ map content_in left ≡ all → map scalar_content next ++ map content_in behind ≡ all
+one_scalar found next left behind v s all is made e h =
+    ap (λ xs. map scalar_content xs ++ map content_in behind) made
+    ∙ ap (λ xs. xs ++ map content_in behind) (map-append scalar_content found (s ∷ []))
+    ∙ append_assoc (map scalar_content found) (scalar_content s ∷ []) (map content_in behind)
+    ∙ ap (λ x. map scalar_content found ++ x ∷ map content_in behind) e
+    ∙ ap (λ xs. map scalar_content found ++ map content_in xs) (sym is) ∙ h
+
+-- the first of the values that are left, and the others
+pub first_left : (P : Option ScalarValue → Type 0) (left behind : List (Option ScalarValue)) (v : Option ScalarValue) → left ≡ v ∷ behind → All P left → P v × All P behind
+first_left P left behind v e h = let g = subst (All P) e h in (g 0 v (omega arith), λ k d l. g (suc k) d (omega arith))
 
 -- one more scalar of the kind
 pub kinds_more : (k : LogicalType) (found new : List Scalar) (s : Scalar) → new ≡ found ++ s ∷ [] → All (λ row. scalar_type row ≡ k) found → scalar_type s ≡ k → All (λ row. scalar_type row ≡ k) new
 kinds_more k found new s e h g = subst (λ xs. All (λ row. scalar_type row ≡ k) xs) (sym e) (All-push (λ row. scalar_type row ≡ k) found s h g)
-
-pub ruleset one_row = (said_cut, pushed, kinds_more)
 
 -- ---- the rows of an array, one by one
 
@@ -43,96 +81,45 @@ row_more a i l =
 rows_all : (a : Layout) (n : ℕ) → len_of a ≤ n → take n (rows_of a) ≡ rows_of a
 rows_all a n l = take_all n (rows_of a) (subst (λ m. m ≤ n) (sym (row_count a)) l)
 
--- what stands behind old contents, and one more
-further : (t : Tree) (old now next before : List Content) (c : Content) → now ≡ old ++ map (content_cut t) before → next ≡ now ++ content_cut t c ∷ [] → next ≡ old ++ map (content_cut t) (before ++ c ∷ [])
-further t old now next before c h e =
-    e ∙ ap (λ xs. xs ++ content_cut t c ∷ []) h ∙ append_assoc old (map (content_cut t) before) (content_cut t c ∷ [])
-    ∙ ap (λ xs. old ++ xs) (sym (map-append (content_cut t) before (c ∷ [])))
+pub range_within : (n : ℕ) → All (λ i. i < n) (range_with_len 0 n)
+range_within n k d l =
+    let small : k < n = subst (λ m. k < m) (length-range_with_len 0 n) l in
+    subst (λ m. m < n) (sym (get_or-range_with_len 0 n k d small)) (omega arith)
 
-pub taken_none : (cut : RowProjection) (a : Layout) (old now : List Content) → now ≡ old → now ≡ old ++ cut_rows cut (take 0 (rows_of a))
-taken_none cut a old now e = e ∙ sym (append-nil old)
+range_last : (s n : ℕ) → range_with_len s (suc n) ≡ range_with_len s n ++ (s + n) ∷ []
+range_last s zero = ap (λ m. m ∷ []) (let e : s ≡ s + 0 = omega arith in e)
+range_last s (suc n) = ap (λ l. s ∷ l) (range_last (s + 1) n ∙ ap (λ m. range_with_len (s + 1) n ++ m ∷ []) (let e : s + 1 + n ≡ s + suc n = omega arith in e))
 
-pub taken_more : (cut : RowProjection) (a : Layout) (i : ℕ) (old now next : List Content) → now ≡ old ++ cut_rows cut (take i (rows_of a)) → i < len_of a → next ≡ now ++ content_cut (tree_of cut.projection) (content_at a i) ∷ [] → next ≡ old ++ cut_rows cut (take (i + 1) (rows_of a))
-taken_more cut a i old now next h l e =
-    further (tree_of cut.projection) old now next (take i (rows_of a)) (content_at a i) h e ∙ ap (λ xs. old ++ cut_rows cut xs) (sym (row_more a i l))
+-- one position more
+pub range_more : (n : ℕ) → range_with_len 0 (n + 1) ≡ range_with_len 0 n ++ n ∷ []
+range_more n = ap (range_with_len 0) (let e : n + 1 ≡ suc n = omega arith in e) ∙ range_last 0 n ∙ ap (λ m. range_with_len 0 n ++ m ∷ []) (let e : 0 + n ≡ n = omega arith in e)
 
-pub taken_all : (cut : RowProjection) (a : Layout) (n : ℕ) (old now : List Content) → now ≡ old ++ cut_rows cut (take n (rows_of a)) → len_of a ≤ n → now ≡ old ++ cut_rows cut (rows_of a)
-taken_all cut a n old now h l = h ∙ ap (λ xs. old ++ cut_rows cut xs) (rows_all a n l)
-
-pub ruleset all_rows = (taken_none, taken_more, taken_all)
-
--- ---- by a mask
-
--- one more row, with its bit
-kept_more : (mask : List Bool) (rows : List Content) (b : Bool) (c : Content) → length mask ≡ length rows → kept_rows (mask ++ b ∷ []) (rows ++ c ∷ []) ≡ kept_rows mask rows ++ cond b (c ∷ []) []
-kept_more [] [] true c e = refl
-kept_more [] [] false c e = refl
-kept_more [] (x ∷ rows) b c e = absurd (omega (arith, e))
-kept_more (m ∷ mask) [] b c e = absurd (omega (arith, e))
-kept_more (true ∷ mask) (x ∷ rows) b c e = ap (λ xs. x ∷ xs) (kept_more mask rows b c (omega (arith, e)))
-kept_more (false ∷ mask) (x ∷ rows) b c e = kept_more mask rows b c (omega (arith, e))
-
-kept_one : (b : Bool) (c : Content) → kept_rows (b ∷ []) (c ∷ []) ≡ cond b (c ∷ []) []
-kept_one true c = refl
-kept_one false c = refl
-
-many_taken : {X : Type 0} (i : ℕ) (xs : List X) → i ≤ length xs → length (take i xs) ≡ i
-many_taken zero xs l = refl
-many_taken (suc i) [] l = absurd (omega (arith, l))
-many_taken (suc i) (x ∷ xs) l = ap suc (many_taken i xs (omega (arith, l)))
-
-module _ (cut : RowProjection) (a : Layout) (mask : List Bool) (i : ℕ) (b : Bool) (many : length mask ≡ len_of a) (inside : i < length mask) (is : b ≡ get_or mask i b) where
-  both : (t : Bool) → b ≡ t → kept_rows (take (i + 1) mask) (take (i + 1) (rows_of a)) ≡ kept_rows (take i mask) (take i (rows_of a)) ++ cond t (content_at a i ∷ []) []
-  both t e =
-      let within : i < len_of a = omega (arith, many, inside) in
-      let rows : i < length (rows_of a) = let n = row_count a in omega (arith, within, n) in
-      (λ j. kept_rows ((take_more mask i b inside ∙ ap (λ x. take i mask ++ x ∷ []) (sym is)) j) (row_more a i within j))
-      ∙ kept_more (take i mask) (take i (rows_of a)) b (content_at a i) (many_taken i mask (omega (arith, inside)) ∙ sym (many_taken i (rows_of a) (omega (arith, rows))))
-      ∙ ap (λ x. kept_rows (take i mask) (take i (rows_of a)) ++ cond x (content_at a i ∷ []) []) e
-
-  pub masked_more : (old now next : List Content) → now ≡ old ++ cut_rows cut (kept_rows (take i mask) (take i (rows_of a))) → next ≡ now ++ cut_rows cut (kept_rows (b ∷ []) (content_at a i ∷ [])) → next ≡ old ++ cut_rows cut (kept_rows (take (i + 1) mask) (take (i + 1) (rows_of a)))
-  masked_more old now next h e =
-      let t = tree_of cut.projection in
-      let front = kept_rows (take i mask) (take i (rows_of a)) in
-      let more = kept_rows (b ∷ []) (content_at a i ∷ []) in
-      e ∙ ap (λ xs. xs ++ cut_rows cut more) h ∙ append_assoc old (cut_rows cut front) (cut_rows cut more)
-      ∙ ap (λ xs. old ++ xs) (sym (map-append (content_cut t) front more))
-      ∙ ap (λ xs. old ++ cut_rows cut xs) (ap (λ xs. front ++ xs) (kept_one b (content_at a i)) ∙ sym (both b refl))
-
-pub masked_none : (cut : RowProjection) (a : Layout) (mask : List Bool) (old : List Content) → old ≡ old ++ cut_rows cut (kept_rows (take 0 mask) (take 0 (rows_of a)))
-masked_none cut a mask old = sym (append-nil old)
-
-pub masked_all : (cut : RowProjection) (a : Layout) (mask : List Bool) (n : ℕ) (old now : List Content) → now ≡ old ++ cut_rows cut (kept_rows (take n mask) (take n (rows_of a))) → length mask ≡ len_of a → length mask ≤ n → now ≡ old ++ cut_rows cut (kept_rows mask (rows_of a))
-masked_all cut a mask n old now h e l =
-    h ∙ (λ j. old ++ cut_rows cut (kept_rows (take_all n mask l j) (rows_all a n (omega (arith, e, l)) j)))
-
-pub ruleset masked_rows = (masked_none, masked_more, masked_all)
-
-pub bit_yes : (cut : RowProjection) (b : Bool) (c : Content) (old new : List Content) → b ≡ true → new ≡ old ++ content_cut (tree_of cut.projection) c ∷ [] → new ≡ old ++ cut_rows cut (kept_rows (b ∷ []) (c ∷ []))
-bit_yes cut b c old new t h = h ∙ ap (λ x. old ++ cut_rows cut (kept_rows (x ∷ []) (c ∷ []))) (sym t)
-
-pub bit_no : (cut : RowProjection) (b : Bool) (c : Content) (old : List Content) → b ≡ false → old ≡ old ++ cut_rows cut (kept_rows (b ∷ []) (c ∷ []))
-bit_no cut b c old t = sym (append-nil old) ∙ ap (λ x. old ++ cut_rows cut (kept_rows (x ∷ []) (c ∷ []))) (sym t)
-
-pub ruleset one_bit = (bit_yes, bit_no)
+pub ruleset all_rows = (range_more)
 
 -- ---- the mask of a predicate
 
-keeps_one : (p : Content → Bool) (c : Content) (rows : List Content) → kept_rows (map p rows) rows ≡ filter p rows → (b : Bool) → kept_rows (b ∷ map p rows) (c ∷ rows) ≡ cond b (c ∷ filter p rows) (filter p rows)
-keeps_one p c rows h true = ap (λ xs. c ∷ xs) h
-keeps_one p c rows h false = h
+-- the positions of the rows that p holds of
+keeps_one : (f : ℕ → Content) (p : Content → Bool) (s : ℕ) (mask : List Bool) (rows : List Content) (b : Bool) → map f (positions_from (suc s) mask) ≡ filter p rows →
+    map f (positions_from s (b ∷ mask)) ≡ cond b (f s ∷ filter p rows) (filter p rows)
+keeps_one f p s mask rows true h = ap (λ xs. f s ∷ xs) h
+keeps_one f p s mask rows false h = h
 
-mask_keeps : (p : Content → Bool) (rows : List Content) → kept_rows (map p rows) rows ≡ filter p rows
-mask_keeps p [] = refl
-mask_keeps p (c ∷ rows) = keeps_one p c rows (mask_keeps p rows) (p c)
+mask_keeps : (f : ℕ → Content) (p : Content → Bool) (s n : ℕ) → map f (positions_from s (map p (map f (range_with_len s n)))) ≡ filter p (map f (range_with_len s n))
+mask_keeps f p s zero = refl
+mask_keeps f p s (suc n) =
+    let rows = map f (range_with_len (s + 1) n) in let one : suc s ≡ s + 1 = omega arith in
+    keeps_one f p s (map p rows) rows (p (f s)) (ap (λ m. map f (positions_from m (map p rows))) one ∙ mask_keeps f p (s + 1) n)
 
 pub mask_many : (predicate : Bound) (a : Layout) (mask : List Bool) → mask ≡ map (is_selected predicate) (rows_of a) → length mask ≡ len_of a
 mask_many predicate a mask e = ap length e ∙ length-map (rows_of a) (is_selected predicate) ∙ row_count a
 
-pub mask_selects : (predicate : Bound) (cut : RowProjection) (a : Layout) (mask : List Bool) (old new : List Content) → mask ≡ map (is_selected predicate) (rows_of a) → new ≡ old ++ cut_rows cut (kept_rows mask (rows_of a)) → new ≡ old ++ cut_rows cut (selected_rows predicate (rows_of a))
-mask_selects predicate cut a mask old new e h = h ∙ ap (λ xs. old ++ cut_rows cut xs) (ap (λ m. kept_rows m (rows_of a)) e ∙ mask_keeps (is_selected predicate) (rows_of a))
+pub mask_within : (predicate : Bound) (a : Layout) (mask : List Bool) → mask ≡ map (is_selected predicate) (rows_of a) → All (λ i. i < len_of a) (positions_of mask)
+mask_within predicate a mask e = subst (λ n. All (λ i. i < n) (positions_of mask)) (mask_many predicate a mask e) (positions_within mask)
 
-pub ruleset masked = (mask_many, mask_selects)
+pub mask_selects : (predicate : Bound) (a : Layout) (mask : List Bool) → mask ≡ map (is_selected predicate) (rows_of a) → map (content_at a) (positions_of mask) ≡ selected_rows predicate (rows_of a)
+mask_selects predicate a mask e = ap (λ m. map (content_at a) (positions_of m)) e ∙ mask_keeps (content_at a) (is_selected predicate) 0 (len_of a)
+
+pub ruleset masked = (mask_within, mask_selects)
 
 pub tested_more : (predicate : Bound) (a : Layout) (i : ℕ) (xs ys : List Bool) (row : ScalarValue) (b : Bool) → xs ≡ map (is_selected predicate) (take i (rows_of a)) → i < len_of a → row_content row ≡ content_at a i → b ≡ is_selected predicate (row_content row) → ys ≡ xs ++ b ∷ [] → ys ≡ map (is_selected predicate) (take (i + 1) (rows_of a))
 tested_more predicate a i xs ys row b h l e t made =

@@ -1,5 +1,5 @@
 -- The rows that a scan finds among rows as they are stored.
-use Rattle.std.specs.Prelude.{◌≡◌, List, [], ◌∷◌, map, filter, Bool, true, false, IsTrue}
+use Rattle.std.specs.Prelude.{◌≡◌, List, map, filter, Bool, true, IsTrue}
 use Rattle.vortex_model.specs.LogicalType.{LogicalType}
 use Rattle.vortex_model.specs.Content.{Content, Raw}
 use Rattle.vortex_model.specs.Truth.{is_true}
@@ -19,12 +19,6 @@ cut_rows cut rows = map (content_cut (tree_of cut.projection)) rows
 
 abbrev pub selected_rows : Bound → List Content → List Content
 selected_rows predicate rows = filter (is_selected predicate) rows
-
--- the rows where the mask is true
-abbrev pub kept_rows : List Bool → List Content → List Content
-kept_rows (true ∷ mask) (row ∷ rows) = row ∷ kept_rows mask rows
-kept_rows (false ∷ mask) (row ∷ rows) = kept_rows mask rows
-kept_rows mask rows = []
 
 -- each value of the type can be cut to one of the cut's type
 abbrev pub CanBeCut : RowProjection → LogicalType → Type 0

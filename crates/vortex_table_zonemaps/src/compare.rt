@@ -4,7 +4,6 @@ ghost use Rattle.std.specs.Ordering.{int_cmp};
 ghost use Rattle.vortex_model.specs.Content.{Content, integer};
 ghost use Rattle.vortex_model.specs.Truth.{compared, is_true, test_of};
 ghost use Rattle.vortex_stats_expr.specs.Tree.{comparison_of};
-ghost use Rattle.vortex_stats_mask.specs.Wanted.{swapped};
 ghost use Rattle.vortex_table_zonemaps.specs.Column.{AreNumbers};
 ghost use Rattle.vortex_table_zonemaps.specs.Side.{IsSideOf};
 ghost use Rattle.vortex_table_zonemaps.specs.Zones.{Zone};
@@ -14,6 +13,7 @@ use std::alloc::{AllocError, Global};
 use vortex_stats_expr::operator::Comparison;
 use vortex_stats_mask::masks::both;
 use vortex_stats_mask::numbers::compare_each;
+use vortex_stats_mask::turned::swapped;
 
 // What a side of a comparison is in each of several zones.
 #[derive(Clone, Copy)]
@@ -21,19 +21,6 @@ pub(crate) enum Side<'a> {
     // The same in all of them.
     Number(i64),
     Column(NumberSlice<'a>),
-}
-
-fn swapped(comparison: Comparison) -> Comparison
-    ensures { comparison_of result ≡ swapped (comparison_of comparison) }
-{
-    match comparison {
-        Comparison::Eq => Comparison::Eq,
-        Comparison::NotEq => Comparison::NotEq,
-        Comparison::Gt => Comparison::Lt,
-        Comparison::Gte => Comparison::Lte,
-        Comparison::Lt => Comparison::Gt,
-        Comparison::Lte => Comparison::Gte,
-    }
 }
 
 // Which numbers stand so to a number. The comparison is matched once.

@@ -3,11 +3,17 @@
 
 mod bounds;
 mod checks;
+mod dictionaries;
+mod falsifiers;
 mod lower_bounds;
+mod make_arrays;
 mod orders;
+mod placeholders;
 mod precision;
 mod proofs;
+mod refusals;
 mod rules;
+mod trees;
 mod upper_bounds;
 mod values;
 
@@ -17,6 +23,7 @@ use std::alloc::Global;
 use std::process::ExitCode;
 use vortex_dtype::DTypeError;
 use vortex_scalar::ScalarError;
+use vortex_stats::StatsError;
 
 fn run(alloc: Global, checks: &mut Checks<'_>) -> Done {
     precision::run(alloc, checks)?;
@@ -33,13 +40,33 @@ fn run(alloc: Global, checks: &mut Checks<'_>) -> Done {
     checks.end_part("proofs with their columns resolved");
     rules::run(alloc, checks)?;
     checks.end_part("rules of the caller");
+    falsifiers::run(alloc, checks).map_err(of_stats)?;
+    checks.end_part("falsifiers of LIKE, of floats and of literals");
+    placeholders::run(alloc, checks).map_err(of_stats)?;
+    checks.end_part("values of placeholders");
+    refusals::run(alloc, checks).map_err(of_stats)?;
+    checks.end_part("refusals of predicates");
+    Ok(())
+}
+
+/// Want of memory, and anything else as a value that isn't right.
+fn of_stats(error: StatsError) -> ScalarError {
+    match error {
+        StatsError::Memory => ScalarError::Memory,
+        _ => ScalarError::Invalid,
+    }
+}
+
+fn run_arrays(alloc: Global, checks: &mut Checks<'_>) -> Result<(), DTypeError> {
+    dictionaries::run(alloc, checks)?;
+    checks.end_part("statistics of dictionaries and constants");
     Ok(())
 }
 
 fn main(rt: HostRuntime) -> ExitCode {
     let mut checks = Checks::new(&rt);
     let outcome = match run(rt.alloc(), &mut checks) {
-        Ok(()) => Ok(()),
+        Ok(()) => run_arrays(rt.alloc(), &mut checks),
         Err(ScalarError::Memory) => Err(DTypeError::Memory),
         Err(error) => {
             let _ = println!(rt; "refused, since {error}");

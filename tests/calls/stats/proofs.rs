@@ -1,15 +1,15 @@
 //! Proofs with their columns resolved, and what answers their placeholders.
 
 use crate::checks::Checks;
-use crate::values::{Done, WITHOUT, number, numbers};
+use crate::values::{Done, WITH, WITHOUT, number, numbers};
 use std::alloc::{AllocError, Global};
 use vortex_dtype::{BufferString, DType, FieldName, FieldNames, StructField, StructFields};
 use vortex_scalar::{Scalar, ScalarError, ScalarValue};
 use vortex_stats::Value as Operand;
 use vortex_stats::{
-    AggregateFn, BetweenOptions, BoundExpression, Expression, LikeOptions, Meter, Operands,
-    StatBinder, StatsError, StrictComparison, between, bind, bind_proof, bind_stats,
-    bound_literal, col, eq, falsify, gt, is_nan, is_not_null, is_null, like, lit, lt, not, prove,
+    AggregateFn, BetweenOptions, BoundExpression, BoundTree, Expression, LikeOptions, Meter,
+    Operands, StatBinder, StatsError, StrictComparison, between, bind, bind_proof, bind_stats,
+    bound_literal, col, eq, falsify, gt, is_nan, is_not_null, is_null, like, lit, lt, not,
     row_count, satisfy, stat,
 };
 
@@ -30,7 +30,7 @@ impl Operands for Known {
         Operand::Null
     }
 
-    fn statistic<'a>(&'a self, input: &BoundExpression, aggregate: AggregateFn) -> Operand<'a> {
+    fn statistic<'a>(&'a self, input: &BoundTree, aggregate: AggregateFn) -> Operand<'a> {
         if input.as_column() != Some(&[0]) {
             return Operand::Null;
         }
@@ -53,16 +53,16 @@ impl StatBinder for Known {
 
     ghost missing = { λ _. null };
 
-    fn missing_stat(&self, _alloc: Global) -> Result<BoundExpression, AllocError> {
+    fn missing_stat(&self, _alloc: Global) -> Result<BoundTree, AllocError> {
         Ok(bound_literal(None))
     }
 
     fn bind_aggregate(
         &self,
         _alloc: Global,
-        input: &BoundExpression,
+        input: &BoundTree,
         aggregate: AggregateFn,
-    ) -> Result<Option<BoundExpression>, AllocError> {
+    ) -> Result<Option<BoundTree>, AllocError> {
         match self.statistic(input, aggregate) {
             Operand::Stored(value) => Ok(Some(bound_literal(Some(value.clone()?)))),
             _ => Ok(None),
@@ -111,26 +111,27 @@ fn is_no_truth(error: StatsError) -> bool {
 }
 
 /// The proof that no row has more than 5 in the column of this name.
-fn none_above(alloc: Global, dtype: &DType, name: &str) -> Result<BoundExpression, ScalarError> {
+fn none_above(alloc: Global, dtype: &DType, name: &str) -> Result<Expression, ScalarError> {
     let predicate = gt(alloc, column(alloc, name)?, constant(5)?)?;
     match made(falsify(alloc, dtype, &predicate, &[], &mut Meter::new()))? {
-        Some(proof) => Ok(bind_proof(alloc, &proof, dtype)?),
-        None => Ok(bound_literal(None)),
+        Some(proof) => Ok(proof),
+        None => Ok(lit(Scalar::null(DType::Bool(WITH)))),
     }
 }
 
 pub fn run(alloc: Global, checks: &mut Checks<'_>) -> Done {
     let dtype = one_column(alloc)?;
-    let proof = none_above(alloc, &dtype, "a")?;
+    let expression = none_above(alloc, &dtype, "a")?;
+    let proof = bind_proof(alloc, &expression, &dtype)?;
     let counted = null_test(alloc, &dtype)?;
     checks.holds("a bound that proves", proof.holds(&known(Some(5), 0)));
     checks.holds("one that doesn't", !proof.holds(&known(Some(6), 0)));
     checks.holds("an unknown bound", !proof.holds(&known(None, 0)));
     checks.holds("a count", counted.holds(&known(None, 3)));
     checks.holds("a greater count", !counted.holds(&known(None, 4)));
-    let unknown = none_above(alloc, &dtype, "b")?;
+    let unknown = bind_proof(alloc, &none_above(alloc, &dtype, "b")?, &dtype)?;
     checks.holds("no such column", !unknown.holds(&known(Some(5), 0)));
-    let row = two_steps(alloc, checks, &dtype, &proof)?;
+    let row = two_steps(alloc, checks, &dtype, &expression)?;
     only_nulls(alloc, checks, &dtype)?;
     each_form(alloc, checks, &dtype, &row)?;
     checks.holds("statistics at a row", !proof.holds(&row) && !proof.selects(&row));
@@ -138,28 +139,31 @@ pub fn run(alloc: Global, checks: &mut Checks<'_>) -> Done {
 }
 
 /// Whether fewer than 4 rows are null.
-fn null_test(alloc: Global, dtype: &DType) -> Result<BoundExpression, ScalarError> {
+fn null_test(alloc: Global, dtype: &DType) -> Result<BoundTree, ScalarError> {
     let count = stat(alloc, AggregateFn::NullCount, column(alloc, "a")?)?;
     let test = lt(alloc, count, constant(4)?)?;
     Ok(bind_proof(alloc, &test, dtype)?)
 }
 
-/// Binds statistics and proves what is left. A row of the type is answered.
+/// Binds statistics and evaluates what is left, of which nothing more is known. A row of the type
+/// is answered.
 fn two_steps(
     alloc: Global,
     checks: &mut Checks<'_>,
     dtype: &DType,
-    proof: &BoundExpression,
+    proof: &Expression,
 ) -> Result<ScalarValue, ScalarError> {
-    let bound = bind_stats(alloc, proof, &known(Some(5), 0))?;
-    checks.holds("bound and proved", prove(&bound, 4) == Some(true));
-    let bound = bind_stats(alloc, proof, &known(Some(6), 0))?;
-    checks.holds("bound and false", prove(&bound, 4) == Some(false));
-    let bound = bind_stats(alloc, proof, &known(None, 0))?;
-    checks.holds("bound to null", prove(&bound, 4) == None);
+    let proof = settled(bind(alloc, proof, dtype))?;
+    let nothing = known(None, 0);
+    let bound = bind_stats(alloc, &proof, &known(Some(5), 0))?;
+    checks.holds("bound and proved", bound.tree.holds(&nothing) && bound.has_truth);
+    let bound = bind_stats(alloc, &proof, &known(Some(6), 0))?;
+    checks.holds("bound and false", !bound.tree.holds(&nothing));
+    let bound = bind_stats(alloc, &proof, &nothing)?;
+    checks.holds("bound to null", !bound.tree.holds(&known(Some(5), 0)));
+    checks.holds("of truth type", bound.dtype.is_boolean());
     let read = gt(alloc, column(alloc, "a")?, constant(5)?)?;
     let read = bind_proof(alloc, &read, dtype)?;
-    checks.holds("a column has no value", prove(&read, 4) == None);
     let refused = satisfy(alloc, dtype, &constant(5)?, &[], &mut Meter::new());
     checks.holds("a number is no truth", refused.is_err_and(is_no_truth));
     let mut cells = Vec::new(alloc);
@@ -176,7 +180,7 @@ fn only_nulls(alloc: Global, checks: &mut Checks<'_>, dtype: &DType) -> Done {
     checks.holds("as many nulls as rows", proof.holds(&known(None, 4)));
     checks.holds("fewer nulls than rows", !proof.holds(&known(None, 3)));
     let rows = bind_proof(alloc, &eq(alloc, row_count(), row_count())?, dtype)?;
-    checks.holds("a number of rows", prove(&rows, 7) == Some(true));
+    checks.holds("a number of rows", rows.holds(&known(None, 0)));
     Ok(())
 }
 
@@ -214,8 +218,14 @@ fn is_true(
     row: &ScalarValue,
     predicate: Expression,
 ) -> Result<bool, ScalarError> {
-    match bind(alloc, &predicate, dtype) {
-        Ok(bound) => Ok(bound.selects(row)),
+    let bound = settled(bind(alloc, &predicate, dtype))?;
+    Ok(bound.tree.selects(row))
+}
+
+/// The bound expression, or the error as one of values.
+fn settled(bound: Result<BoundExpression, StatsError>) -> Result<BoundExpression, ScalarError> {
+    match bound {
+        Ok(bound) => Ok(bound),
         Err(StatsError::Memory) => Err(ScalarError::Memory),
         Err(_) => Err(ScalarError::Invalid),
     }

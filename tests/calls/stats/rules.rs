@@ -161,7 +161,7 @@ pub fn run(alloc: Global, checks: &mut Checks<'_>) -> Done {
     for (i, fault) in faults.iter().enumerate() {
         faulty(alloc, checks, &dtype, i, *fault)?;
     }
-    Ok(())
+    want_of_memory(alloc, checks, &dtype)
 }
 
 /// The answer, or want of memory as one of values.
@@ -240,5 +240,19 @@ fn faulty(
     let other = gt(alloc, column(alloc, "a")?, constant(3)?)?;
     let other = judged(falsify(alloc, dtype, &other, &rules, &mut meter))?;
     checks.holds_at("another root", number, other == StatsError::NoOverlap);
+    Ok(())
+}
+
+/// A rule that has no memory is no faulty rule.
+fn want_of_memory(alloc: Global, checks: &mut Checks<'_>, dtype: &DType) -> Done {
+    let mut rules = two_rules(alloc)?;
+    let fault = Fault::Error(StatsError::Memory);
+    rules.push(Box::new(alloc, Faulty { fault })?)?;
+    let mut meter = Meter::new();
+    let predicate = not(alloc, column(alloc, "b")?)?;
+    let none = falsify(alloc, dtype, &predicate, &rules, &mut meter);
+    checks.holds("no memory", matches!(none, Err(StatsError::Memory)));
+    let all = satisfy(alloc, dtype, &predicate, &rules, &mut meter);
+    checks.holds("no memory for every row", matches!(all, Err(StatsError::Memory)));
     Ok(())
 }

@@ -8,6 +8,7 @@ mod faults;
 mod groups;
 mod leaves;
 mod make;
+mod rules;
 mod scans;
 
 use crate::checks::Checks;
@@ -35,6 +36,10 @@ fn run_all(alloc: Global, checks: &mut Checks<'_>) -> Result<(), TableError> {
     checks.end_part("groups are looked at first");
     leaves::groups_have_bounds_of_bytes(alloc, checks)?;
     checks.end_part("groups have bounds of bytes");
+    rules::rules_add_proofs(alloc, checks)?;
+    checks.end_part("rules add proofs");
+    rules::rules_may_be_at_fault(alloc, checks)?;
+    checks.end_part("rules may be at fault");
     Ok(())
 }
 

@@ -1,11 +1,17 @@
-//! Tests of the Rust crate on what is known of statistics, under their names there.
+//! Tests of the Rust crate on statistics, on placeholders for them, and on rewriting and binding,
+//! under their names there.
 #![tactic(auto)]
 
+mod bind;
 mod bound;
+mod builtins;
 mod checks;
+mod expr;
 mod merges;
+mod rewrite;
 mod stat;
 mod stats_set;
+mod trees;
 mod values;
 
 use crate::checks::Checks;
@@ -25,6 +31,14 @@ fn run(alloc: Global, checks: &mut Checks<'_>) -> Done {
     stats_set::run(alloc, checks)?;
     merges::run(alloc, checks)?;
     checks.end_part("stats/stats_set.rs");
+    rewrite::run(alloc, checks)?;
+    checks.end_part("stats/rewrite.rs");
+    builtins::run(alloc, checks)?;
+    checks.end_part("stats/rewrite/builtins.rs");
+    bind::run(alloc, checks)?;
+    checks.end_part("stats/bind.rs");
+    expr::run(alloc, checks)?;
+    checks.end_part("stats/expr.rs");
     Ok(())
 }
 

@@ -1,19 +1,51 @@
-use Rattle.std.proofs.Common.{◌≡◌, ◌∙◌, refl, ap, sym, subst, length, IfSome, arith, true}
+use Rattle.std.proofs.Common.{◌≡◌, ◌∙◌, ◌<◌, ◌+◌, get_or, refl, ap, sym, subst, length, IfSome, arith, true}
 use Rattle.std.proofs.lemmas.Result.{IfOk-weaker}
 use Rattle.vortex_model.specs.LogicalType.{list, fixed_list, struct}
 use Rattle.vortex_dtype_ptype.specs.View.{nullability_of_flag}
 use Rattle.vortex_dtype_core.specs.View.{type_of, fields_of, fields_in}
 use Rattle.vortex_dtype_core.proofs.Views.{type_of-List, type_of-FixedSizeList, type_of-Struct}
 use Rattle.vortex_dtype_fields.specs.Records.{names_of}
-use Rattle.vortex_arrays_model.specs.Layout.{fixed_lists, list_views, records, len_of}
+use Rattle.vortex_arrays_model.specs.Layout.{fixed_lists, list_views, records, len_of, size_of, row_at, IsSound}
 use Rattle.vortex_arrays_model.specs.Parts.{columns_of}
-use Rattle.vortex_arrays_core.specs.LayoutOf.{valid_of}
+use Rattle.vortex_arrays_model.proofs.PicksLemmas.{field_size}
+use Rattle.vortex_model.specs.Content.{tuple}
+use Rattle.vortex_arrays_core.specs.LayoutOf.{valid_of, layout_of}
 use Rattle.vortex_arrays_validity.specs.Validities.{IsRecast}
 use Rattle.vortex_arrays_cast.specs.Cast.{IsCast, AreCast}
 use Rattle.vortex_arrays_cast.proofs.CastLemmas.{cast_records, first_named, first_fit}
 use Rattle.vortex_arrays_cast.proofs.EvenLemmas.{made_sound, made_back, some_weaker}
 use Rattle.vortex_arrays_cast.proofs.ListLemmas.{cast_fixed_lists, cast_list_views}
+use Rattle.vortex_arrays_cast.specs.Ranges.{AreRangesOf, LieIn}
+use Rattle.vortex_arrays_cast.proofs.RangeLemmas.{field_ranges}
 use Rattle.vortex_arrays_cast.proofs.cast.+cast.Goals as goal
+
+pub cast_part-cast_numbers-requires-clause-range : goal.cast_part-cast_numbers-requires-clause-range
+cast_part-cast_numbers-requires-clause-range t c =
+    subst (LieIn c.own_range.result) (sym c.layout.ensures.layout ∙ ap layout_of c.in-Primitive.is) (c.own_range.ensures c.args.array.now c.requires)
+
+pub cast_part-cast_records-requires : goal.cast_part-cast_records-requires
+cast_part-cast_records-requires t c =
+    let fs = c.in-Struct.fields.items in let n = c.in-Struct.len in let v = valid_of c.in-Struct.validity in
+    let same : c.args.array.now ≡ records (columns_of c.deref.result.now fs) n v
+    = sym c.layout.ensures.layout ∙ ap layout_of c.in-Struct.is ∙ ap (λ xs. records (columns_of xs fs) n v) (sym c.deref.ensures) in
+    let size = ap size_of same in let falls = c.decreases in
+    let sound : IsSound (records (columns_of c.deref.result.now fs) n v) = subst IsSound (c.layout.ensures.layout ∙ same) c.layout.ensures.sound in (
+      omega (arith, falls, size),
+      (sound.0, (sound.1, subst (λ a. AreRangesOf c.args.depth a c.args.ranges.now) same c.requires)),
+    )
+
+pub cast_fields-cast_part-requires : goal.cast_fields-cast_part-requires
+cast_fields-cast_part-requires t c =
+    let xs = c.args.names.now in let fs = c.args.fields.now.items in let i = c.loop-i.i in let a = c.index.result.now in
+    let test = c.loop-i-test.true in let end = c.loop-i.auto.i-end in let count = c.len-i-end.ensures in let falls = c.decreases in
+    let here : a ≡ get_or fs i a = c.index.ensures in
+    let inside : i < length fs = grind (arith, test, end, count) in
+    let smaller = field_size xs fs i a here inside in
+    let below : c.in-Some.below ≡ c.args.depth + 1 = c.in-Some.ensures.1 in (
+      omega (arith, falls, smaller),
+      subst (λ d. AreRangesOf d a c.in_field-own.result.now) (sym below) (field_ranges (c.args.depth + 1) c.args.len i xs fs a c.in_field-own.result.now c.requires.fit inside here
+          (c.in_field-own.ensures.field c.args.len (λ k. tuple (row_at (columns_of xs fs) k)) c.requires.ranges)),
+    )
 
 pub cast_fields-returns-clause-named : goal.cast_fields-returns-clause-named
 cast_fields-returns-clause-named t c =
@@ -21,7 +53,7 @@ cast_fields-returns-clause-named t c =
     let test = c.loop-i-test.false in let before = c.loop-i.auto.i-end in let count = c.len-i-end.ensures in let same = c.if-len-targets.false in let first = c.len.ensures in
     let all : c.loop-i.i ≡ length fs = grind (arith, test, before, count) in
     let many : length ts ≡ length fs = grind (arith, same, first) in
-    first_named ts fs c.loop-i.i c.loop-i.columns.items c.loop-i.invariant all many
+    first_named ts fs c.loop-i.i c.loop-i.columns.items c.loop-i.invariant.0 all many
 
 pub cast_fields-returns-clause-fit : goal.cast_fields-returns-clause-fit
 cast_fields-returns-clause-fit t c =
@@ -29,7 +61,7 @@ cast_fields-returns-clause-fit t c =
     let test = c.loop-i-test.false in let before = c.loop-i.auto.i-end in let count = c.len-i-end.ensures in let same = c.if-len-targets.false in let first = c.len.ensures in
     let all : c.loop-i.i ≡ length fs = grind (arith, test, before, count) in
     let many : length ts ≡ length fs = grind (arith, same, first) in
-    first_fit c.args.names.now ts fs c.loop-i.i c.args.len c.loop-i.columns.items c.loop-i.invariant all many c.requires.fit
+    first_fit c.args.names.now ts fs c.loop-i.i c.args.len c.loop-i.columns.items c.loop-i.invariant.0 all many c.requires.fit
 
 pub cast_fixed_lists-returns : goal.cast_fixed_lists-returns
 cast_fixed_lists-returns t c =

@@ -1,4 +1,4 @@
-use Rattle.std.proofs.Common.{◌+◌, ◌*◌}
+use Rattle.std.proofs.Common.{◌+◌, ◌*◌, ◌≤◌, length}
 use Rattle.vortex_arrays_model.specs.Layout.{size_of, columns_size}
 use Rattle.vortex_arrays_model.specs.Parts.{columns_of}
 use Rattle.vortex_arrays_cast.proofs.CastLemmas.{FirstCast}
@@ -26,4 +26,5 @@ abbrev pub decreases-cast_any_lists : goal.decreases-cast_any_lists
 decreases-cast_any_lists l = 3 * size_of l.elements.now + 2
 
 abbrev pub invariant-cast_fields-loop-i : goal.invariant-cast_fields-loop-i
-invariant-cast_fields-loop-i l = FirstCast l.targets l.fields.items l.i l.columns.items
+invariant-cast_fields-loop-i l =
+    FirstCast l.targets l.fields.items l.i l.columns.items × (l.from ≤ length l.ranges)

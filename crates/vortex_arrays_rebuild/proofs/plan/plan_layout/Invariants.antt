@@ -7,6 +7,6 @@ use Rattle.vortex_arrays_rebuild.proofs.plan.plan_layout.Given as goal
 
 abbrev pub invariant-loop-i : goal.invariant-loop-i
 invariant-loop-i l = record {
-  canonical : IsCanonical (take l.i (rows_of (list_views l.elements l.offsets l.sizes false (valid_of l.validity)))) l.starts.items l.counts.items (map (content_at l.elements) (positions_in l.runs.done.items ++ positions_of l.runs.last));
+  canonical : IsCanonical (take l.i (rows_of (list_views l.elements l.offsets l.sizes false (valid_of l.validity)))) l.new_starts.items l.new_counts.items (map (content_at l.elements) (positions_in l.runs.done.items ++ positions_of l.runs.last));
   limit : l.runs.limit ≡ len_of l.elements;
 }

@@ -1,8 +1,8 @@
-use Rattle.std.proofs.Common.{◌∙◌, ap, sym, map, not}
+use Rattle.std.proofs.Common.{◌∙◌, ap, sym, subst, map, not}
 use Rattle.std.specs.List.{range_with_len}
 use Rattle.std.proofs.lemmas.Result.{IfOk-weaker}
 use Rattle.vortex_model.specs.Content.{is_null}
-use Rattle.vortex_arrays_model.specs.Layout.{rows_of, is_valid}
+use Rattle.vortex_arrays_model.specs.Layout.{rows_of, is_valid, IsSound}
 use Rattle.vortex_arrays_model.specs.Parts.{columns_of}
 use Rattle.vortex_arrays_buffer.specs.PrimitiveBuffers.{kind_of_numbers, integers_of}
 use Rattle.vortex_arrays_core.specs.LayoutOf.{layout_of, valid_of, strings_of}
@@ -42,5 +42,8 @@ returns-in-Struct c =
 pub returns-in-Constant : goal.returns-in-Constant
 returns-in-Constant c = IfOk-weaker c.looked_at.result _ _ (λ mask is. is ∙ looked c.args.column.now) c.looked_at.ensures
 
-pub returns-in-Dict : goal.returns-in-Dict
-returns-in-Dict c = IfOk-weaker c.looked_at-in-Dict.result _ _ (λ mask is. is ∙ looked c.args.column.now) c.looked_at-in-Dict.ensures
+pub present_coded-requires-clause-within : goal.present_coded-requires-clause-within
+present_coded-requires-clause-within c = (subst IsSound (ap layout_of c.in-Dict.is) c.layout.ensures.sound).3
+
+pub present_coded-requires-clause-column : goal.present_coded-requires-clause-column
+present_coded-requires-clause-column c f = ap rows_of (sym c.layout.ensures.layout ∙ ap layout_of c.in-Dict.is)

@@ -1,4 +1,4 @@
-use Rattle.std.proofs.Common.{◌≡◌, ◌∙◌, ap, sym, arith, map, None, subst}
+use Rattle.std.proofs.Common.{◌≡◌, ◌∙◌, ap, sym, map, None}
 use Rattle.std.specs.Cow.{cow_slice_items}
 use Rattle.vortex_model.specs.Command.{first_invalid}
 use Rattle.vortex_dtype_core.specs.View.{type_of}

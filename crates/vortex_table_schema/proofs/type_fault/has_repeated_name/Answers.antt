@@ -2,7 +2,8 @@ use Rattle.std.proofs.Common.{◌≡◌, ◌-◌, ap, sym, ◌∙◌, not, ◌�
 use Rattle.std.specs.BTreeSet.{contains}
 use Rattle.vortex_model.specs.Kept.{names_distinct}
 use Rattle.vortex_dtype_core.specs.View.{fields_of}
-use Rattle.vortex_table_schema.proofs.Distinct.{text_cmp, drop-before, names_distinct-repeated, names_distinct-fresh, names_distinct-dropped, seen_more, was_there, was_new}
+use Rattle.vortex_table_schema.specs.Cut.{text_cmp}
+use Rattle.vortex_table_schema.proofs.Distinct.{drop-before, names_distinct-repeated, names_distinct-fresh, names_distinct-dropped, seen_more, was_there, was_new}
 use Rattle.vortex_table_schema.proofs.type_fault.has_repeated_name.Goals as goal
 
 pub returns-then-not-branch : goal.returns-then-not-branch

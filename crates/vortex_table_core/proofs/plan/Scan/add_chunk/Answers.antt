@@ -1,11 +1,12 @@
-use Rattle.std.proofs.Common.{◌≡◌, ◌∙◌, ◌+◌, ap, refl}
-use Rattle.vortex_model.specs.Scan.{Outcome, chunk_outcome, is_skipped, is_whole, saturated}
+use Rattle.std.proofs.Common.{◌≡◌, ◌∙◌, ◌+◌, ◌++◌, map, ap, refl}
+use Rattle.vortex_model.specs.Scan.{Outcome, is_skipped, is_whole, saturated}
+use Rattle.vortex_scalar_core.specs.Scalar.{scalar_content}
 use Rattle.vortex_table_schema.specs.Answer.{answer_of}
 use Rattle.vortex_table_chunk.specs.Chunk.{chunk_rows}
 use Rattle.vortex_table_chunk.proofs.ProvenAlike.{is_there}
 use Rattle.vortex_table_core.specs.Outcome.{outcome_of}
-use Rattle.vortex_table_core.specs.Plan.{table_in, paths_in, predicate_in}
-use Rattle.vortex_table_core.specs.Progress.{push_if, tested_rows, proofs_at}
+use Rattle.vortex_table_core.specs.Plan.{question_in}
+use Rattle.vortex_table_core.specs.Progress.{outcome_to, found_rows, push_if, tested_rows, proofs_at}
 use Rattle.vortex_table_core.proofs.Added.{added, stopped}
 use Rattle.vortex_table_core.proofs.plan.Scan.add_chunk.Goals as goal
 
@@ -14,10 +15,11 @@ returns-clause-found c =
     let plan = c.args.self.now in
     let old = c.args.answer.now in
     let rows = chunk_rows c.args.chunk.now in
-    let o : Outcome = chunk_outcome (table_in plan) (predicate_in plan) rows in
+    let q = question_in plan in
+    let o : Outcome = outcome_to q rows in
     let out : outcome_of c.outcome-outcome.result ≡ o = c.outcome-outcome.ensures in
-    added (table_in plan).kind (paths_in plan) (predicate_in plan) c.args.number rows o (answer_of old) _
-    c.in_ok-find_rows.ensures.rows
+    added q c.args.number rows o (answer_of old) _
+    (c.in_ok-find_rows.ensures.rows ∙ ap (λ p. map scalar_content old.rows.items ++ found_rows q p rows) out)
     refl
     (c.in_ok-push_if.ensures ∙ ap (λ t. push_if t c.args.number old.skipped.items) (c.is_skipped.ensures ∙ ap is_skipped out))
     (c.in_ok-push_if-2.ensures ∙ ap (λ t. push_if t c.args.number old.whole.items) (c.is_whole.ensures ∙ ap is_whole out))

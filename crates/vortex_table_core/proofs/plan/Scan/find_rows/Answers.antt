@@ -1,7 +1,10 @@
 use Rattle.std.proofs.Common.{sym, ap, ◌∙◌, ◌++◌, map, append-nil}
 use Rattle.vortex_scalar_core.specs.Scalar.{scalar_content}
+use Rattle.vortex_table_chunk.specs.Chunk.{chunk_rows}
 use Rattle.vortex_table_core.specs.Outcome.{outcome_of}
-use Rattle.vortex_table_core.proofs.Found.{can_be_cut, never_null, none_found, all_found, some_found}
+use Rattle.vortex_table_core.specs.Plan.{question_in}
+use Rattle.vortex_table_core.specs.Progress.{found_rows}
+use Rattle.vortex_table_core.proofs.Found.{can_be_cut, never_null, all_found, some_found}
 use Rattle.vortex_table_core.proofs.plan.Scan.find_rows.Goals as goal
 
 pub take_rows-requires-clause-required : goal.take_rows-requires-clause-required
@@ -18,21 +21,21 @@ select_rows-requires-clause-valid c = can_be_cut c.args.self.now c.requires.plan
 
 pub returns-in-Skip-clause-rows : goal.returns-in-Skip-clause-rows
 returns-in-Skip-clause-rows c =
-    let skipped = sym (ap outcome_of c.in-Skip.is) ∙ c.requires.outcome in
-    let before = map scalar_content c.args.found.now.items in
-    sym (ap (λ xs. before ++ xs) (none_found c.args.self.now c.requires.plan c.args.chunk.now c.requires.formed skipped) ∙ append-nil before)
+    let rows = chunk_rows c.args.chunk.now in let before = map scalar_content c.args.found.now.items in
+    sym (append-nil before) ∙ ap (λ o. before ++ found_rows (question_in c.args.self.now) (outcome_of o) rows) (sym c.in-Skip.is)
 
 pub returns-in_ok-take_rows-in-TakeAll-clause-rows :
     goal.returns-in_ok-take_rows-in-TakeAll-clause-rows
 returns-in_ok-take_rows-in-TakeAll-clause-rows c =
-    let whole = sym (ap outcome_of c.in-TakeAll.is) ∙ c.requires.outcome in
-    let before = map scalar_content c.args.found.now.items in
+    let rows = chunk_rows c.args.chunk.now in let before = map scalar_content c.args.found.now.items in
     c.in_ok-take_rows-in-TakeAll.ensures.content
-    ∙ ap (λ xs. before ++ xs) (all_found c.args.self.now c.requires.plan c.args.chunk.now c.requires.formed whole)
+    ∙ ap (λ xs. before ++ xs) (all_found c.args.self.now c.requires.plan c.args.chunk.now c.requires.formed)
+    ∙ ap (λ o. before ++ found_rows (question_in c.args.self.now) (outcome_of o) rows) (sym c.in-TakeAll.is)
 
 pub returns-in_ok-select_rows-in-Filter-clause-rows :
     goal.returns-in_ok-select_rows-in-Filter-clause-rows
 returns-in_ok-select_rows-in-Filter-clause-rows c =
-    let before = map scalar_content c.args.found.now.items in
+    let rows = chunk_rows c.args.chunk.now in let before = map scalar_content c.args.found.now.items in
     c.in_ok-select_rows-in-Filter.ensures.content
     ∙ ap (λ xs. before ++ xs) (some_found c.args.self.now c.requires.plan c.args.chunk.now c.requires.formed)
+    ∙ ap (λ o. before ++ found_rows (question_in c.args.self.now) (outcome_of o) rows) (sym c.in-Filter.is)

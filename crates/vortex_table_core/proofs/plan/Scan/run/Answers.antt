@@ -4,7 +4,7 @@ use Rattle.vortex_model.specs.Cut.{cut_type}
 use Rattle.vortex_scalar_core.specs.Scalar.{scalar_content}
 use Rattle.vortex_table_blocks.specs.Blocks.{left_in}
 use Rattle.vortex_table_schema.specs.Answer.{answer_of}
-use Rattle.vortex_table_core.specs.Plan.{table_in, paths_in}
+use Rattle.vortex_table_core.specs.Plan.{table_in, question_in}
 use Rattle.vortex_table_core.proofs.Stretches.{waiting_start, one_waits, group_next, none_if}
 use Rattle.vortex_table_core.proofs.Walked.{there, is_there, behind}
 use Rattle.vortex_table_core.proofs.plan.Scan.run.Goals as goal
@@ -12,7 +12,7 @@ use Rattle.vortex_table_core.proofs.plan.Scan.run.Goals as goal
 pub loop-group-init : goal.loop-group-init
 loop-group-init c =
     let plan = c.args.self.now in
-    let kind : type_of c.in_ok-clone.field-0 ≡ cut_type (paths_in plan) (table_in plan).kind = search (rules, c.in_ok-clone.ensures.cases, c.requires.prepared.cut_kind) in
+    let kind : type_of c.in_ok-clone.field-0 ≡ cut_type (question_in plan).paths (table_in plan).kind = search (rules, c.in_ok-clone.ensures.cases, c.requires.prepared.cut_kind) in
     let none : length c.new.result.items ≡ 0 = ap length c.new.ensures.items in
     record {
       index = 0;

@@ -8,6 +8,7 @@ use Rattle.vortex_scalar_value.specs.View.{raw_in}
 use Rattle.vortex_table_core.specs.TableView.{table_of}
 use Rattle.vortex_table_run.specs.CommandAnswers.{error_answer}
 use Rattle.vortex_table_run.specs.State.{table_in}
+use Rattle.vortex_table_run.proofs.Errors.{no_rule}
 use Rattle.vortex_table_run.proofs.Responding.{without_table, refused_for}
 use Rattle.vortex_table_run.proofs.session.Session.answer_append.Goals as goal
 
@@ -26,5 +27,5 @@ returns-in-Err c = λ out.
       refused_for _ (table_in c.args.self.now) (Some (table_of c.append_owned.new.self)) (table_of c.in-Some.table)
           (append (type_of c.args.dtype.now) (map raw_in c.args.values.items)) e there same (λ h. h) c.in-Err.ensures.appends.refused
           (λ h. c.in-Err.ensures.appends.total (ap Err h)),
-      c.fault.ensures out,
+      c.fault.ensures out (no_rule _ _ e c.in-Err.ensures.appends.refused),
     )

@@ -7,6 +7,7 @@ use Rattle.vortex_dtype_path.specs.View.{steps_of}
 use Rattle.vortex_table_core.specs.TableView.{table_of}
 use Rattle.vortex_table_run.specs.CommandAnswers.{error_answer}
 use Rattle.vortex_table_run.specs.State.{table_in}
+use Rattle.vortex_table_run.proofs.Errors.{no_rule}
 use Rattle.vortex_table_run.proofs.Responding.{without_table, refused_there, describe_found}
 use Rattle.vortex_table_run.proofs.session.Session.answer_describe.Goals as goal
 
@@ -31,5 +32,5 @@ returns c =
       error_answer e,
       refused_there (table_in c.args.self.now) (table_in c.args.self.now) (table_of c.in-Some.table) (describe (steps_of c.args.path.now) c.args.group) e
           there there c.in-Err.ensures.refused,
-      c.fault.ensures _,
+      c.fault.ensures _ (no_rule _ _ e c.in-Err.ensures.refused),
     )

@@ -6,6 +6,7 @@ use Rattle.vortex_model.specs.Reply.{refused}
 use Rattle.vortex_table_core.specs.TableView.{table_of}
 use Rattle.vortex_table_run.specs.CommandAnswers.{error_answer}
 use Rattle.vortex_table_run.specs.State.{table_in}
+use Rattle.vortex_table_run.proofs.Errors.{no_rule}
 use Rattle.vortex_table_run.proofs.Responding.{without_table, refused_there}
 use Rattle.vortex_table_run.proofs.session.Session.answer_join.Goals as goal
 
@@ -21,5 +22,5 @@ returns-in-Err c = λ out.
     let same = ap Some c.in-Err.ensures.unchanged in (
       error_answer e,
       refused_there (table_in c.args.self.now) (Some (table_of c.join.new.self)) (table_of c.in-Some.table) (join c.args.group) e there same c.in-Err.ensures.refused,
-      c.fault.ensures out,
+      c.fault.ensures out (no_rule _ _ e c.in-Err.ensures.refused),
     )

@@ -7,6 +7,7 @@ use Rattle.vortex_dtype_core.specs.View.{type_of}
 use Rattle.vortex_table_core.specs.TableView.{table_of}
 use Rattle.vortex_table_run.specs.CommandAnswers.{error_answer}
 use Rattle.vortex_table_run.specs.State.{table_in}
+use Rattle.vortex_table_run.proofs.Errors.{no_rule}
 use Rattle.vortex_table_run.proofs.Responding.{without_table, refused_for}
 use Rattle.vortex_table_run.proofs.session.Session.answer_retype.Goals as goal
 
@@ -23,5 +24,5 @@ returns-in-Err c = λ out.
       error_answer e,
       refused_for _ (table_in c.args.self.now) (Some (table_of c.retype.new.self)) (table_of c.in-Some.table) (retype (type_of c.args.dtype)) e there same
           (λ h. h) c.in-Err.ensures.refused (λ h. c.in-Err.ensures.total (ap Err h)),
-      c.fault.ensures out,
+      c.fault.ensures out (no_rule _ _ e c.in-Err.ensures.refused),
     )

@@ -8,6 +8,7 @@ use Rattle.vortex_table_schema.specs.Answer.{answer_of}
 use Rattle.vortex_table_core.specs.TableView.{table_of}
 use Rattle.vortex_table_run.specs.CommandAnswers.{error_answer}
 use Rattle.vortex_table_run.specs.State.{table_in}
+use Rattle.vortex_table_run.proofs.Errors.{no_rule}
 use Rattle.vortex_table_run.proofs.Responding.{without_table, refused_there, scan_found}
 use Rattle.vortex_table_run.proofs.session.Session.answer_scan.Goals as goal
 
@@ -33,5 +34,5 @@ returns c =
       error_answer e,
       refused_there (table_in c.args.self.now) (table_in c.args.self.now) (table_of c.in-Some.table) (scan (map steps_of c.args.paths.now) c.args.predicate.now) e
           there there c.in-Err.ensures.refused,
-      c.fault.ensures _,
+      c.fault.ensures _ (no_rule _ _ e c.in-Err.ensures.refused),
     )

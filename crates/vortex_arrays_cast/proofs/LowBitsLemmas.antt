@@ -1,0 +1,22 @@
+-- The low bits of an integer that the kind holds are the integer.
+use Rattle.std.proofs.Common.{◌≡◌, ℤ, pos, negsuc, true, arith}
+use Rattle.std.specs.Int.{w8, w16, w32, w64}
+use Rattle.std.proofs.lemmas.Int.{ints}
+use Rattle.num_traits.specs.Ints.{unsigned-wrap, signed-wrap}
+use Rattle.vortex_model.specs.LogicalType.{IntKind, u8, u16, u32, u64, i8, i16, i32, i64}
+use Rattle.vortex_model.specs.Valid.{in_range}
+use Rattle.vortex_arrays_cast.specs.Cast.{low_bits}
+
+pub low_bits_held : (k : IntKind) (z : ℤ) → in_range k z ≡ true → low_bits k z ≡ z
+low_bits_held u8 (pos n) h = unsigned-wrap 8 (pos n) (grind (arith, ints, h))
+low_bits_held u8 (negsuc n) h = absurd (cc h)
+low_bits_held u16 (pos n) h = unsigned-wrap 16 (pos n) (grind (arith, ints, h))
+low_bits_held u16 (negsuc n) h = absurd (cc h)
+low_bits_held u32 (pos n) h = unsigned-wrap 32 (pos n) (grind (arith, ints, h))
+low_bits_held u32 (negsuc n) h = absurd (cc h)
+low_bits_held u64 (pos n) h = unsigned-wrap 64 (pos n) (grind (arith, ints, h))
+low_bits_held u64 (negsuc n) h = absurd (cc h)
+low_bits_held i8 z h = signed-wrap w8 z (grind (arith, ints, h))
+low_bits_held i16 z h = signed-wrap w16 z (grind (arith, ints, h))
+low_bits_held i32 z h = signed-wrap w32 z (grind (arith, ints, h))
+low_bits_held i64 z h = signed-wrap w64 z (grind (arith, ints, h))

@@ -1,0 +1,9 @@
+use Rattle.std.proofs.Common.{◌≡◌, take}
+use Rattle.vortex_arrays_rebuild.specs.Runs.{positions_in, elements_at, FitWithin}
+use Rattle.vortex_arrays_rebuild.proofs.runs.Runs.of_elements.Given as goal
+
+abbrev pub invariant-loop-i : goal.invariant-loop-i
+invariant-loop-i l = record {
+  positions : positions_in l.list.items ≡ elements_at l.size (positions_in (take l.i l.self.list.items));
+  within : FitWithin l.count l.list.items;
+}

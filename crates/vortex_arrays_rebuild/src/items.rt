@@ -1,0 +1,100 @@
+//! The items of runs, copied range after range.
+ghost use Rattle.std.specs.Prelude.{◌≡◌, ◌++◌, length, IfOk, OnOk};
+ghost use Rattle.vortex_arrays_buffer.specs.PrimitiveBuffers.{integers_of, kind_of_numbers};
+ghost use Rattle.vortex_arrays_rebuild.specs.Runs.{items_in, items_of_run, LiesWithin};
+
+use crate::runs::{Run, Runs};
+use std::alloc::{AllocError, Global};
+use vortex_arrays_buffer::bit_buffer::BitBuffer;
+use vortex_arrays_buffer::buffer::Buffer;
+use vortex_arrays_buffer::primitive_buffer::PrimitiveBuffer;
+
+/// The items of the runs.
+#[tactic(auto, using(crate::proofs::ItemLemmas::copied))]
+pub(crate) fn copy_items<T: Copy + Drop>(
+    alloc: Global,
+    items: &[T],
+    runs: &Runs,
+) -> Result<Buffer<T>, AllocError>
+    requires { runs.now.limit ≡ length items.now }
+    ensures { IfOk result (λ copied. copied ≡ items_in items.now runs.now.list.items) }
+{
+    let _count = items.len();
+    let mut copied = Vec::with_capacity(alloc, runs.len)?;
+    for i in 0..runs.list.len() {
+        let run = runs.list[i];
+        copied.extend_from_slice(&items[run.start..run.start + run.len])?;
+    }
+    Buffer::from_vec(copied)
+}
+
+/// The numbers of the runs, of the same kind.
+#[tactic(auto, using(crate::proofs::ItemLemmas::naturals))]
+pub(crate) fn copy_numbers(
+    alloc: Global,
+    numbers: &PrimitiveBuffer,
+    runs: &Runs,
+) -> Result<PrimitiveBuffer, AllocError>
+    requires { runs.now.limit ≡ length (integers_of numbers.now) }
+    ensures kind { IfOk result (λ r. kind_of_numbers r ≡ kind_of_numbers numbers.now) }
+    ensures copied { IfOk result
+        (λ r. integers_of r ≡ items_in (integers_of numbers.now) runs.now.list.items) }
+{
+    match numbers {
+        PrimitiveBuffer::U8(items) => {
+            Ok(PrimitiveBuffer::U8(copy_items(alloc, items.as_slice(), runs)?))
+        }
+        PrimitiveBuffer::U16(items) => {
+            Ok(PrimitiveBuffer::U16(copy_items(alloc, items.as_slice(), runs)?))
+        }
+        PrimitiveBuffer::U32(items) => {
+            Ok(PrimitiveBuffer::U32(copy_items(alloc, items.as_slice(), runs)?))
+        }
+        PrimitiveBuffer::U64(items) => {
+            Ok(PrimitiveBuffer::U64(copy_items(alloc, items.as_slice(), runs)?))
+        }
+        PrimitiveBuffer::I8(items) => {
+            Ok(PrimitiveBuffer::I8(copy_items(alloc, items.as_slice(), runs)?))
+        }
+        PrimitiveBuffer::I16(items) => {
+            Ok(PrimitiveBuffer::I16(copy_items(alloc, items.as_slice(), runs)?))
+        }
+        PrimitiveBuffer::I32(items) => {
+            Ok(PrimitiveBuffer::I32(copy_items(alloc, items.as_slice(), runs)?))
+        }
+        PrimitiveBuffer::I64(items) => {
+            Ok(PrimitiveBuffer::I64(copy_items(alloc, items.as_slice(), runs)?))
+        }
+    }
+}
+
+/// The bits of the runs.
+#[tactic(auto, using(crate::proofs::ItemLemmas::gathered))]
+pub(crate) fn copy_bits(
+    alloc: Global,
+    bits: &BitBuffer,
+    runs: &Runs,
+) -> Result<BitBuffer, AllocError>
+    requires { runs.now.limit ≡ length bits.now }
+    ensures { IfOk result (λ copied. copied ≡ items_in bits.now runs.now.list.items) }
+{
+    let mut copied: Vec<bool> = Vec::with_capacity(alloc, runs.len)?;
+    for i in 0..runs.list.len() {
+        push_bits(&mut copied, bits, runs.list[i])?;
+    }
+    BitBuffer::from_bools(alloc, &copied)
+}
+
+// Adds the bits of a run.
+#[tactic(auto, using(crate::proofs::ItemLemmas::added))]
+fn push_bits(copied: &mut Vec<bool>, bits: &BitBuffer, run: Run) -> Result<(), AllocError>
+    requires { LiesWithin (length bits.now) run }
+    ensures { OnOk result
+        (copied.new.items ≡ copied.old.items ++ items_of_run bits.now run) }
+{
+    let _count = bits.len();
+    for j in 0..run.len {
+        copied.push(bits.value(run.start + j))?;
+    }
+    Ok(())
+}

@@ -1,0 +1,28 @@
+-- What is told of a dictionary by its codes and values, and of an array whose rows are not counted.
+use Rattle.std.proofs.Common.{◌≡◌, refl, Option, Some, None}
+use Rattle.std.specs.Prelude.{MatchOption}
+use Rattle.vortex_model.specs.LogicalType.{LogicalType, Nullability, null_only, boolean_type, integer_type, float, decimal, utf8, binary, list, fixed_list, mapping, struct, union, variant, extension, with_nullability}
+use Rattle.vortex_model.specs.Kept.{is_leaf}
+use Rattle.vortex_stats_array.specs.declared.array_stats.ArrayStats.{ArrayStats}
+
+-- a type is that of a leaf, whatever its nullability
+pub leaf_kept : (n : Nullability) (k : LogicalType) → is_leaf (with_nullability n k) ≡ is_leaf k
+leaf_kept n null_only = refl
+leaf_kept n (boolean_type m) = refl
+leaf_kept n (integer_type i m) = refl
+leaf_kept n (float f m) = refl
+leaf_kept n (decimal p s m) = refl
+leaf_kept n (utf8 m) = refl
+leaf_kept n (binary m) = refl
+leaf_kept n (list k m) = refl
+leaf_kept n (fixed_list k j m) = refl
+leaf_kept n (mapping k v s m) = refl
+leaf_kept n (struct fs m) = refl
+leaf_kept n (union vs m) = refl
+leaf_kept n (variant m) = refl
+leaf_kept n (extension a b k) = refl
+
+-- statistics that are told of one thing are told of another
+pub told_of : (found : Option ArrayStats) (P : Type 0) (Q R : ArrayStats → Type 0) → ((stats : ArrayStats) → Q stats → R stats) → MatchOption found P Q → MatchOption found P R
+told_of None P Q R f h = h
+told_of (Some stats) P Q R f h = f stats h

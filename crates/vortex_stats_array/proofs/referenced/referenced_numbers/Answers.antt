@@ -1,0 +1,5 @@
+use Rattle.std.proofs.Common.{rules}
+use Rattle.vortex_stats_array.proofs.referenced.referenced_numbers.Goals as goal
+
+pub returns : goal.returns
+returns g c rows stand = c.seen_in.ensures (search rules) rows stand

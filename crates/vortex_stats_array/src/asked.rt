@@ -1,0 +1,12 @@
+//! The rows that statistics are asked of.
+
+use vortex_dtype_core::dtype::DType;
+
+/// A column whose statistics are asked: its type, how many rows it has, and the length that bounds
+/// have at most which are texts or bytes.
+#[derive(Clone, Copy)]
+pub(crate) struct Asked<'a> {
+    pub(crate) dtype: &'a DType,
+    pub(crate) row_count: usize,
+    pub(crate) max_length: usize,
+}

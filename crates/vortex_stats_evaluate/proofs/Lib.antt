@@ -1,0 +1,5 @@
+mod Adding
+mod Binding
+mod Found
+mod RowTruths
+mod Telling

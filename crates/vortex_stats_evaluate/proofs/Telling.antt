@@ -1,0 +1,113 @@
+-- What the statistics of a column tell of placeholders.
+use Rattle.std.proofs.Common.{◌≡◌, refl, sym, ap, ◌∙◌, ℕ, List, [], ◌∷◌, Bool, true, false, Option, Some, None, subst, inl, inr}
+use Rattle.std.proofs.lemmas.Bool.{cases_eq, ne_eqb}
+use Rattle.std.specs.Prelude.{is_some, if◌then◌else◌, ◌==◌}
+use Rattle.std.specs.Option.{option_map_or}
+use Rattle.vortex_model.specs.LogicalType.{LogicalType}
+use Rattle.vortex_model.specs.Content.{Content, null}
+use Rattle.vortex_model.specs.Expression.{Aggregate}
+use Rattle.vortex_model.specs.Path.{Positions}
+use Rattle.vortex_model.specs.Statistics.{placeholder_value}
+use Rattle.vortex_model.specs.Typing.{type_of_aggregate}
+use Rattle.vortex_model.proofs.ContentOrder.{true_left, true_right}
+use Rattle.vortex_dtype_core.specs.View.{type_of}
+use Rattle.vortex_stats_bind.specs.Bound.{Bound, place, place_of}
+use Rattle.vortex_stats_stat.specs.declared.error.StatsError.{StatsError}
+use Rattle.vortex_stats_stat.specs.declared.error.StatsError.TheVariants as error
+use Rattle.vortex_stats_stat.specs.declared.stat.Stat.{Stat}
+use Rattle.vortex_stats_stat.specs.declared.stat.Stat.TheVariants as stat
+use Rattle.vortex_stats_stat.specs.Stats.{number_of_stat}
+use Rattle.vortex_stats_set.specs.Known.{raw_pairs, raw_precision}
+use Rattle.vortex_stats_set.specs.Pairs.{known, or_nothing}
+use Rattle.vortex_stats_set.specs.Said.{statistics_in}
+use Rattle.vortex_stats_set.specs.Sets.{value_in}
+use Rattle.vortex_stats_set.specs.Valid.{is_known_of, are_valid_for}
+use Rattle.vortex_stats_provider.specs.Placeholders.{is_tellable, IsStatFault, told_by as told_by_stat}
+use Rattle.vortex_stats_evaluate.specs.declared.column.ColumnStats.{ColumnStats}
+use Rattle.vortex_stats_evaluate.specs.Scopes.{Set, stats_at, told_by, told_in, told_of}
+
+-- ---- a statistic has its number alone
+
+same_number : (m n : ℕ) → (m == n) ≡ true → m ≡ n
+same_number m n h = elim (cases_eq m n) [
+  | inl e ↦ e
+  | inr d ↦ absurd (cc (sym h ∙ ne_eqb m n d))
+]
+
+stat_at : ℕ → Stat
+stat_at n = if n == 0 then stat.IsConstant else if n == 1 then stat.IsSorted else if n == 2 then
+    stat.IsStrictSorted
+    else if n == 3 then stat.Max else if n == 4 then stat.Min else if n == 5 then stat.Sum else if
+    n == 6 then stat.NullCount
+    else if n == 7 then stat.UncompressedSizeInBytes else stat.NaNCount
+
+its_stat : (s : Stat) → stat_at (number_of_stat s) ≡ s
+unfolding stat_at
+its_stat stat.IsConstant = refl
+its_stat stat.IsSorted = refl
+its_stat stat.IsStrictSorted = refl
+its_stat stat.Max = refl
+its_stat stat.Min = refl
+its_stat stat.Sum = refl
+its_stat stat.NullCount = refl
+its_stat stat.UncompressedSizeInBytes = refl
+its_stat stat.NaNCount = refl
+
+same_stat : (s t : Stat) → (number_of_stat s == number_of_stat t) ≡ true → s ≡ t
+same_stat s t h =
+    sym (its_stat s) ∙ ap stat_at (same_number (number_of_stat s) (number_of_stat t) h) ∙ its_stat t
+
+-- ---- what a valid set knows can be told
+
+valid_known : (k : LogicalType) (xs : Set) (s : Stat) → are_valid_for k xs ≡ true →
+    is_known_of k s (known (raw_pairs xs) s) ≡ true
+valid_known k [] s h = refl
+valid_known k (e ∷ es) s h = by_test (number_of_stat e.0 == number_of_stat s) refl
+    (valid_known k es s (true_right (is_known_of k e.0 (raw_precision e.1)) (are_valid_for k es) h))
+  where
+    by_test : (b : Bool) → (number_of_stat e.0 == number_of_stat s) ≡ b →
+        is_known_of k s (known (raw_pairs es) s) ≡ true →
+        is_known_of k s (or_nothing (if b then Some (raw_precision e.1) else value_in
+        (raw_pairs es) s)) ≡ true
+    by_test true f g = subst (λ t. is_known_of k t (raw_precision e.1) ≡ true) (same_stat e.0 s f)
+        (true_left (is_known_of k e.0 (raw_precision e.1)) (are_valid_for k es) h)
+    by_test false f g = g
+
+pub tellable : (k : LogicalType) (xs : Set) (a : Aggregate) → are_valid_for k xs ≡ true →
+    is_tellable k (raw_pairs xs) a ≡ true
+tellable k xs a h = of (told_by_stat a)
+  where
+    of : (o : Option Stat) →
+        option_map_or (λ s. is_known_of k s (known (raw_pairs xs) s)) o true ≡ true
+    of None = refl
+    of (Some s) = valid_known k xs s h
+
+-- ---- placeholders over columns
+
+pub told_value : (c : ColumnStats) (rows : ℕ) (a : Aggregate) (l : LogicalType) (d : Content) →
+    type_of_aggregate a (type_of c.dtype) ≡ Some l →
+    d ≡ placeholder_value a (statistics_in (raw_pairs c.stats)) rows → d ≡ told_of c rows a
+told_value c rows a l d t e = e ∙ sym (ap (λ o. if is_some o then placeholder_value a (statistics_in
+    (raw_pairs c.stats)) rows else null) t)
+
+pub not_told : (c : ColumnStats) (rows : ℕ) (a : Aggregate) (e : StatsError) →
+    are_valid_for (type_of c.dtype) c.stats ≡ true →
+    IsStatFault e (type_of_aggregate a (type_of c.dtype))
+    (is_tellable (type_of c.dtype) (raw_pairs c.stats) a) → told_of c rows a ≡ null
+not_told c rows a error.UnsupportedAggregate v h = ap (λ o. if is_some o then placeholder_value a
+    (statistics_in (raw_pairs c.stats)) rows else null) h
+not_told c rows a error.InvalidStat v h =
+    let t = tellable (type_of c.dtype) c.stats a v in
+    absurd (cc (h.1, t))
+not_told c rows a e v h = absurd h
+
+pub of_place : (known : List ColumnStats) (rows : ℕ) (b : Bound) (is : Positions) (a : Aggregate) →
+    b ≡ place is → told_by known rows b a ≡ told_in (stats_at known is) rows a
+of_place known rows b is a h = ap (λ x. told_by known rows x a) h
+
+pub of_no_place : (known : List ColumnStats) (rows : ℕ) (b : Bound) (a : Aggregate) →
+    place_of b ≡ None → told_by known rows b a ≡ null
+of_no_place known rows (place is) a h = absurd (cc (h))
+of_no_place known rows b a h = refl
+
+pub ruleset told = (told_value, not_told, of_place, of_no_place)

@@ -1,0 +1,91 @@
+//! Expressions with their columns resolved.
+ghost use Rattle.std.specs.Prelude.{◌≡◌, ℕ, List, None, Some, IfOk, IfErr, OnOk};
+ghost use Rattle.vortex_model.specs.Content.{Content};
+ghost use Rattle.vortex_model.specs.Expression.{reads_columns};
+ghost use Rattle.vortex_model.specs.Truth.{evaluate, has_truth};
+ghost use Rattle.vortex_model.specs.Typing.{expression_type};
+ghost use Rattle.vortex_model_rules.specs.Faults.{binding_fault};
+ghost use Rattle.vortex_dtype_core.specs.View.{type_of};
+ghost use Rattle.vortex_stats_bind.specs.Bound.{Provided, evaluate_bound, by_names};
+ghost use Rattle.vortex_stats_evaluate.specs.Scopes.{at_row, over_rows, given_at, given_over};
+ghost use Rattle.vortex_stats_evaluate.specs.declared.column.ColumnStats.{ColumnStats};
+ghost use Rattle.vortex_stats_typing.specs.Typed.{IsReason};
+
+use std::alloc::Global;
+use vortex_dtype_core::dtype::DType;
+use vortex_stats_bind::bind::bind_proof;
+use vortex_stats_bind::bound::BoundExpression as BoundTree;
+use vortex_stats_expr::expression::{Expression, Node};
+use vortex_stats_stat::error::StatsError;
+use vortex_stats_typing::check::type_expression;
+
+/// An expression over rows of one type whose columns are resolved, as Vortex's `BoundExpression`,
+/// with what its typing found.
+#[derive(Drop)]
+pub struct BoundExpression {
+    /// The expression, with positions in place of names.
+    pub tree: BoundTree,
+    /// The type of its values.
+    pub dtype: DType,
+    /// Whether it can be evaluated: nothing in it compares floats, tests for NaN, or is a LIKE that
+    /// ignores case or whose pattern holds a backslash.
+    pub has_truth: bool,
+    /// Whether it reads a column outside placeholders.
+    pub reads_columns: bool,
+}
+
+/// Resolves the columns of an expression over rows of this type, as Vortex's `Expression::bind`.
+///
+/// The first fault decides the refusal, children before their parent, left before right:
+/// `UnknownColumn`, `UnequalTypes`, `NotBoolean`, `UnsupportedAggregate`. The expression is copied,
+/// in time linear in its size.
+#[tactic(auto, using(crate::proofs::Binding::bound))]
+pub fn bind(alloc: Global, e: &Expression, dtype: &DType) -> Result<BoundExpression, StatsError>
+    ensures faultless { OnOk result (binding_fault (type_of dtype.now) e.now ≡ None) }
+    ensures refused { IfErr result
+        (λ error. IsReason error (binding_fault (type_of dtype.now) e.now)) }
+    ensures value { IfOk result (λ bound. (provided : Provided) → evaluate_bound provided bound.tree
+        ≡ evaluate (by_names (type_of dtype.now) provided) e.now) }
+    ensures at_rows { IfOk result (λ bound. (known : List ColumnStats) (rows : ℕ) (row : Content)
+        → evaluate_bound (at_row known rows row) bound.tree
+        ≡ evaluate (given_at (type_of dtype.now) known rows row) e.now) }
+    ensures over_rows { IfOk result (λ bound. (known : List ColumnStats) (rows : ℕ)
+        → evaluate_bound (over_rows known rows) bound.tree
+        ≡ evaluate (given_over (type_of dtype.now) known rows) e.now) }
+    ensures dtype { IfOk result
+        (λ bound. expression_type (type_of dtype.now) e.now ≡ Some (type_of bound.dtype)) }
+    ensures truth { IfOk result
+        (λ bound. bound.has_truth ≡ has_truth (type_of dtype.now) e.now) }
+    ensures columns { IfOk result (λ bound. bound.reads_columns ≡ reads_columns e.now) }
+{
+    let typed = type_expression(alloc, dtype, e)?;
+    let tree = bind_proof(alloc, e, dtype)?;
+    Ok(BoundExpression {
+        tree,
+        dtype: typed.dtype,
+        has_truth: typed.has_truth,
+        reads_columns: reads_columns(e),
+    })
+}
+
+fn reads_columns(e: &Expression) -> bool
+    ensures { result ≡ reads_columns e.now }
+{
+    match &e.node {
+        Node::Literal(_) => false,
+        Node::Column(_) => true,
+        Node::Compare(_, x, y) => reads_columns(x) || reads_columns(y),
+        Node::And(x, y) => reads_columns(x) || reads_columns(y),
+        Node::Or(x, y) => reads_columns(x) || reads_columns(y),
+        Node::Not(x) => reads_columns(x),
+        Node::IsNull(x) => reads_columns(x),
+        Node::IsNotNull(x) => reads_columns(x),
+        Node::IsNan(x) => reads_columns(x),
+        Node::Between(x, lower, upper, _) => {
+            reads_columns(x) || reads_columns(lower) || reads_columns(upper)
+        }
+        Node::Like(x, pattern, _) => reads_columns(x) || reads_columns(pattern),
+        Node::RowCount => false,
+        Node::Stat(_, _) => false,
+    }
+}

@@ -1,0 +1,26 @@
+//! What is known of a column.
+ghost use Rattle.std.specs.Prelude.{◌≡◌, true};
+ghost use Rattle.vortex_model.specs.Path.{eq_positions};
+ghost use Rattle.vortex_dtype_core.specs.View.{type_of};
+ghost use Rattle.vortex_stats_set.specs.Valid.{are_valid_for};
+
+use vortex_dtype_core::dtype::DType;
+use vortex_stats_set::stats_set::StatsSet;
+
+/// What is known of a column, each statistic with a value that the column can have.
+#[derive(Drop)]
+pub struct ColumnStats {
+    // The positions of the column, and its type.
+    pub(crate) path: Vec<usize>,
+    pub(crate) dtype: DType,
+    pub(crate) stats: StatsSet,
+    ghost valid: { are_valid_for (type_of dtype) stats ≡ true },
+}
+
+impl ColumnStats {
+    pub(crate) fn is_at(&self, path: &[usize]) -> bool
+        ensures { result ≡ eq_positions self.now.path.items path.now }
+    {
+        self.path.as_slice() == path
+    }
+}

@@ -1,0 +1,34 @@
+//! Comparisons negated, and with their sides swapped.
+ghost use Rattle.std.specs.Prelude.{◌≡◌};
+ghost use Rattle.vortex_stats_expr.specs.Tree.{comparison_of};
+ghost use Rattle.vortex_stats_mask.specs.Wanted.{negated, swapped};
+
+use vortex_stats_expr::operator::Comparison;
+
+/// The comparison that is true where this one is false. Of null both are null.
+pub fn negated(comparison: Comparison) -> Comparison
+    ensures { comparison_of result ≡ negated (comparison_of comparison) }
+{
+    match comparison {
+        Comparison::Eq => Comparison::NotEq,
+        Comparison::NotEq => Comparison::Eq,
+        Comparison::Gt => Comparison::Lte,
+        Comparison::Gte => Comparison::Lt,
+        Comparison::Lt => Comparison::Gte,
+        Comparison::Lte => Comparison::Gt,
+    }
+}
+
+/// The comparison with its sides in the other order.
+pub fn swapped(comparison: Comparison) -> Comparison
+    ensures { comparison_of result ≡ swapped (comparison_of comparison) }
+{
+    match comparison {
+        Comparison::Eq => Comparison::Eq,
+        Comparison::NotEq => Comparison::NotEq,
+        Comparison::Gt => Comparison::Lt,
+        Comparison::Gte => Comparison::Lte,
+        Comparison::Lt => Comparison::Gt,
+        Comparison::Lte => Comparison::Gte,
+    }
+}

@@ -1,0 +1,63 @@
+-- Why scans with callers' rules are refused.
+use Rattle.std.proofs.Common.{◌≡◌, refl, sym, ◌∙◌, ap, Bool, true, false, ◌||◌, Option, Some, None}
+use Rattle.vortex_model.specs.LogicalType.{LogicalType}
+use Rattle.vortex_model.specs.Expression.{Expression}
+use Rattle.vortex_model.specs.Typing.{expression_type}
+use Rattle.vortex_model.specs.Refusal.{Refusal, not_boolean, or_else}
+use Rattle.vortex_model.specs.Command.{expression_fault, predicate_fault, unless, is_boolean}
+use Rattle.vortex_model_rules.specs.Rules.{Answer, is_fault}
+use Rattle.vortex_stats_rules.specs.Refusals.{IsPredicate, IsRefusal}
+use Rattle.vortex_stats_stat.specs.declared.error.StatsError.{StatsError}
+use Rattle.vortex_stats_stat.specs.declared.error.StatsError.TheVariants as stats
+use Rattle.vortex_table_check.specs.Error.{Explains}
+use Rattle.vortex_table_check.specs.declared.error.TableError.{TableError}
+use Rattle.vortex_table_check.specs.declared.error.TableError.TheVariants as error
+use Rattle.vortex_table_plan.specs.Rules.{ExplainsWith, IsOfRules, IsRuleError}
+
+of_predicate : (p : Option Refusal) (b : Bool) → or_else p (unless b not_boolean) ≡ None → b ≡ true
+of_predicate None true h = refl
+of_predicate None false h = absurd (cc (h))
+of_predicate (Some r) b h = absurd (cc (h))
+
+-- what a scan accepts is of truth type
+pub is_predicate : (k : LogicalType) (e : Expression) → predicate_fault k e ≡ None → IsPredicate k e
+is_predicate k e h = of_predicate (expression_fault k e) (is_boolean (expression_type k e)) h
+
+-- a rewrite of a predicate fails for want of memory, or for a rule's fault
+pub refused_so : (k : LogicalType) (e : Expression) (a : Answer) (x : StatsError) → IsPredicate k e → IsRefusal k e a x → IsOfRules (is_fault a) x
+refused_so k e a stats.Memory h r = tt
+refused_so k e a stats.NotBoolean h r = absurd (let g : true ≡ false = sym h ∙ r in cc (g))
+refused_so k e a stats.RuleFault h r = ap is_fault r.1
+refused_so k e a x h r = absurd r
+
+pub of_any : (b : Bool) (x : StatsError) → IsOfRules b x → IsOfRules true x
+of_any b stats.Memory h = tt
+of_any b stats.RuleFault h = refl
+of_any b x h = absurd h
+
+pub fault_first : (b c : Bool) (x : TableError) → IsRuleError b x → IsRuleError (b || c) x
+fault_first b c error.Memory h = tt
+fault_first b c error.RuleFault h = ap (λ t. t || c) h
+fault_first b c x h = absurd h
+
+pub fault_second : (b c : Bool) (x : TableError) → IsRuleError c x → IsRuleError (b || c) x
+fault_second b c error.Memory h = tt
+fault_second true c error.RuleFault h = refl
+fault_second false c error.RuleFault h = h
+fault_second b c x h = absurd h
+
+-- the refusal of a scan, and a fault behind it
+pub refused_first : (o : Option Refusal) (b : Bool) (x : TableError) → Explains ⊥ o x → ExplainsWith o b x
+refused_first o b error.RuleFault h = absurd h
+refused_first o b x h = h
+
+pub refused_behind : (o : Option Refusal) (b : Bool) (x : TableError) → o ≡ None → IsRuleError b x → ExplainsWith o b x
+refused_behind o b error.Memory none h = tt
+refused_behind o b error.RuleFault none h = (none, h)
+refused_behind o b x none h = absurd h
+
+pub ruleset rewritten = (is_predicate, refused_so, of_any)
+
+pub ruleset faults = (fault_first, fault_second)
+
+pub ruleset refusals = (refused_first, refused_behind)

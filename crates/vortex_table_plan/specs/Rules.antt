@@ -1,0 +1,32 @@
+-- Why a scan with callers' rules is refused.
+use Rattle.std.specs.Prelude.{◌≡◌, List, Option, None, Bool, true, ◌||◌}
+use Rattle.vortex_model.specs.LogicalType.{LogicalType}
+use Rattle.vortex_model.specs.Expression.{Expression}
+use Rattle.vortex_model.specs.Refusal.{Refusal}
+use Rattle.vortex_model_rules.specs.Rules.{Rule, is_fault, fals, sat}
+use Rattle.vortex_stats_stat.specs.declared.error.StatsError.{StatsError}
+use Rattle.vortex_stats_stat.specs.declared.error.StatsError.TheVariants as stats
+use Rattle.vortex_table_check.specs.Error.{Explains}
+use Rattle.vortex_table_check.specs.declared.error.TableError.{TableError}
+use Rattle.vortex_table_check.specs.declared.error.TableError.TheVariants as error
+
+-- a rule makes one of the two proofs of the predicate a fault
+abbrev pub have_fault : LogicalType → List Rule → Expression → Bool
+have_fault k rules e = is_fault (fals k rules e) || is_fault (sat k rules e)
+
+-- The error is a rule's fault, where the scan has no refusal, or explains this refusal.
+abbrev pub ExplainsWith : Option Refusal → Bool → TableError → Type 0
+ExplainsWith refusal faulty error.RuleFault = (refusal ≡ None) × (faulty ≡ true)
+ExplainsWith refusal faulty e = Explains ⊥ refusal e
+
+-- of a rewrite of a predicate: want of memory, or a rule's fault where this is so
+abbrev pub IsOfRules : Bool → StatsError → Type 0
+IsOfRules faulty stats.Memory = Unit {0}
+IsOfRules faulty stats.RuleFault = faulty ≡ true
+IsOfRules faulty e = ⊥
+
+-- the same as an error of tables
+abbrev pub IsRuleError : Bool → TableError → Type 0
+IsRuleError faulty error.Memory = Unit {0}
+IsRuleError faulty error.RuleFault = faulty ≡ true
+IsRuleError faulty e = ⊥

@@ -1,0 +1,81 @@
+//! Ranges that the statistics of a chunk give the integers of its leaf columns.
+ghost use Rattle.std.specs.Prelude.{◌≡◌, ℕ, List, All, IfOk, IfSome};
+ghost use Rattle.vortex_model.specs.Content.{Content, integer};
+ghost use Rattle.vortex_model.specs.Statistics.{exact};
+ghost use Rattle.vortex_arrays_model.specs.Layout.{len_of, content_at};
+ghost use Rattle.vortex_arrays_cast.specs.Ranges.{AreRangesOf, IsBetween, IsRangeIn};
+ghost use Rattle.vortex_table_chunk.specs.zones.Bounds.{bound_in, IsBoundsOf};
+
+use std::alloc::{AllocError, Global};
+use vortex_arrays_cast::ranges::LeafRange;
+use vortex_scalar_value::scalar_value::ScalarValue;
+use vortex_table_chunk::chunk::Chunk;
+use vortex_table_chunk::zones::bounds::{Bound, ColumnBounds};
+
+// The integer that a bound is, where it is known to be exact.
+#[tactic(auto, using(vortex_scalar_value::proofs::Views::one_level))]
+fn integer_in(bound: &Option<Bound>) -> Option<i128>
+    ensures { IfSome result (λ number. bound_in bound.now ≡ exact (integer number)) }
+{
+    let Some(bound) = bound else {
+        return None;
+    };
+    if bound.shortened {
+        return None;
+    }
+    match &bound.value {
+        ScalarValue::Primitive(number) => Some(number.get()),
+        ScalarValue::Bool(_) => None,
+        ScalarValue::Utf8(_) => None,
+        ScalarValue::Binary(_) => None,
+        ScalarValue::Tuple(_) => None,
+        ScalarValue::Union(_) => None,
+        ScalarValue::Variant(_) => None,
+    }
+}
+
+// The least and the greatest of the integers that have these statistics.
+fn range_of(bounds: &ColumnBounds) -> Option<(i128, i128)>
+    ensures { (L : ℕ) (values : List Content) → IsBoundsOf L bounds.now values
+        → IfSome result (λ range. All (IsBetween range.0 range.1) values) }
+{
+    let low = integer_in(&bounds.low)?;
+    let high = integer_in(&bounds.high)?;
+    Some((low, high))
+}
+
+// The range of the chunk's leaf column with this index, where its integers have one.
+fn range_at(chunk: &Chunk, index: usize) -> Option<LeafRange<'_>>
+    ensures { IfSome result (IsRangeIn 0 (len_of chunk.now.array) (content_at chunk.now.array)) }
+{
+    let Some(leaf) = chunk.leaves.get(index) else {
+        return None;
+    };
+    let Some(bounds) = chunk.bounds.get(index) else {
+        return None;
+    };
+    let Some((low, high)) = range_of(bounds) else {
+        return None;
+    };
+    let positions = leaf.as_slice();
+    Some(LeafRange {
+        positions,
+        low,
+        high,
+    })
+}
+
+/// The ranges of the chunk's leaf columns, of those whose values are integers and not all null, in
+/// the order of the leaves.
+#[tactic(auto, using(crate::proofs::RangeLemmas::pushed))]
+pub(crate) fn ranges_of(alloc: Global, chunk: &Chunk) -> Result<Vec<LeafRange<'_>>, AllocError>
+    ensures { IfOk result (λ ranges. AreRangesOf 0 chunk.now.array ranges.items) }
+{
+    let mut ranges = Vec::with_capacity(alloc, chunk.leaves.len())?;
+    for index in 0..chunk.leaves.len() {
+        if let Some(range) = range_at(chunk, index) {
+            ranges.push(range)?;
+        }
+    }
+    Ok(ranges)
+}

@@ -1,0 +1,166 @@
+//! What the predicates of these tests are made of, and how proofs are told: as texts, with each
+//! operator in brackets and each number with its kind.
+
+use std::alloc::{AllocError, Global};
+use vortex_dtype::{
+    BufferString, DType, FieldName, FieldNames, Nullability, PType, StructField, StructFields,
+};
+use vortex_scalar::{Scalar, ScalarError, ScalarValue};
+use vortex_stats::{AggregateFn, Expression, StatsError, col, lit};
+use vortex_stats_expr::expression::Node;
+use vortex_stats_expr::operator::Comparison;
+
+pub const WITH: Nullability = Nullability::Nullable;
+
+pub const WITHOUT: Nullability = Nullability::NonNullable;
+
+pub fn integers() -> DType {
+    DType::Primitive(PType::I32, WITHOUT)
+}
+
+pub fn floats(nullability: Nullability) -> DType {
+    DType::Primitive(PType::F32, nullability)
+}
+
+/// Want of memory, and anything else as a value that doesn't fit.
+pub fn of_value(error: ScalarError) -> StatsError {
+    match error {
+        ScalarError::Memory => StatsError::Memory,
+        _ => StatsError::InvalidStat,
+    }
+}
+
+/// A record, nowhere null, of these fields.
+pub fn record<const N: usize>(
+    alloc: Global,
+    names: [&str; N],
+    dtypes: [DType; N],
+) -> Result<DType, AllocError> {
+    let mut fields = Vec::new(alloc);
+    for (i, dtype) in Vec::from_array(alloc, dtypes)?.into_iter().enumerate() {
+        let name = FieldName::new(alloc, names[i])?;
+        fields.push(StructField { name, dtype })?;
+    }
+    Ok(DType::Struct(StructFields::from_vec(fields)?, WITHOUT))
+}
+
+/// The column at a path.
+pub fn column(alloc: Global, path: &[&str]) -> Result<Expression, AllocError> {
+    let mut names = Vec::new(alloc);
+    for name in path {
+        names.push(FieldName::new(alloc, name)?)?;
+    }
+    Ok(col(FieldNames::new(names)))
+}
+
+pub fn truth(value: bool) -> Expression {
+    lit(Scalar::from(value))
+}
+
+pub fn int(value: i32) -> Expression {
+    lit(Scalar::from(value))
+}
+
+pub fn text(value: &'static str) -> Result<Expression, StatsError> {
+    let value = Some(ScalarValue::Utf8(BufferString::from_static(value)));
+    match Scalar::try_new(DType::Utf8(WITHOUT), value) {
+        Ok(scalar) => Ok(lit(scalar)),
+        Err(error) => Err(of_value(error)),
+    }
+}
+
+/// Whether the proof is told so, where nothing is told of none.
+pub fn is_told(
+    alloc: Global,
+    proof: &Option<Expression>,
+    wanted: &str,
+) -> Result<bool, StatsError> {
+    let mut told = String::new(alloc);
+    if let Some(proof) = proof {
+        tell(&mut told, proof)?;
+    }
+    Ok(told.as_str() == wanted)
+}
+
+fn tell(out: &mut String, e: &Expression) -> Result<(), AllocError> {
+    match &e.node {
+        Node::Literal(value) => tell_value(out, value.value()),
+        Node::Column(path) => tell_path(out, path),
+        Node::Compare(comparison, x, y) => tell_both(out, sign_of(*comparison), x, y),
+        Node::And(x, y) => tell_both(out, "AND", x, y),
+        Node::Or(x, y) => tell_both(out, "OR", x, y),
+        Node::Not(x) => tell_one(out, "not", x),
+        Node::IsNull(x) => tell_one(out, "is_null", x),
+        Node::IsNotNull(x) => tell_one(out, "is_not_null", x),
+        Node::IsNan(x) => tell_one(out, "is_nan", x),
+        Node::Between(_, _, _, _) => out.push_str("a BETWEEN"),
+        Node::Like(_, _, _) => out.push_str("a LIKE"),
+        Node::RowCount => out.push_str("rows"),
+        Node::Stat(aggregate, x) => tell_one(out, name_of(*aggregate), x),
+    }
+}
+
+fn tell_both(
+    out: &mut String,
+    operator: &str,
+    x: &Expression,
+    y: &Expression,
+) -> Result<(), AllocError> {
+    out.push_str("(")?;
+    tell(out, x)?;
+    write!(out, " {operator} ")?;
+    tell(out, y)?;
+    out.push_str(")")
+}
+
+fn tell_one(out: &mut String, function: &str, x: &Expression) -> Result<(), AllocError> {
+    write!(out, "{function} ")?;
+    tell(out, x)
+}
+
+fn tell_value(out: &mut String, value: Option<&ScalarValue>) -> Result<(), AllocError> {
+    match value {
+        None => out.push_str("null"),
+        Some(ScalarValue::Bool(value)) => write!(out, "{value}"),
+        Some(ScalarValue::Primitive(number)) => write!(out, "{}{}", number.get(), number.ptype()),
+        Some(ScalarValue::Utf8(text)) => write!(out, "'{}'", text.as_str()),
+        Some(_) => out.push_str("another value"),
+    }
+}
+
+fn tell_path(out: &mut String, path: &FieldNames) -> Result<(), AllocError> {
+    for (i, name) in path.iter().enumerate() {
+        if i > 0 {
+            out.push_str(".")?;
+        }
+        write!(out, "{name}")?;
+    }
+    Ok(())
+}
+
+fn sign_of(comparison: Comparison) -> &'static str {
+    match comparison {
+        Comparison::Eq => "=",
+        Comparison::NotEq => "!=",
+        Comparison::Gt => ">",
+        Comparison::Gte => ">=",
+        Comparison::Lt => "<",
+        Comparison::Lte => "<=",
+    }
+}
+
+fn name_of(aggregate: AggregateFn) -> &'static str {
+    match aggregate {
+        AggregateFn::Min => "min",
+        AggregateFn::Max => "max",
+        AggregateFn::Sum => "sum",
+        AggregateFn::NullCount => "null_count",
+        AggregateFn::NanCount => "nan_count",
+        AggregateFn::UncompressedSizeInBytes => "size",
+        AggregateFn::MinMax => "min_max",
+        AggregateFn::AllNull => "all_null",
+        AggregateFn::AllNonNull => "all_non_null",
+        AggregateFn::AllNan => "all_nan",
+        AggregateFn::AllNonNan => "all_non_nan",
+    }
+}

@@ -1,0 +1,190 @@
+//! Scans by proofs that are made with rewrite rules of the caller.
+
+use crate::checks::Checks;
+use crate::make::{cell, integers, number, truth};
+use std::alloc::{AllocError, Global};
+use vortex_dtype::{
+    DType, FieldName, FieldPath, Nullability, StructField, StructFields,
+};
+use vortex_scalar::ScalarValue;
+use vortex_stats::{
+    Never, NotLiteral, ScalarFnId, StatsError, StatsRewriteRule, StatsRewriteRuleRef,
+};
+use vortex_table::expr::{Expression, not};
+use vortex_table::table::{ScanAnswer, Table, TableError};
+
+/// A rule for NOT that answers an error, or a proof that is a number.
+#[derive(Drop)]
+struct Faulty {
+    error: Option<StatsError>,
+}
+
+impl Faulty {
+    fn answer(&self) -> Result<Option<Expression>, StatsError> {
+        match self.error {
+            Some(error) => Err(error),
+            None => match number(7) {
+                Ok(proof) => Ok(Some(proof)),
+                Err(TableError::Memory) => Err(StatsError::Memory),
+                Err(_) => Err(StatsError::InvalidStat),
+            },
+        }
+    }
+}
+
+// Nothing here is proved, so the ghost members say nothing.
+impl StatsRewriteRule for Faulty {
+    ghost use Rattle.vortex_stats_rules.specs.Not.{never_is_sound};
+
+    ghost meaning = { λ _. never_is_sound };
+
+    fn scalar_fn_id(&self) -> ScalarFnId {
+        ScalarFnId::Not
+    }
+
+    fn falsify(
+        &self,
+        _alloc: Global,
+        _dtype: &DType,
+        _expr: &Expression,
+    ) -> Result<Option<Expression>, StatsError> {
+        self.answer()
+    }
+
+    fn satisfy(
+        &self,
+        _alloc: Global,
+        _dtype: &DType,
+        _expr: &Expression,
+    ) -> Result<Option<Expression>, StatsError> {
+        self.answer()
+    }
+}
+
+/// The two rules for NOT.
+fn two_rules(alloc: Global) -> Result<Vec<StatsRewriteRuleRef>, AllocError> {
+    let mut rules: Vec<StatsRewriteRuleRef> = Vec::new(alloc);
+    rules.push(Box::new(alloc, Never)?)?;
+    rules.push(Box::new(alloc, NotLiteral)?)?;
+    Ok(rules)
+}
+
+/// A sound rule, and behind it the one at fault.
+fn faulty_rules(
+    alloc: Global,
+    error: Option<StatsError>,
+) -> Result<Vec<StatsRewriteRuleRef>, AllocError> {
+    let mut rules: Vec<StatsRewriteRuleRef> = Vec::new(alloc);
+    rules.push(Box::new(alloc, NotLiteral)?)?;
+    rules.push(Box::new(alloc, Faulty { error })?)?;
+    Ok(rules)
+}
+
+/// A table of {a=i32}.
+fn one_column(alloc: Global, rows: &[i32]) -> Result<Table, TableError> {
+    let mut fields = Vec::new(alloc);
+    fields.push(StructField {
+        name: FieldName::new(alloc, "a")?,
+        dtype: integers(),
+    })?;
+    let dtype = DType::Struct(StructFields::from_vec(fields)?, Nullability::NonNullable);
+    let mut table = Table::create(alloc, dtype.clone()?, 16, &[])?;
+    let mut values = Vec::new(alloc);
+    for n in rows {
+        let mut cells = Vec::new(alloc);
+        cells.push(cell(*n))?;
+        values.push(Some(ScalarValue::Tuple(cells)))?;
+    }
+    table.append_owned(&dtype, values, &[])?;
+    Ok(table)
+}
+
+/// Scans along `a` by NOT of the truth value, with these rules.
+fn scan_not(
+    alloc: Global,
+    table: &Table,
+    value: bool,
+    rules: &[StatsRewriteRuleRef],
+) -> Result<ScanAnswer, TableError> {
+    let mut paths = Vec::new(alloc);
+    paths.push(FieldPath::from_names(alloc, &["a"])?)?;
+    table.scan_with(alloc, &paths, &not(alloc, truth(value)?)?, rules)
+}
+
+/// NOT has no built-in proofs, and those of two rules decide it.
+pub fn rules_add_proofs(alloc: Global, checks: &mut Checks<'_>) -> Result<(), TableError> {
+    let table = one_column(alloc, &[1, 2])?;
+    let rules = two_rules(alloc)?;
+    let mut paths = Vec::new(alloc);
+    paths.push(FieldPath::from_names(alloc, &["a"])?)?;
+    let plain = table.scan(alloc, &paths, &not(alloc, truth(true)?)?)?;
+    checks.holds(
+        "no rule: tested",
+        plain.rows.is_empty() && plain.rows_tested == 2 && plain.proofs == 0,
+    );
+    checks.holds("no rule: skipped", plain.skipped.is_empty());
+    let same = scan_not(alloc, &table, true, &[])?;
+    checks.holds(
+        "an empty list of rules",
+        same.rows.is_empty() && same.rows_tested == 2 && same.proofs == 0,
+    );
+
+    let skipped = scan_not(alloc, &table, true, &rules)?;
+    checks.holds(
+        "two rules: tested",
+        skipped.rows.is_empty() && skipped.rows_tested == 0 && skipped.proofs == 1,
+    );
+    checks.holds("two rules: skipped", skipped.skipped.as_slice() == [0].as_slice());
+    let whole = scan_not(alloc, &table, false, &rules)?;
+    checks.holds(
+        "two rules: whole",
+        whole.rows.len() == 2 && whole.rows_tested == 0 && whole.proofs == 2,
+    );
+    checks.holds("two rules: taken whole", whole.whole.as_slice() == [0].as_slice());
+    Ok(())
+}
+
+/// The error of a scan by NOT true with these rules, and none where it is accepted. Refused memory
+/// is handed on.
+fn error_with(
+    alloc: Global,
+    table: &Table,
+    rules: &[StatsRewriteRuleRef],
+) -> Result<Option<TableError>, TableError> {
+    match scan_not(alloc, table, true, rules) {
+        Ok(_) => Ok(None),
+        Err(TableError::Memory) => Err(TableError::Memory),
+        Err(error) => Ok(Some(error)),
+    }
+}
+
+/// A rule at fault refuses the scan, of a table without rows too, and what a scan refuses goes
+/// first. The table stays.
+pub fn rules_may_be_at_fault(alloc: Global, checks: &mut Checks<'_>) -> Result<(), TableError> {
+    let table = one_column(alloc, &[1, 2])?;
+    let errs = faulty_rules(alloc, Some(StatsError::NotEvaluable))?;
+    let counts = faulty_rules(alloc, None)?;
+    let fault = error_with(alloc, &table, &errs)?;
+    checks.holds("a rule that errs", fault == Some(TableError::RuleFault));
+    let fault = error_with(alloc, &table, &counts)?;
+    checks.holds("a proof that is a number", fault == Some(TableError::RuleFault));
+    let empty = one_column(alloc, &[])?;
+    let fault = error_with(alloc, &empty, &errs)?;
+    checks.holds("no rows", fault == Some(TableError::RuleFault));
+    checks.holds(
+        "number and name",
+        TableError::RuleFault.number() == 17 && TableError::RuleFault.name() == "RuleFault",
+    );
+
+    let mut paths = Vec::new(alloc);
+    paths.push(FieldPath::from_names(alloc, &["z"])?)?;
+    let path = match table.scan_with(alloc, &paths, &not(alloc, truth(true)?)?, &errs) {
+        Ok(_) => None,
+        Err(TableError::Memory) => return Err(TableError::Memory),
+        Err(error) => Some(error),
+    };
+    checks.holds("a path goes first", path == Some(TableError::UnknownPath(0)));
+    let answer = scan_not(alloc, &table, false, &[])?;
+    checks.holds("the table stays", answer.rows.len() == 2 && table.chunk_count() == 1);
+    Ok(())
+}

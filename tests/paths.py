@@ -1,0 +1,224 @@
+#!/usr/bin/env python3
+"""Compares the two readers of appends: the one that goes token by token, and the one that makes a
+JSON value first.
+
+paths.py [--lines N] [--seed S] [PROGRAM]    PROGRAM is crates/colscan/out/colscan where none
+                                             is given
+
+A line that begins with `{"cmd":"append",` is read token by token, as far as it is of that form. The
+same line behind a space says the same, and is read by its JSON value. So each session of random
+appends is run twice, once with a space before each append, and both have to answer alike, byte for
+byte. Before each append stands a `create` of its type, and behind it a scan of all rows.
+
+The lines are right ones and near ones: numbers at the ends of their kinds and in other forms,
+escapes, surrogates and their halves, hexadecimal digits, spaces, members that are doubled, lacking
+or in another order, and bytes that are changed, gone or doubled.
+The last line is 'N passed, M failed', counted in sessions, with one more for how many lines were
+accepted and refused; the status is 0 if none failed.
+"""
+import argparse
+import os
+import random
+import subprocess
+import sys
+
+HERE = os.path.dirname(os.path.abspath(__file__))
+LINES = 5_000
+# Of all lines, the least share of those that have to be read token by token to their end, and of
+# those that have to be refused.
+SHARE = 10
+ENDS = [sign * 2**bits for bits in (7, 8, 15, 16, 31, 32, 63, 64) for sign in (1, -1)]
+NUMBERS = ["0", "1", "-1", "7", *(str(end + more) for end in ENDS for more in (-1, 0, 1))]
+ODD_NUMBERS = [*"-0 1.0 0.5 1e2 1E+2 -2e-3 1e400 00 01 - +1 5. .5 NaN".split(), "9" * 30]
+LETTERS = [
+    *"abZ09 '{],\x7fé🪩\uffff",
+    *r"\n \t \r \b \f \/ \\ \" \u0041 \u00e9 \u0000 \uD83E\uDEA9 \udbff\udfff \uffff".split(),
+]
+ODD_LETTERS = [*r"\ud800 \udc00 \udc00\ud800 \ud83ex \u12 \x41".split(), "\x01", "\\"]
+DIGITS = ["00", "ff", "7F", "aB", r"\u0036\u0061"]
+ODD_DIGITS = ["1", "g0", "é", " "]
+ODD = '{} [] [[]] "" {"a":1} null true false nul True " NaN'.split()
+SPOILERS = b'{}[]",:0-+.eE\\u \x00\x1f\x80\xc3\xff'
+
+
+def record(names, *children):
+    return '{"kind":"struct","names":[%s],"children":[%s]}' % (names, ",".join(children))
+
+
+def kind(name, more=""):
+    return '{"kind":"%s"%s}' % (name, more)
+
+
+NULLABLE = ',"nullable":true'
+# Types of rows, each with a form of its rows: `i` stands for a number, `s` for a text, `b` for
+# bytes, `t` for a truth value, `n` for null or a number, `I` for an array of numbers and `S` for
+# one of texts. By the last types a line is refused.
+FORMS = [
+    (record('"a"', kind("i8")), "[i]"),
+    (record('"a"', kind("i64")), "[i]"),
+    (record('"a","b"', kind("u64"), kind("i32", NULLABLE)), "[i,n]"),
+    (record('"s"', kind("utf8")), "[s]"),
+    (record('"b","t"', kind("binary"), kind("bool")), "[b,t]"),
+    (record(r'"é","\u0065"', kind("u16"), kind("i16")), "[i,i]"),
+    (record('"l"', kind("list", ',"children":[%s]' % kind("i32"))), "[I]"),
+    (record('"l"', kind("list", NULLABLE + ',"children":[%s]' % kind("utf8", NULLABLE))), "[S]"),
+    (record('"f"', kind("fixed_size_list", ',"size":2,"children":[%s]' % kind("u32"))), "[[i,i]]"),
+    (record('"p","q"', record('"a","b"', kind("i32"), kind("utf8")), kind("bool")), "[[i,s],t]"),
+    (record(""), "[]"),
+    (record('"a","a"', kind("u8"), kind("f32")), "[i,n]"),
+    (kind("list", ',"children":[%s]' % kind("i32")), "I"),
+    (record('"a"', kind("i9")), "[i]"),
+    (record('"a"', kind("i8", ',"size":1e1')), "[i]"),
+]
+
+
+class Lines:
+    """Random lines of appends."""
+
+    def __init__(self, seed):
+        self.chance = random.Random(seed)
+
+    def one_in(self, count):
+        return self.chance.random() * count < 1
+
+    def one_of(self, right, odd):
+        return self.chance.choice(odd if self.one_in(150) else right)
+
+    def number(self):
+        return self.one_of(NUMBERS if self.one_in(4) else NUMBERS[:4], ODD_NUMBERS)
+
+    def quoted(self, right, odd):
+        return '"%s"' % "".join(self.one_of(right, odd) for _ in range(self.chance.randrange(5)))
+
+    def items(self, item):
+        return "[%s]" % ",".join(item() for _ in range(self.chance.randrange(4)))
+
+    def text(self):
+        return self.quoted(LETTERS, ODD_LETTERS)
+
+    def value(self, sign):
+        if self.one_in(150):
+            return self.chance.choice(ODD)
+        if sign == "n" and self.one_in(3):
+            return "null"
+        return {
+            "i": self.number,
+            "n": self.number,
+            "s": self.text,
+            "b": lambda: self.quoted(DIGITS, ODD_DIGITS),
+            "t": lambda: self.chance.choice(["true", "false"]),
+            "I": lambda: self.items(self.number),
+            "S": lambda: self.items(self.text),
+        }[sign]()
+
+    def rows(self, form):
+        row = lambda: "".join(self.value(it) if it.isalpha() else it for it in form)
+        return "[%s]" % ",".join(row() for _ in range(self.chance.randrange(5)))
+
+    def members(self, dtype, form):
+        """Those of an append in another order, doubled, lacking, or with others between them."""
+        kinds = [
+            lambda: '"dtype":' + dtype,
+            lambda: '"rows":' + self.rows(form),
+            lambda: '"layouts":["plain","dictionary"]',
+            lambda: r'"\u0063md":"append"',
+            lambda: '"more":' + self.chance.choice(ODD),
+        ]
+        count = 2 + self.chance.randrange(3)
+        return [self.chance.choice([*kinds[:2], *kinds])() for _ in range(count)]
+
+    def deep(self):
+        """Lists in lists, about as deep as a line may nest."""
+        depth = self.chance.randrange(55, 67)
+        nested = self.chance.choice([depth, self.chance.randrange(120, 128)])
+        dtype = '{"kind":"list","children":[' * depth + kind("i8") + "]}" * depth
+        return ['"dtype":' + dtype, '"rows":[%s]' % ("[" * nested + "]" * nested)]
+
+    def spaced(self, text):
+        """The text with spaces around what stands between values."""
+        space = lambda: self.chance.choice(" \t\r") if self.one_in(4) else ""
+        return "".join(space() + it + space() if it in "{}[],:" else it for it in text)
+
+    def spoiled(self, line):
+        at, odd = self.chance.randrange(len(line)), bytes([self.chance.choice(SPOILERS)])
+        return self.chance.choice([
+            line[:at] + odd + line[at + 1 :],
+            line[:at] + line[at + 1 :],
+            line[:at] + odd + line[at:],
+            line[:at],
+            line + odd,
+        ])
+
+    def draw(self):
+        """An append with its type, and whether its members are those of the first reader."""
+        dtype, form = self.chance.choice(FORMS)
+        in_order = not self.one_in(8)
+        if in_order:
+            members = ['"dtype":' + dtype, '"rows":' + self.rows(form)]
+        else:
+            members = self.deep() if self.one_in(40) else self.members(dtype, form)
+        rest = ",".join(members) + "}"
+        line = '{"cmd":"append",' + (self.spaced(rest) if self.one_in(5) else rest)
+        line = line.encode()
+        return dtype, self.spoiled(line) if self.one_in(5) else line, in_order
+
+
+def run(program, lines):
+    ran = subprocess.run([program], input=b"\n".join(lines) + b"\n", capture_output=True)
+    return ran.returncode, ran.stdout.split(b"\n")
+
+
+def session(program, seed, count):
+    """How many appends in order were accepted, how many refused, and the first that isn't alike."""
+    draws, by_tokens, by_values = [], [], []
+    lines = Lines(seed)
+    for _ in range(count):
+        dtype, line, in_order = lines.draw()
+        draws.append((line, in_order))
+        create = b'{"cmd":"create","length":16,"dtype":%s}' % dtype.encode()
+        scan = b'{"cmd":"scan","paths":[[]],"where":["lit",{"kind":"bool"},true]}'
+        by_tokens += [create, line, scan]
+        by_values += [create, b" " + line, scan]
+    status, answers = run(program, by_tokens)
+    other_status, other_answers = run(program, by_values)
+    accepted = refused = 0
+    for i, (line, in_order) in enumerate(draws):
+        if answers[3 * i : 3 * i + 3] != other_answers[3 * i : 3 * i + 3]:
+            return accepted, refused, "%r: %r, and behind a space %r" % (
+                line, answers[3 * i + 1], other_answers[3 * i + 1]
+            )
+        is_right = answers[3 * i + 1] == b'{"ok":true}'
+        accepted += is_right and in_order
+        refused += not is_right
+    ends = (status, other_status, len(answers), len(other_answers))
+    is_whole = ends == (0, 0, 3 * count + 1, 3 * count + 1)
+    return accepted, refused, None if is_whole else "status and answers %r" % (ends,)
+
+
+def main():
+    words = argparse.ArgumentParser(description=__doc__.split("\n")[0])
+    words.add_argument("program", nargs="?")
+    words.add_argument("--lines", type=int, default=100_000)
+    words.add_argument("--seed", type=int, default=0)
+    given = words.parse_args()
+    top = os.path.dirname(HERE)
+    program = given.program or os.path.join(top, "crates", "colscan", "out", "colscan")
+    passed = failed = lines = accepted = refused = 0
+    while lines < given.lines:
+        count = min(LINES, given.lines - lines)
+        more, others, wrong = session(program, given.seed + lines, count)
+        lines, accepted, refused = lines + count, accepted + more, refused + others
+        if wrong:
+            failed += 1
+            print("session from line %d: %s" % (lines - count, wrong))
+        else:
+            passed += 1
+    are_enough = min(accepted, refused) * SHARE >= lines
+    passed, failed = passed + are_enough, failed + (not are_enough)
+    print("paths: %d lines, %d appends in order accepted, %d refused" % (lines, accepted, refused))
+    print("%d passed, %d failed" % (passed, failed))
+    return 1 if failed else 0
+
+
+if __name__ == "__main__":
+    sys.exit(main())
