@@ -19,8 +19,9 @@ A verdict is kept in the folder nuldvaki/mutants of XDG_CACHE_HOME, or else of ~
 checksum of all that it rests on: the line of `rt version`; src, specs and proofs of the crate and
 of those below it, which crates.txt names; the libraries as they were built; and the edit. So a run
 tries what changed, and `--anew` tries all. That folder can be removed at any time. `--jobs N` works
-on N crates at a time, and else on one a processor. The last line is 'N passed, M failed', counted
-in edits; the status is 0 if none failed, 1 if some did, and 2 if nothing could be tried.
+on N crates at a time, and else on as many as processors and memory allow. The last line is
+'N passed, M failed', counted in edits; the status is 0 if none failed, 1 if some did, and 2 if
+nothing could be tried.
 """
 import argparse
 import concurrent.futures
@@ -38,6 +39,7 @@ import tempfile
 sys.dont_write_bytecode = True
 TOP = os.path.dirname(os.path.dirname(os.path.abspath(__file__)))
 sys.path.insert(0, os.path.join(TOP, "tools"))
+import lanes
 import sources
 
 PARTS = ("src", "specs", "proofs")
@@ -136,6 +138,7 @@ class Kit:
             ran = subprocess.Popen(words, cwd=copy, **how)
             used = os.wait4(ran.pid, 0)[2]
             ran.returncode = 0
+            crate.checks += 1
             crate.seconds += used.ru_utime + used.ru_stime
             said.seek(0)
             return said.read()
@@ -174,8 +177,8 @@ class Crate:
         self.name, self.uses = name, uses
         self.folder = os.path.join(TOP, "crates", name)
         self.below = []
-        # The processor seconds of its checks in this run.
-        self.seconds = 0.0
+        # How many checks it took in this run, and their processor seconds.
+        self.checks, self.seconds = 0, 0.0
 
     def edits(self):
         folder = os.path.join(self.folder, FOLDER)
@@ -426,17 +429,16 @@ def main():
     # Those with the most edits first, so that none of them is left alone at the end.
     crates = sorted((it for it in crates if it.edits()), key=lambda it: -len(it.edits()))
     passed, failed, new = 0, 0, 0
-    with concurrent.futures.ThreadPoolExecutor(
-        given.jobs or len(os.sched_getaffinity(0))
-    ) as lanes:
-        runs = lanes.map(lambda it: tried(kit, it, given.anew), crates)
+    with concurrent.futures.ThreadPoolExecutor(given.jobs or lanes.lanes()) as pool:
+        runs = pool.map(lambda it: tried(kit, it, given.anew), crates)
         for crate, (found, count) in zip(crates, runs):
             new += count
             for name, why in found:
                 print("mutants %s/%s: %s" % (crate.name, name, why or WELL), flush=True)
                 passed, failed = passed + (not why), failed + bool(why)
             if count:
-                print("mutants %s: %.0f processor seconds" % (crate.name, crate.seconds), flush=True)
+                took = (crate.name, crate.checks, crate.seconds)
+                print("mutants %s: %d checks, %.0f processor seconds" % took, flush=True)
     minutes = sum(it.seconds for it in crates) / 60
     of = "%d of %d wrong bodies were tried in this run" % (new, passed + failed)
     print("mutants: %s, in %.1f processor minutes; the others are kept" % (of, minutes))

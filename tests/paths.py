@@ -5,8 +5,10 @@ JSON value first.
 paths.py [--lines N] [--seed S] [PROGRAM]    PROGRAM is crates/colscan/out/colscan where none
                                              is given
 
-A line that begins with `{"cmd":"append",` is read token by token, as far as it is of that form. The
-same line behind a space says the same, and is read by its JSON value. So each session of random
+A line that begins with `{"cmd":"append",` is read token by token, as far as it is of that form:
+into columns where each field is a truth value, an integer or a text, and into rows otherwise. Where
+a cell doesn't fit its column, in the first row or a later one, the line is read by its JSON value.
+The same line behind a space says the same, and is read by its JSON value. So each session of random
 appends is run twice, once with a space before each append, and both have to answer alike, byte for
 byte. Before each append stands a `create` of its type, and behind it a scan of all rows.
 
@@ -51,13 +53,19 @@ def kind(name, more=""):
 
 NULLABLE = ',"nullable":true'
 # Types of rows, each with a form of its rows: `i` stands for a number, `s` for a text, `b` for
-# bytes, `t` for a truth value, `n` for null or a number, `I` for an array of numbers and `S` for
-# one of texts. By the last types a line is refused.
+# bytes, `t` for a truth value, `n`, `m` and `u` for null or a number, a text or a truth value, `I`
+# for an array of numbers and `S` for one of texts. By the last types a line is refused.
 FORMS = [
     (record('"a"', kind("i8")), "[i]"),
     (record('"a"', kind("i64")), "[i]"),
     (record('"a","b"', kind("u64"), kind("i32", NULLABLE)), "[i,n]"),
     (record('"s"', kind("utf8")), "[s]"),
+    (record('"t","s"', kind("bool"), kind("utf8", NULLABLE)), "[t,m]"),
+    (
+        record('"a","b","c","d"', *(kind(it, NULLABLE) for it in ("i8", "utf8", "bool", "u64"))),
+        "[n,m,u,n]",
+    ),
+    (record('"a","b","c","d"', *(kind(it) for it in ("u8", "u32", "i16", "i32"))), "[i,i,i,i]"),
     (record('"b","t"', kind("binary"), kind("bool")), "[b,t]"),
     (record(r'"é","\u0065"', kind("u16"), kind("i16")), "[i,i]"),
     (record('"l"', kind("list", ',"children":[%s]' % kind("i32"))), "[I]"),
@@ -88,7 +96,8 @@ class Lines:
         return self.one_of(NUMBERS if self.one_in(4) else NUMBERS[:4], ODD_NUMBERS)
 
     def quoted(self, right, odd):
-        return '"%s"' % "".join(self.one_of(right, odd) for _ in range(self.chance.randrange(5)))
+        count = self.chance.randrange(25 if self.one_in(6) else 5)
+        return '"%s"' % "".join(self.one_of(right, odd) for _ in range(count))
 
     def items(self, item):
         return "[%s]" % ",".join(item() for _ in range(self.chance.randrange(4)))
@@ -99,14 +108,16 @@ class Lines:
     def value(self, sign):
         if self.one_in(150):
             return self.chance.choice(ODD)
-        if sign == "n" and self.one_in(3):
+        if sign in "nmu" and self.one_in(3):
             return "null"
         return {
             "i": self.number,
             "n": self.number,
             "s": self.text,
+            "m": self.text,
             "b": lambda: self.quoted(DIGITS, ODD_DIGITS),
             "t": lambda: self.chance.choice(["true", "false"]),
+            "u": lambda: self.chance.choice(["true", "false"]),
             "I": lambda: self.items(self.number),
             "S": lambda: self.items(self.text),
         }[sign]()

@@ -42,6 +42,14 @@ def faults_of_edges(crate, uses):
             yield "%s: %s: %s stands below %s, and may not use it" % (crate, other, own, below)
 
 
+def faults_of_names(crate, uses):
+    """The crates of the line that no file of the crate names."""
+    text = sources.all_text(crate)
+    for other in uses:
+        if not re.search(r"\b%s\b" % other, text):
+            yield "%s: %s: no file of the crate names it" % (crate, other)
+
+
 def faults_of_source(crate):
     """What is wrong with the crate's src."""
     code = code_of(crate)
@@ -61,7 +69,8 @@ def main():
     faults, listed = [], sources.crates()
     for crate, uses in listed.items():
         uses = [it for it in uses if it in listed]
-        faults += [*faults_of_edges(crate, uses), *faults_of_source(crate)]
+        faults += [*faults_of_edges(crate, uses), *faults_of_names(crate, uses)]
+        faults += faults_of_source(crate)
     for fault in faults:
         print("edges: " + fault)
     print("edges: %d crates, %d lines that offend" % (len(listed), len(faults)))

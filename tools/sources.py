@@ -50,6 +50,17 @@ def source_files(crate):
     return sorted(os.path.relpath(it, top) for it in found)
 
 
+def all_text(crate):
+    """The text of all files of the crate's src, specs and proofs."""
+    texts = []
+    for part in ("src", "specs", "proofs"):
+        for at, _, names in os.walk(os.path.join(TOP, "crates", crate, part)):
+            for name in names:
+                with open(os.path.join(at, name), encoding="utf-8") as it:
+                    texts.append(it.read())
+    return "\n".join(texts)
+
+
 def read(crate, file):
     with open(os.path.join(source_folder(crate), file), encoding="utf-8") as it:
         return it.read()

@@ -1,15 +1,15 @@
 -- Bytes whose bits are set one after the other.
-use Rattle.std.proofs.Common.{◌≡◌, ◌≢◌, ℕ, zero, suc, ◌+◌, ◌*◌, ◌/◌, ◌%◌, ◌++◌, ◌≤◌, ◌<◌, inl, inr, Result, Ok, Err, IfOk, List, Bool, true, false, not, ◌||◌, ◌==◌, nat_eq, length, map, take, drop, get_or, replicate, refl, sym, ap, subst, ◌∙◌, arith}
+use Rattle.std.proofs.Common.{◌≡◌, ◌≢◌, ℕ, zero, suc, ◌+◌, ◌*◌, ◌/◌, ◌%◌, ◌++◌, ◌≤◌, ◌<◌, inl, inr, Result, Ok, Err, IfOk, List, Bool, true, false, not, ◌||◌, ◌==◌, nat_eq, length, map, take, drop, get_or, replicate, refl, sym, ap, ◌∙◌, arith}
 use Rattle.std.specs.Int.{bit_at}
 use Rattle.std.specs.List.{list_any, zip}
 use Rattle.std.proofs.lemmas.Bool.{cases_eq, eq-eqb, ne_eqb}
-use Rattle.std.proofs.lemmas.List.{ext_get_or, get_or_default, get_or-map, get_or-replicate, length-map, length-replicate, take_all, take_at}
+use Rattle.std.proofs.lemmas.List.{ext_get_or, get_or-map, get_or-replicate, length-map, length-replicate, take_all, take_at}
 use Rattle.std.proofs.lemmas.List.Folds.{list_any_more}
 use Rattle.std.proofs.lemmas.List.FromFn.{fill_by_all, get_or-map-range_with_len}
 use Rattle.std.proofs.lemmas.Nat.Bits.{bit_at_ones, bit_at-zero}
 use Rattle.std.proofs.lemmas.Slice.Zip.{length-zip, get_or-zip}
 use Rattle.vortex_arrays_buffer.specs.Bits.{bit_of, bits_of, bits_at}
-use Rattle.vortex_arrays_buffer.proofs.BitLemmas.{bit_count, bit_in}
+use Rattle.vortex_arrays_buffer.proofs.BitLemmas.{bit_count}
 
 -- the first bits are these, where they are so one by one
 pub bits_are : (bytes : List ℕ) (n : ℕ) (bits : List Bool) → length bits ≡ n → ((k : ℕ) → k < n → get_or bits k false ≡ bit_of bytes k) → bits_of bytes 0 n ≡ bits
@@ -38,51 +38,10 @@ all_set n m h = bits_are (replicate m 255) n (replicate n true) (length-replicat
 pub written : (n : ℕ) (new old : List ℕ) → n ≡ length old → length new ≡ length old → take n (new ++ drop (length new) old) ≡ new
 written n new old e same = take_at new (drop (length new) old) n (omega arith)
 
--- the first i bits are as P says of their places, and no other is set
-pub record Collects (P : ℕ → Bool → Type 0) (bytes : List ℕ) (i n : ℕ) : Type 0 where
-  pub front : (j : ℕ) → j < i → P j (bit_of bytes j)
-  pub rest : (j : ℕ) → i ≤ j → bit_of bytes j ≡ false
-  pub room : n ≤ 8 * length bytes
-
-pub collects_none : (P : ℕ → Bool → Type 0) (m n : ℕ) → n ≤ 8 * m → Collects P (replicate m 0) 0 n
-collects_none P m n h = record {
-  front = λ j l. absurd (omega arith);
-  rest = λ j l. zero_bit m j;
-  room = omega (arith, length-replicate {A = ℕ} m 0);
-}
-
-collects_more : (P : ℕ → Bool → Type 0) (old new : List ℕ) (i n : ℕ) → Collects P old i n → P i true → bit_of new i ≡ true → ((j : ℕ) → j ≢ i → bit_of new j ≡ bit_of old j) → length new ≡ length old → Collects P new (i + 1) n
-collects_more P old new i n c holds here others same = record {
-  front = λ j h. elim (cases_eq j i) [
-    | inl e ↦ subst (λ k. P k (bit_of new k)) (sym e) (subst (P i) (sym here) holds)
-    | inr d ↦ subst (P j) (sym (others j d)) (c.front j (omega arith))
-  ];
-  rest = λ j h. others j (λ e. omega arith) ∙ c.rest j (omega arith);
-  room = omega (arith, c.room);
-}
-
-pub collects_set : (P : ℕ → Bool → Type 0) (old new : List ℕ) (i n m : ℕ) (b : Bool) → m ≡ length old → Collects P old i n → P i b → b ≡ true → bit_of new i ≡ true → ((j : ℕ) → j ≢ i → bit_of new j ≡ bit_of old j) → length new ≡ length old → Collects P (take m (new ++ drop (length new) old)) (i + 1) n
-collects_set P old new i n m b e c holds is here others same = rw (written m new old e same) (collects_more P old new i n c (subst (P i) is holds) here others same)
-
-pub collects_skip : (P : ℕ → Bool → Type 0) (bytes : List ℕ) (i n : ℕ) (b : Bool) → Collects P bytes i n → P i b → b ≡ false → Collects P bytes (i + 1) n
-collects_skip P bytes i n b c holds is = record {
-  front = λ j h. elim (cases_eq j i) [
-    | inl e ↦ subst (λ k. P k (bit_of bytes k)) (sym e) (subst (P i) (is ∙ sym (c.rest i (omega arith))) holds)
-    | inr d ↦ c.front j (omega arith)
-  ];
-  rest = λ j h. c.rest j (omega arith);
-  room = c.room;
-}
-
-pub collects_all : (P : ℕ → Bool → Type 0) (bytes : List ℕ) (bits : List Bool) (i n : ℕ) → bits ≡ bits_of bytes 0 n → n ≤ i → Collects P bytes i n → (k : ℕ) → k < n → P k (get_or bits k false)
-collects_all P bytes bits i n is e c k l = subst (P k) (sym (ap (λ xs. get_or xs k false) is ∙ get_or-map-range_with_len (bit_of bytes) 0 n k k false l (omega arith))) (c.front k (omega arith))
-
 -- what two facts make one list
 pub made_of : {E : Type 0} (r : Result (List Bool) E) (P Q : List Bool → Type 0) (all : List Bool) → IfOk r P → IfOk r Q → ((b : List Bool) → P b → Q b → b ≡ all) → IfOk r (λ b. b ≡ all)
 made_of (Ok b) P Q all p q f = f b p q
 made_of (Err e) P Q all p q f = tt
-
-pub ruleset collected = (collects_none, collects_set, collects_skip, bit_count)
 
 -- what stands at each place makes the list
 pub contraries : (xs ys : List Bool) (n : ℕ) → n ≡ length xs → length ys ≡ n → ((i : ℕ) → i < n → get_or ys i false ≡ not (get_or xs i false)) → ys ≡ map not xs
@@ -98,47 +57,6 @@ pairwise f xs ys zs n e same many h =
 
 pub chosen : (xs ys : List Bool) (places : List ℕ) (n : ℕ) → n ≡ length places → length ys ≡ n → ((i : ℕ) → i < n → get_or ys i false ≡ get_or xs (get_or places i 0) false) → ys ≡ map (λ i. get_or xs i false) places
 chosen xs ys places n e many h = ext_get_or false ys (map (λ i. get_or xs i false) places) (many ∙ e ∙ sym (length-map places (λ i. get_or xs i false))) (λ k l. let m : k < n = omega arith in h k m ∙ sym (get_or-map (λ i. get_or xs i false) places k 0 false (omega arith)))
-
--- the first i bits are those of the list, and no other is set
-pub record HasFront (bytes : List ℕ) (bits : List Bool) (i : ℕ) : Type 0 where
-  pub front : (j : ℕ) → j < i → bit_of bytes j ≡ get_or bits j false
-  pub rest : (j : ℕ) → i ≤ j → bit_of bytes j ≡ false
-  pub room : length bits ≤ 8 * length bytes
-
-pub front_none : (m : ℕ) (bits : List Bool) → length bits ≤ 8 * m → HasFront (replicate m 0) bits 0
-front_none m bits h = record {
-  front = λ j l. absurd (omega arith);
-  rest = λ j l. zero_bit m j;
-  room = omega (arith, length-replicate {A = ℕ} m 0);
-}
-
-front_more : (old new : List ℕ) (bits : List Bool) (i : ℕ) (b : Bool) → HasFront old bits i → i < length bits → b ≡ get_or bits i b → b ≡ true → bit_of new i ≡ true → ((j : ℕ) → j ≢ i → bit_of new j ≡ bit_of old j) → length new ≡ length old → HasFront new bits (i + 1)
-front_more old new bits i b f l at is here others same = record {
-  front = λ j h. elim (cases_eq j i) [
-    | inl e ↦ ap (bit_of new) e ∙ here ∙ sym is ∙ at ∙ get_or_default bits i b false l ∙ ap (λ k. get_or bits k false) (sym e)
-    | inr n ↦ others j n ∙ f.front j (omega arith)
-  ];
-  rest = λ j h. others j (λ e. omega arith) ∙ f.rest j (omega arith);
-  room = omega (arith, f.room);
-}
-
-pub front_set : (old new : List ℕ) (bits : List Bool) (i m : ℕ) (b : Bool) → m ≡ length old → HasFront old bits i → i < length bits → b ≡ get_or bits i b → b ≡ true → bit_of new i ≡ true → ((j : ℕ) → j ≢ i → bit_of new j ≡ bit_of old j) → length new ≡ length old → HasFront (take m (new ++ drop (length new) old)) bits (i + 1)
-front_set old new bits i m b e f l at is here others same = rw (written m new old e same) (front_more old new bits i b f l at is here others same)
-
-pub front_skip : (old : List ℕ) (bits : List Bool) (i : ℕ) (b : Bool) → HasFront old bits i → i < length bits → b ≡ get_or bits i b → b ≡ false → HasFront old bits (i + 1)
-front_skip old bits i b f l at is = record {
-  front = λ j h. elim (cases_eq j i) [
-    | inl e ↦ f.rest j (omega arith) ∙ sym is ∙ at ∙ get_or_default bits i b false l ∙ ap (λ k. get_or bits k false) (sym e)
-    | inr n ↦ f.front j (omega arith)
-  ];
-  rest = λ j h. f.rest j (omega arith);
-  room = f.room;
-}
-
-pub front_all : (bytes : List ℕ) (bits : List Bool) (n : ℕ) → n ≡ length bits → HasFront bytes bits n → bits_of bytes 0 n ≡ bits
-front_all bytes bits n e f = bits_are bytes n bits (sym e) (λ k l. sym (f.front k l))
-
-pub ruleset fronts = (front_none, front_set, front_skip, front_all)
 
 -- the bits at the first i of the places are set, and no others
 pub record HasPlaces (bytes places : List ℕ) (i n : ℕ) : Type 0 where

@@ -1,10 +1,11 @@
 -- The eight bits of a byte, and bits of stretches of bytes.
-use Rattle.std.proofs.Common.{◌≡◌, ℕ, zero, suc, ◌+◌, ◌-◌, ◌*◌, ◌/◌, ◌%◌, ◌^◌, ◌++◌, ◌≤◌, ◌<◌, List, [], ◌∷◌, Bool, ◌==◌, slice_index, refl, sym, ap, ◌∙◌, arith, append_assoc}
-use Rattle.std.proofs.lemmas.List.{append-nil}
+use Rattle.std.proofs.Common.{◌≡◌, ℕ, zero, suc, ◌+◌, ◌-◌, ◌*◌, ◌/◌, ◌%◌, ◌^◌, ◌++◌, ◌≤◌, ◌<◌, List, [], ◌∷◌, Bool, false, ◌==◌, length, take, get_or, set, replicate, slice_index, refl, sym, ap, ◌∙◌, arith, append_assoc}
+use Rattle.std.proofs.lemmas.List.{append-nil, take_more, take_more_set, take_all, length-set, length-replicate}
 use Rattle.std.specs.Prelude.{bit_and}
 use Rattle.std.specs.Int.{bit_at}
 use Rattle.std.proofs.lemmas.Nat.Bits.{shr_and_one}
 use Rattle.vortex_arrays_buffer.specs.Bits.{bit_of, bits_of}
+use Rattle.vortex_arrays_buffer.proofs.BitLemmas.{bit_count}
 
 -- a bit of the byte at k, where i is its place
 pub bit_of_byte : (bytes : List ℕ) (k b i j : ℕ) → j < 8 → i ≡ 8 * k + j → b ≡ slice_index bytes k → bit_of bytes i ≡ (bit_at b j == 1)
@@ -64,12 +65,56 @@ none_yet old bytes start n e = sym (append-nil old) ∙ ap (λ m. old ++ bits_of
 pub one_more : (old : List Bool) (bytes : List ℕ) (start i : ℕ) (b : Bool) → start ≤ i → b ≡ bit_of bytes i → (old ++ bits_of bytes start (i - start)) ++ b ∷ [] ≡ old ++ bits_of bytes start (i + 1 - start)
 one_more old bytes start i b l is = ap (λ x. (old ++ bits_of bytes start (i - start)) ++ x ∷ []) is ∙ joined_behind old bytes start i (i + 1) 1 l refl
 
-pub sixteen_more : (old more : List Bool) (bytes : List ℕ) (first j : ℕ) → more ≡ bits_of bytes (8 * (first + 2 * j)) 16 → (old ++ bits_of bytes (8 * first) (16 * j)) ++ more ≡ old ++ bits_of bytes (8 * first) (16 * (j + 1))
-sixteen_more old more bytes first j is =
+-- the first i of sixteen flags are written from a place on
+pub record Put (old flags now : List Bool) (at i : ℕ) : Type 0 where
+  pub front : take (at + i) now ≡ take at old ++ take i flags
+  pub same : length now ≡ length old
+
+pub put_none : (old flags : List Bool) (at : ℕ) → Put old flags old at 0
+put_none old flags at =
+    let none : at + 0 ≡ at = omega arith in
+    record { front = ap (λ n. take n old) none ∙ sym (append-nil (take at old)); same = refl }
+
+pub put_more : (old flags now : List Bool) (at i : ℕ) (bytes : List ℕ) (k : ℕ) → at + 16 ≤ length old → i < 16 → flags ≡ bits_of bytes (8 * k) 16 → Put old flags now at i → Put old flags (set now (at + i) (get_or flags i false)) at (i + 1)
+put_more old flags now at i bytes k room l is p =
+    let next : at + (i + 1) ≡ at + i + 1 = omega arith in
+    let many : length flags ≡ 16 = ap length is ∙ bit_count bytes (8 * k) 16 in
+    let within : i < length flags = omega (arith, many) in
+    let place : at + i < length now = omega (arith, p.same) in
+    record {
+      front = ap (λ n. take n (set now (at + i) (get_or flags i false))) next ∙ take_more_set now (at + i) (get_or flags i false) place
+          ∙ ap (λ xs. xs ++ get_or flags i false ∷ []) p.front ∙ append_assoc (take at old) (take i flags) (get_or flags i false ∷ [])
+          ∙ ap (λ xs. take at old ++ xs) (sym (take_more flags i false within));
+      same = length-set now (at + i) (get_or flags i false) ∙ p.same;
+    }
+
+pub put_all : (old flags now : List Bool) (at i : ℕ) (bytes : List ℕ) (k : ℕ) → i ≡ 16 → flags ≡ bits_of bytes (8 * k) 16 → Put old flags now at i → take (at + 16) now ≡ take at old ++ bits_of bytes (8 * k) 16
+put_all old flags now at i bytes k e is p =
+    let many : length flags ≡ 16 = ap length is ∙ bit_count bytes (8 * k) 16 in
+    ap (λ n. take (at + n) now) (sym e) ∙ p.front ∙ ap (λ xs. take at old ++ xs) (take_all i flags (omega (arith, many, e)) ∙ is)
+
+-- there are places for the bits of so many pairs of bytes, and those of the first j pairs are written
+pub record Spread (flags : List Bool) (bytes : List ℕ) (first pairs j : ℕ) : Type 0 where
+  pub many : length flags ≡ 16 * pairs
+  pub placed : take (16 * j) flags ≡ bits_of bytes (8 * first) (16 * j)
+
+pub spread_none : (bytes : List ℕ) (first pairs : ℕ) → Spread (replicate (16 * pairs) false) bytes first pairs 0
+spread_none bytes first pairs = record { many = length-replicate (16 * pairs) false; placed = refl }
+
+pub spread_more : (old now : List Bool) (bytes : List ℕ) (first pairs j : ℕ) → take (16 * j + 16) now ≡ take (16 * j) old ++ bits_of bytes (8 * (first + 2 * j)) 16 → length now ≡ length old → Spread old bytes first pairs j → Spread now bytes first pairs (j + 1)
+spread_more old now bytes first pairs j front same s =
     let next : 16 * j + 16 ≡ 16 * (j + 1) = omega arith in
-    ap (λ xs. (old ++ bits_of bytes (8 * first) (16 * j)) ++ xs) is
-    ∙ append_assoc old (bits_of bytes (8 * first) (16 * j)) (bits_of bytes (8 * (first + 2 * j)) 16)
-    ∙ ap (λ xs. old ++ xs) (sym (bits_joined bytes (8 * first) (16 * j) 16 (8 * (first + 2 * j)) (omega arith)) ∙ ap (bits_of bytes (8 * first)) next)
+    record {
+      many = same ∙ s.many;
+      placed = ap (λ n. take n now) (sym next) ∙ front ∙ ap (λ xs. xs ++ bits_of bytes (8 * (first + 2 * j)) 16) s.placed
+          ∙ sym (bits_joined bytes (8 * first) (16 * j) 16 (8 * (first + 2 * j)) (omega arith)) ∙ ap (bits_of bytes (8 * first)) next;
+    }
+
+pub spread_all : (flags : List Bool) (bytes : List ℕ) (first pairs j : ℕ) → j ≡ pairs → Spread flags bytes first pairs j → flags ≡ bits_of bytes (8 * first) (16 * pairs)
+spread_all flags bytes first pairs j e s =
+    sym (take_all (16 * j) flags (omega (arith, s.many, e))) ∙ s.placed ∙ ap (λ n. bits_of bytes (8 * first) (16 * n)) e
+
+pub ruleset unpacked = (spread_none, spread_all)
 
 -- what comes before a stretch of m bits from a to b, the stretch, and what is behind it
 pub three_parts : (bytes : List ℕ) (start a m b end : ℕ) → start ≤ a → a + m ≡ b → b ≤ end → (bits_of bytes start (a - start) ++ bits_of bytes a m) ++ bits_of bytes b (end - b) ≡ bits_of bytes start (end - start)

@@ -34,7 +34,7 @@ with_false bytes start i b l at is =
 pub ruleset counted_bits = (with_true, with_false)
 
 -- a digit is 1 where it is, and else 0
-digit : (d : ℕ) → d < 2 → cond (d == 1) 1 0 ≡ d
+pub digit : (d : ℕ) → d < 2 → cond (d == 1) 1 0 ≡ d
 digit zero l = refl
 digit (suc zero) l = refl
 digit (suc (suc d)) l = absurd (omega arith)

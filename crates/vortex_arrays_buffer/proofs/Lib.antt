@@ -1,8 +1,13 @@
 pub mod BitLemmas
+pub mod BitMoves
 pub mod Built
 pub mod ByteLemmas
+pub mod BytePairs
+pub mod Collected
 pub mod Counts
 pub mod NumberLemmas
+pub mod PlaceLemmas
+pub mod Placed
 pub mod Positions
 pub mod SignedItems
 pub mod Windows

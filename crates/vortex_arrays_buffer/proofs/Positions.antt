@@ -1,31 +1,10 @@
 -- How many bits are true, and where.
-use Rattle.std.proofs.Common.{◌≡◌, ℕ, zero, suc, ◌+◌, ◌++◌, ◌≤◌, ◌<◌, List, [], ◌∷◌, Bool, true, false, not, ◌↔◌, length, take, get_or, replicate, cond, refl, sym, ap, ◌∙◌, arith}
+use Rattle.std.proofs.Common.{◌≡◌, ℕ, zero, suc, ◌+◌, ◌≤◌, ◌<◌, List, [], ◌∷◌, Bool, true, false, not, ◌↔◌, length, get_or, replicate, cond, refl, sym, ap, ◌∙◌, arith}
 use Rattle.std.specs.List.{All, count_by}
-use Rattle.std.proofs.lemmas.List.{append-nil, length-take-le, take_more}
 use Rattle.std.proofs.lemmas.List.Filters.{length-filter_both}
 use Rattle.std.proofs.lemmas.List.Recursion.{is_count_by}
 use Rattle.std.proofs.lemmas.List.Sums.{length-filter}
 use Rattle.vortex_arrays_buffer.specs.Bits.{positions_from, positions_of}
-
--- the bit after the first ones
-positions_push : (at : ℕ) (bits : List Bool) (b : Bool) → positions_from at (bits ++ b ∷ []) ≡ positions_from at bits ++ cond b ((at + length bits) ∷ []) []
-positions_push at [] true = ap (λ n. n ∷ []) (let e : at ≡ at + 0 = omega arith in e)
-positions_push at [] false = refl
-positions_push at (true ∷ bits) b = ap (λ l. at ∷ l) (positions_push (suc at) bits b ∙ ap (λ n. positions_from (suc at) bits ++ cond b (n ∷ []) []) (let e : suc at + length bits ≡ at + suc (length bits) = omega arith in e))
-positions_push at (false ∷ bits) b = positions_push (suc at) bits b ∙ ap (λ n. positions_from (suc at) bits ++ cond b (n ∷ []) []) (let e : suc at + length bits ≡ at + suc (length bits) = omega arith in e)
-
-pub position_yes : (bits : List Bool) (i : ℕ) (b : Bool) → i < length bits → b ≡ get_or bits i false → b ≡ true → positions_of (take (i + 1) bits) ≡ positions_of (take i bits) ++ i ∷ []
-position_yes bits i b l at is =
-    let place : 0 + length (take i bits) ≡ i = omega (arith, length-take-le i bits (omega arith)) in
-    ap positions_of (take_more bits i false l) ∙ positions_push 0 (take i bits) (get_or bits i false)
-    ∙ ap (λ x. positions_of (take i bits) ++ cond x ((0 + length (take i bits)) ∷ []) []) (sym at ∙ is)
-    ∙ ap (λ n. positions_of (take i bits) ++ n ∷ []) place
-
-pub position_no : (bits : List Bool) (i : ℕ) (b : Bool) → i < length bits → b ≡ get_or bits i false → b ≡ false → positions_of (take (i + 1) bits) ≡ positions_of (take i bits)
-position_no bits i b l at is = ap positions_of (take_more bits i false l) ∙ positions_push 0 (take i bits) (get_or bits i false)
-    ∙ ap (λ x. positions_of (take i bits) ++ cond x ((0 + length (take i bits)) ∷ []) []) (sym at ∙ is) ∙ append-nil (positions_of (take i bits))
-
-pub ruleset placed = (position_yes, position_no)
 
 -- how many bits are true, by cases
 abbrev trues : List Bool → ℕ

@@ -1,3 +1,3 @@
 pub mod Bits
-pub mod Errors
+pub mod Places
 pub mod PrimitiveBuffers

@@ -4,8 +4,11 @@ ghost use Rattle.std.specs.List.{zip};
 ghost use Rattle.vortex_arrays_buffer.specs.Bits.{bits_of, bits_at, positions_of};
 
 use crate::bit::{bit, set_bit};
+use crate::bitwise::{both, either, moved, opposite};
 use crate::buffer::Buffer;
+use crate::collect::collect_bytes;
 use crate::count::count_true;
+use crate::places::places_of;
 use crate::unpack::unpack;
 use std::alloc::{AllocError, Global};
 use std::marker::Model;
@@ -64,7 +67,6 @@ impl BitBuffer {
     }
 
     /// So many bits, at each place what `f` says of it, as Vortex's `BitBuffer::collect_bool`.
-    #[tactic(auto, using(crate::proofs::Built::collected))]
     pub fn collect_bool<F: Fn(usize) -> bool>(
         alloc: Global,
         len: usize,
@@ -75,27 +77,15 @@ impl BitBuffer {
         ensures bits { IfOk result
             (λ b. (i : ℕ) → i < len → F.post f i (slice_index_or b i false)) }
     {
-        let mut bytes = vec![in alloc; 0; len.div_ceil(8)]?;
-        for i in 0..len {
-            if f(i) {
-                set_bit(&mut bytes, i);
-            }
-        }
+        let bytes = collect_bytes(alloc, len, f)?;
         BitBuffer::of_bytes(bytes, len)
     }
 
     /// These bits.
-    #[tactic(auto, using(crate::proofs::Built::fronts))]
     pub fn from_bools(alloc: Global, bits: &[bool]) -> Result<BitBuffer, AllocError>
         ensures { IfOk result (λ b. b ≡ bits.now) }
     {
-        let mut bytes = vec![in alloc; 0; bits.len().div_ceil(8)]?;
-        for i in 0..bits.len() {
-            if bits[i] {
-                set_bit(&mut bytes, i);
-            }
-        }
-        BitBuffer::of_bytes(bytes, bits.len())
+        BitBuffer::collect_bool(alloc, bits.len(), |i| bits[i])
     }
 
     /// So many bits, of which those at the places are true, as Vortex's `BitBuffer::from_indices`.
@@ -159,24 +149,34 @@ impl BitBuffer {
     }
 
     /// The places of the true bits, ascending, as Vortex's `BitBuffer::set_indices`.
-    #[tactic(auto, using(crate::proofs::Positions::placed))]
+    #[tactic(auto, using(crate::proofs::BitLemmas::bits))]
     pub fn set_indices(&self, alloc: Global) -> Result<Vec<usize>, AllocError>
         ensures { IfOk result (λ places. places.items ≡ positions_of self.now) }
     {
-        let mut places = Vec::with_capacity(alloc, self.true_count())?;
-        for i in 0..self.len() {
-            if self.value(i) {
-                places.push(i)?;
-            }
+        let bytes = self.bytes.as_slice();
+        places_of(alloc, bytes, self.start, self.start + self.len)
+    }
+
+    /// Bytes of which the first bits are these. They are shared where these begin a byte.
+    fn packed(&self, alloc: Global) -> Result<Buffer<u8>, AllocError>
+        ensures room { IfOk result (λ bytes. length self.now ≤ 8 * length bytes) }
+        ensures bits { IfOk result (λ bytes. bits_of bytes 0 (length self.now) ≡ self.now) }
+    {
+        if self.start % 8 != 0 {
+            let bytes = moved(alloc, self.bytes.as_slice(), self.start, self.len)?;
+            return Buffer::from_vec(bytes);
         }
-        Ok(places)
+        let first = self.start / 8;
+        self.bytes.slice(first..first + self.len.div_ceil(8))
     }
 
     /// The contrary of each bit.
     pub fn not(&self, alloc: Global) -> Result<BitBuffer, AllocError>
         ensures { IfOk result (λ b. b ≡ map not self.now) }
     {
-        BitBuffer::collect_bool(alloc, self.len(), |i| !self.value(i))
+        let mine = self.packed(alloc)?;
+        let bytes = opposite(alloc, mine.as_slice())?;
+        BitBuffer::of_bytes(bytes, self.len())
     }
 
     /// The bits at the places, in the order of the places.
@@ -192,7 +192,10 @@ impl BitBuffer {
         requires { length self.now ≡ length other.now }
         ensures { IfOk result (λ b. b ≡ map (λ p. p.0 && p.1) (zip self.now other.now)) }
     {
-        BitBuffer::collect_bool(alloc, self.len(), |i| self.value(i) && other.value(i))
+        let mine = self.packed(alloc)?;
+        let theirs = other.packed(alloc)?;
+        let bytes = both(alloc, mine.as_slice(), theirs.as_slice())?;
+        BitBuffer::of_bytes(bytes, self.len())
     }
 
     /// At each place, whether one of both has a true bit.
@@ -200,7 +203,10 @@ impl BitBuffer {
         requires { length self.now ≡ length other.now }
         ensures { IfOk result (λ b. b ≡ map (λ p. p.0 || p.1) (zip self.now other.now)) }
     {
-        BitBuffer::collect_bool(alloc, self.len(), |i| self.value(i) || other.value(i))
+        let mine = self.packed(alloc)?;
+        let theirs = other.packed(alloc)?;
+        let bytes = either(alloc, mine.as_slice(), theirs.as_slice())?;
+        BitBuffer::of_bytes(bytes, self.len())
     }
 
     /// The bits at the places of the range. They are shared and not copied.

@@ -4,11 +4,13 @@ ghost use Rattle.vortex_model.specs.Valid.{InRange};
 ghost use Rattle.vortex_dtype_ptype.specs.Numbers.{integral};
 ghost use Rattle.vortex_dtype_ptype.specs.View.{number_kind_of};
 ghost use Rattle.vortex_scalar_value.specs.Numbers.{kind_of_number, integer_of};
+ghost use Rattle.vortex_arrays_buffer.specs.Places.{IsPlace};
 ghost use Rattle.vortex_arrays_buffer.specs.PrimitiveBuffers.{kind_of_numbers, integers_of};
 
 use crate::buffer::Buffer;
 use crate::element::Element;
 use crate::in_range::{all_i8, all_i16, all_i32, all_i64, all_u8, all_u16, all_u32, all_u64};
+use crate::within::are_within;
 use std::alloc::{AllocError, Global};
 use std::ops::Range;
 use vortex_dtype_ptype::ptype::PType;
@@ -128,6 +130,22 @@ impl PrimitiveBuffer {
             PrimitiveBuffer::I16(items) => PValue::I16(items.get(i)),
             PrimitiveBuffer::I32(items) => PValue::I32(items.get(i)),
             PrimitiveBuffer::I64(items) => PValue::I64(items.get(i)),
+        }
+    }
+
+    /// Whether each number is a place among so many.
+    pub fn are_within(&self, count: usize) -> bool
+        ensures { IsTrue result ↔ All (IsPlace count) (integers_of self.now) }
+    {
+        match self {
+            PrimitiveBuffer::U8(items) => are_within(items.as_slice(), count),
+            PrimitiveBuffer::U16(items) => are_within(items.as_slice(), count),
+            PrimitiveBuffer::U32(items) => are_within(items.as_slice(), count),
+            PrimitiveBuffer::U64(items) => are_within(items.as_slice(), count),
+            PrimitiveBuffer::I8(items) => are_within(items.as_slice(), count),
+            PrimitiveBuffer::I16(items) => are_within(items.as_slice(), count),
+            PrimitiveBuffer::I32(items) => are_within(items.as_slice(), count),
+            PrimitiveBuffer::I64(items) => are_within(items.as_slice(), count),
         }
     }
 

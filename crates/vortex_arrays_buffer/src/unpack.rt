@@ -1,5 +1,5 @@
 //! Bits as truth values, sixteen at once where two bytes have all of them.
-ghost use Rattle.std.specs.Prelude.{◌≡◌, ◌≤◌, ◌+◌, ◌-◌, ◌*◌, ◌++◌, length, IfOk, OnOk};
+ghost use Rattle.std.specs.Prelude.{◌≡◌, ◌<◌, ◌≤◌, ◌+◌, ◌-◌, ◌*◌, ◌^◌, ◌++◌, length, take, IfOk, OnOk};
 ghost use Rattle.vortex_arrays_buffer.specs.Bits.{bits_of};
 
 use crate::bit::{bit, sixteen_bits};
@@ -23,7 +23,7 @@ pub(crate) fn unpack(
     let pairs = (end / 8 - first) / 2;
     let mut bits = Vec::with_capacity(alloc, end - start)?;
     push_bits(&mut bits, bytes, start, 8 * first)?;
-    push_pairs(&mut bits, bytes, first, pairs)?;
+    push_pairs(&mut bits, alloc, bytes, first, pairs)?;
     push_bits(&mut bits, bytes, 8 * (first + 2 * pairs), end)?;
     Ok(bits)
 }
@@ -41,19 +41,40 @@ fn push_bits(bits: &mut Vec<bool>, bytes: &[u8], start: usize, end: usize) -> Re
     Ok(())
 }
 
-/// Adds the bits of so many pairs of bytes.
+/// Adds the bits of so many pairs of bytes. Each has its place before it is written, so that those
+/// of a pair are spread together, with no growth between them.
+#[tactic(auto, using(crate::proofs::ByteLemmas::unpacked))]
 fn push_pairs(
     bits: &mut Vec<bool>,
+    alloc: Global,
     bytes: &[u8],
     first: usize,
     pairs: usize,
 ) -> Result<(), AllocError>
-    requires { first + 2 * pairs ≤ length bytes.now }
+    requires within { first + 2 * pairs ≤ length bytes.now }
+    requires small { 16 * pairs < 2 ^ 64 }
     ensures { OnOk result
         (bits.new.items ≡ bits.old.items ++ bits_of bytes.now (8 * first) (16 * pairs)) }
 {
+    let mut flags = vec![in alloc; false; 16 * pairs]?;
     for j in 0..pairs {
-        bits.extend_from_slice(&sixteen_bits(bytes, first + 2 * j))?;
+        put_pair(&mut flags, 16 * j, bytes, first + 2 * j);
     }
+    bits.extend_from_slice(&flags)?;
     Ok(())
+}
+
+/// Writes the bits of a pair of bytes from a place on.
+#[inline(always)]
+fn put_pair(flags: &mut Vec<bool>, at: usize, bytes: &[u8], k: usize)
+    requires room { at + 16 ≤ length flags.old.items }
+    requires within { k + 1 < length bytes.now }
+    ensures front { take (at + 16) flags.new.items
+        ≡ take at flags.old.items ++ bits_of bytes.now (8 * k) 16 }
+    ensures same { length flags.new.items ≡ length flags.old.items }
+{
+    let sixteen = sixteen_bits(bytes, k);
+    for i in 0..16 {
+        flags[at + i] = sixteen[i];
+    }
 }

@@ -10,8 +10,8 @@ use Rattle.vortex_dtype_core.specs.declared.struct_fields.StructField.{StructFie
 use Rattle.vortex_dtype_core.proofs.Views.{one_level, field_of-parts}
 use Rattle.vortex_scalar_value.specs.View.{raw_at, content_at as value_content}
 use Rattle.vortex_scalar_value.specs.declared.scalar_value.ScalarValue.{ScalarValue}
-use Rattle.vortex_arrays_buffer.specs.declared.error.ArrayError.{ArrayError}
-use Rattle.vortex_arrays_buffer.specs.declared.error.ArrayError.TheVariants as error
+use Rattle.vortex_arrays_view.specs.declared.error.ArrayError.{ArrayError}
+use Rattle.vortex_arrays_view.specs.declared.error.ArrayError.TheVariants as error
 use Rattle.vortex_arrays_model.specs.Layout.{Layout, array_type_of, rows_of, Strings, texts, byte_strings, type_of_strings}
 use Rattle.vortex_arrays_builder.specs.Items.{raw_items, fixed_items}
 use Rattle.vortex_arrays_builder.specs.Strings.{IsStringsFault}

@@ -16,8 +16,8 @@ use Rattle.vortex_model.specs.Valid.{valid}
 use Rattle.vortex_model.proofs.Tests.{has_so}
 use Rattle.vortex_scalar_value.specs.View.{raw_at}
 use Rattle.vortex_scalar_value.specs.declared.scalar_value.ScalarValue.{ScalarValue}
-use Rattle.vortex_arrays_buffer.specs.declared.error.ArrayError.{ArrayError}
-use Rattle.vortex_arrays_buffer.specs.declared.error.ArrayError.TheVariants as error
+use Rattle.vortex_arrays_view.specs.declared.error.ArrayError.{ArrayError}
+use Rattle.vortex_arrays_view.specs.declared.error.ArrayError.TheVariants as error
 use Rattle.vortex_arrays_view.specs.Views.{value_of, HasValue}
 use Rattle.vortex_arrays_view.specs.Made.{short_view, long_view}
 use Rattle.vortex_arrays_view.specs.Lengths.{counts_of, AddUp}

@@ -5,8 +5,8 @@ use Rattle.vortex_model.specs.LogicalType.{LogicalType, utf8, binary, list, fixe
 use Rattle.vortex_model.specs.Content.{content_of, is_null, Raw, raw_null, raw_boolean, raw_number}
 use Rattle.vortex_model.specs.Valid.{valid}
 use Rattle.vortex_scalar_value.specs.Parts.{raw_part}
-use Rattle.vortex_arrays_buffer.specs.declared.error.ArrayError.{ArrayError}
-use Rattle.vortex_arrays_buffer.specs.declared.error.ArrayError.TheVariants as error
+use Rattle.vortex_arrays_view.specs.declared.error.ArrayError.{ArrayError}
+use Rattle.vortex_arrays_view.specs.declared.error.ArrayError.TheVariants as error
 use Rattle.vortex_arrays_model.specs.Layout.{Layout, Valid, Columns, no_columns, column, len_of, array_type_of, content_at, is_valid, nullability_by, IsSound, HasLength}
 use Rattle.vortex_arrays_builder.specs.Items.{raw_items, fixed_items}
 use Rattle.vortex_arrays_builder.specs.Strings.{IsStringsFault}

@@ -4,7 +4,7 @@ use Rattle.std.specs.List.{flat_map}
 use Rattle.vortex_model.specs.Content.{Raw, raw_null, raw_text, raw_byte_string}
 use Rattle.vortex_arrays_view.specs.Views.{value_of, HasValue}
 use Rattle.vortex_arrays_view.specs.Built.{IsLimitFault}
-use Rattle.vortex_arrays_buffer.specs.declared.error.ArrayError.{ArrayError}
+use Rattle.vortex_arrays_view.specs.declared.error.ArrayError.{ArrayError}
 
 -- the bytes of a text or of bytes, and none of anything else
 abbrev pub bytes_in : Raw → List ℕ

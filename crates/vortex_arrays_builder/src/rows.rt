@@ -5,8 +5,8 @@ ghost use Rattle.vortex_scalar_value.specs.View.{raw_in, content_in};
 ghost use Rattle.vortex_arrays_model.specs.Layout.{len_of, array_type_of, content_at};
 
 use std::alloc::{AllocError, Global};
-use vortex_arrays_buffer::error::ArrayError;
 use vortex_arrays_core::array::ArrayRef;
+use vortex_arrays_view::error::ArrayError;
 use vortex_scalar_value::scalar_value::ScalarValue;
 
 /// The value of a row, and `None` for null.

@@ -8,8 +8,8 @@ use Rattle.vortex_model.specs.LogicalType.{IntKind, u8, u16, u32, u64, i8, i16, 
 use Rattle.vortex_dtype_ptype.specs.Numbers.{NumberKind, integral, floating, is_integral, HasByteWidth}
 use Rattle.vortex_dtype_native.specs.NativeBytes.{AreBytesOf}
 use Rattle.vortex_dtype_native.proofs.Encoded.{width_u8, width_u16, width_u32, width_u64, width_i8, width_i16, width_i32, width_i64}
-use Rattle.vortex_arrays_buffer.specs.declared.error.ArrayError.{ArrayError}
-use Rattle.vortex_arrays_buffer.specs.declared.error.ArrayError.TheVariants as error
+use Rattle.vortex_arrays_view.specs.declared.error.ArrayError.{ArrayError}
+use Rattle.vortex_arrays_view.specs.declared.error.ArrayError.TheVariants as error
 use Rattle.vortex_arrays_model.specs.Layout.{Layout, numbers, Valid, required, all_valid, all_null, by_array, is_valid, HasLength}
 use Rattle.vortex_arrays_core.specs.Faults.{IsValidityFault}
 use Rattle.vortex_arrays_bytes.specs.Integers.{valid_before, HoldIntegers, StandInBytes, IsOfBytes, IsTypeFault, IsBytesFault, IsValueBytesFault}

@@ -3,8 +3,8 @@ use Rattle.std.specs.Prelude.{◌≡◌, ◌<◌, ◌*◌, ◌⊎◌, ℕ, zero,
 use Rattle.vortex_model.specs.LogicalType.{IntKind}
 use Rattle.vortex_dtype_ptype.specs.Numbers.{NumberKind, integral, is_integral, HasByteWidth}
 use Rattle.vortex_dtype_native.specs.NativeBytes.{AreBytesOf}
-use Rattle.vortex_arrays_buffer.specs.declared.error.ArrayError.{ArrayError}
-use Rattle.vortex_arrays_buffer.specs.declared.error.ArrayError.TheVariants as error
+use Rattle.vortex_arrays_view.specs.declared.error.ArrayError.{ArrayError}
+use Rattle.vortex_arrays_view.specs.declared.error.ArrayError.TheVariants as error
 use Rattle.vortex_arrays_model.specs.Layout.{Layout, numbers, Valid, required, is_valid, HasLength}
 use Rattle.vortex_arrays_core.specs.Faults.{IsValidityFault}
 

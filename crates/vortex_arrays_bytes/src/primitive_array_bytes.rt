@@ -7,9 +7,9 @@ ghost use Rattle.vortex_arrays_bytes.specs.Integers.{IsOfBytes, IsBytesFault, Is
 
 use crate::integers::{count_valid, read_numbers};
 use std::alloc::Global;
-use vortex_arrays_buffer::error::ArrayError;
 use vortex_arrays_core::array::Validity;
 use vortex_arrays_leaf::primitive_array::PrimitiveArray;
+use vortex_arrays_view::error::ArrayError;
 use vortex_dtype_core::ByteBuffer;
 use vortex_dtype_ptype::ptype::PType;
 

@@ -89,7 +89,7 @@ stays k (Some r) zs ws v i kept lie l e =
     let within : (r.0 ≤ℤ z) × (z ≤ℤ r.1) = subst (λ b. IsBetween r.0 r.1 (cond b (integer z) null)) e (lie i l) in
     kept.each i l within.0 within.1
 
-as_many : (r : Option (ℤ × ℤ)) (zs ws : List ℤ) → Keeps r zs ws → length ws ≡ length zs
+pub as_many : (r : Option (ℤ × ℤ)) (zs ws : List ℤ) → Keeps r zs ws → length ws ≡ length zs
 as_many None zs ws h = ap length h
 as_many (Some r) zs ws h = h.many
 
@@ -145,7 +145,7 @@ pub ruleset leaves = (one_level, cast_bools, cast_integers, cast_views, views_so
 
 -- ---- records
 
-cast_fields_of : (gs : Fields) (cs ds : Columns) → AreCast gs cs ds → layout.fields_of ds ≡ gs
+pub cast_fields_of : (gs : Fields) (cs ds : Columns) → AreCast gs cs ds → layout.fields_of ds ≡ gs
 cast_fields_of no_fields no_columns no_columns h = refl
 cast_fields_of (field x k gs) (column y a cs) (column z r ds) h = λ t. field (h.0 t) (h.1.kind t) (cast_fields_of gs cs ds h.2 t)
 cast_fields_of gs cs ds h = absurd h
@@ -249,7 +249,7 @@ all_cast ns (t ∷ ts) (a ∷ fs) [] e m h = absurd (omega (arith, m))
 pub first_all : (ns : List (List ℕ)) (ts : List StructField) (fs : List Layout) (n : ℕ) (xs : List Layout) → FirstCast ts fs n xs → n ≡ length fs → length ts ≡ length fs → AreCast (fields_of ts) (columns_of ns fs) (columns_of (names_of (fields_of ts)) xs)
 first_all ns ts fs n xs h e m = all_cast ns ts fs xs m (h.many ∙ e) (λ j t a d l p q. h.each j t a d (omega (arith, l, e)) p q)
 
-names_many : (ts : List StructField) → length (names_of (fields_of ts)) ≡ length ts
+pub names_many : (ts : List StructField) → length (names_of (fields_of ts)) ≡ length ts
 names_many [] = refl
 names_many (t ∷ ts) = ap suc (names_many ts)
 

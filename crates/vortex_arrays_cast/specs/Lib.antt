@@ -1,2 +1,3 @@
 pub mod Cast
+pub mod Dictionaries
 pub mod Ranges

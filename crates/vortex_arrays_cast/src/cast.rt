@@ -12,8 +12,10 @@ ghost use Rattle.vortex_arrays_builder.specs.Types.{IsPlainLayout};
 ghost use Rattle.vortex_arrays_cast.specs.Cast.{IsCast, AreCast};
 ghost use Rattle.vortex_arrays_cast.specs.Ranges.{AreRangesOf, IsRangeIn};
 
+use crate::dictionaries::cast_dictionary;
 use crate::leaves::{cast_bools, cast_numbers, cast_strings, cast_validity};
 use crate::lists::{are_laid_out, even_offsets, even_sizes, stand_evenly};
+use crate::names::field_in;
 use crate::ranges::{LeafRange, field_ranges, in_field, own_range};
 use crate::records::of_columns;
 use std::alloc::{AllocError, Global};
@@ -25,10 +27,13 @@ use vortex_dtype_ptype::field_names::FieldNames;
 /// The rows as an array of another type, column by column, laid out plain. What stays as it is is
 /// shared.
 ///
+/// Of a dictionary of truth values, integers, texts or bytes the values are cast that its codes
+/// reference.
+///
 /// `None` where that can't be done, and a caller has to look at the rows themselves: some value
-/// may be one that the type can't hold, also one that lies behind a null, or some column is laid
-/// out in another way, or its lists become lists of one size, or the other way round, and some list
-/// has to move.
+/// may be one that the type can't hold, also one that lies behind a null, or some column is a
+/// constant or a dictionary of other values, or its lists become lists of one size, or the other
+/// way round, and some list has to move.
 #[tactic(auto, using(crate::proofs::CastLemmas::rows))]
 pub fn cast_array(
     alloc: Global,
@@ -42,18 +47,22 @@ pub fn cast_array(
         (converts (array_type_of array.now) (type_of target.now)) (rows_of array.now)))) }
     ensures layout { IfOk result (λ cast. IfSome cast (λ r. IsPlainLayout r)) }
 {
-    cast_array_within(alloc, array, target, &[])
+    cast_array_within(alloc, array, target, &[], None)
 }
 
 /// The rows as an array of another type, as by `cast_array`, where the integers of some leaf
 /// columns are known to lie in a range. Those of a column are not tested where the target holds the
 /// range. The ranges stand in the order of their positions.
+///
+/// Names of fields are shared with the other array, where that has the same ones in the same
+/// records.
 #[tactic(auto, using(crate::proofs::CastLemmas::rows))]
 pub fn cast_array_within(
     alloc: Global,
     array: &ArrayRef,
     target: &DType,
     ranges: &[LeafRange<'_>],
+    other: Option<&ArrayRef>,
 ) -> Result<Option<ArrayRef>, AllocError>
     requires { AreRangesOf 0 array.now ranges.now }
     ensures dtype { IfOk result
@@ -63,7 +72,7 @@ pub fn cast_array_within(
         (converts (array_type_of array.now) (type_of target.now)) (rows_of array.now)))) }
     ensures layout { IfOk result (λ cast. IfSome cast (λ r. IsPlainLayout r)) }
 {
-    cast_part(alloc, array, target, ranges, 0)
+    cast_part(alloc, array, target, ranges, 0, other)
 }
 
 // `ranges` are of leaves in this array, which is so many steps down.
@@ -75,6 +84,7 @@ fn cast_part(
     target: &DType,
     ranges: &[LeafRange<'_>],
     depth: usize,
+    other: Option<&ArrayRef>,
 ) -> Result<Option<ArrayRef>, AllocError>
     requires { AreRangesOf depth array.now ranges.now }
     ensures { IfOk result (λ cast. IfSome cast (IsCast (type_of target.now) array.now)) }
@@ -94,9 +104,14 @@ fn cast_part(
             cast_any_lists(alloc, elements, offsets, sizes, *follow, validity, target)
         }
         ArrayLayout::Struct(names, fields, len, validity) => {
-            cast_records(alloc, names, fields, *len, validity, target, ranges, depth)
+            cast_records(
+                alloc, names, fields, *len, validity, target, ranges, depth, other,
+            )
         }
-        ArrayLayout::Constant(_, _) | ArrayLayout::Dict(_, _, _) => Ok(None),
+        ArrayLayout::Dict(codes, values, _) => {
+            cast_dictionary(alloc, codes, values, target, own_range(ranges, depth))
+        }
+        ArrayLayout::Constant(_, _) => Ok(None),
     }
 }
 
@@ -112,6 +127,7 @@ fn cast_records(
     target: &DType,
     ranges: &[LeafRange<'_>],
     depth: usize,
+    other: Option<&ArrayRef>,
 ) -> Result<Option<ArrayRef>, AllocError>
     requires fit { HaveLength (columns_of names.now fields.now.items) len }
     requires validity { HasLength (valid_of validity.now) len }
@@ -127,11 +143,20 @@ fn cast_records(
     let Some(validity) = cast_validity(validity, *nullability, len)? else {
         return Ok(None);
     };
-    let Some(columns) = cast_fields(alloc, names, fields, len, targets.as_slice(), ranges, depth)?
+    let Some(columns) = cast_fields(
+        alloc,
+        names,
+        fields,
+        len,
+        targets.as_slice(),
+        ranges,
+        depth,
+        other,
+    )?
     else {
         return Ok(None);
     };
-    let cast = of_columns(alloc, targets, columns, len, validity)?;
+    let cast = of_columns(alloc, target, targets, columns, len, validity, other)?;
     Ok(Some(cast))
 }
 
@@ -147,6 +172,7 @@ fn cast_fields(
     targets: &[StructField],
     ranges: &[LeafRange<'_>],
     depth: usize,
+    other: Option<&ArrayRef>,
 ) -> Result<Option<Vec<ArrayRef>>, AllocError>
     requires fit { HaveLength (columns_of names.now fields.now.items) len }
     requires ranges { All (IsRangeIn depth len
@@ -170,7 +196,9 @@ fn cast_fields(
     for i in 0..fields.len() {
         let own = in_field(ranges, from, depth, i);
         from += own.len();
-        let Some(column) = cast_part(alloc, &fields[i], &targets[i].dtype, own, below)? else {
+        let field = field_in(other, i);
+        let Some(column) = cast_part(alloc, &fields[i], &targets[i].dtype, own, below, field)?
+        else {
             return Ok(None);
         };
         columns.push(column)?;
@@ -202,7 +230,7 @@ fn cast_fixed_lists(
     let Some(validity) = cast_validity(validity, *nullability, len)? else {
         return Ok(None);
     };
-    let Some(elements) = cast_part(alloc, elements, element, &[], 0)? else {
+    let Some(elements) = cast_part(alloc, elements, element, &[], 0, None)? else {
         return Ok(None);
     };
     let cast = ArrayRef::of_fixed_lists(alloc, elements, size, len, validity)?;
@@ -235,7 +263,7 @@ fn cast_lists(
     let Some(validity) = cast_validity(validity, *nullability, offsets.len())? else {
         return Ok(None);
     };
-    let Some(elements) = cast_part(alloc, elements, element, &[], 0)? else {
+    let Some(elements) = cast_part(alloc, elements, element, &[], 0, None)? else {
         return Ok(None);
     };
     let offsets = offsets.clone()?;

@@ -12,8 +12,8 @@ use Rattle.vortex_model.specs.Valid.{valid}
 use Rattle.vortex_dtype_core.specs.Parts.{is_struct_type}
 use Rattle.vortex_scalar_value.specs.View.{raw_in, raw_at, content_in, content_at as value_content}
 use Rattle.vortex_scalar_value.specs.declared.scalar_value.ScalarValue.{ScalarValue}
-use Rattle.vortex_arrays_buffer.specs.declared.error.ArrayError.{ArrayError}
-use Rattle.vortex_arrays_buffer.specs.declared.error.ArrayError.TheVariants as error
+use Rattle.vortex_arrays_view.specs.declared.error.ArrayError.{ArrayError}
+use Rattle.vortex_arrays_view.specs.declared.error.ArrayError.TheVariants as error
 use Rattle.vortex_arrays_model.specs.Layout.{Layout, bools, numbers, strings, texts, byte_strings, fixed_lists, list_views, records, len_of, array_type_of, content_at, rows_of}
 use Rattle.vortex_arrays_model.proofs.RowsLemmas.{row_at_position, row_count}
 use Rattle.vortex_arrays_struct.specs.Records.{AreRecords}

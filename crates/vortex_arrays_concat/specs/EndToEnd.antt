@@ -4,8 +4,8 @@ use Rattle.std.specs.List.{list_all}
 use Rattle.vortex_model.specs.LogicalType.{LogicalType, Nullability, non_nullable, either_nullable}
 use Rattle.vortex_model.specs.Content.{Content}
 use Rattle.vortex_dtype_core.specs.Parts.{is_struct_type}
-use Rattle.vortex_arrays_buffer.specs.declared.error.ArrayError.{ArrayError}
-use Rattle.vortex_arrays_buffer.specs.declared.error.ArrayError.TheVariants as error
+use Rattle.vortex_arrays_view.specs.declared.error.ArrayError.{ArrayError}
+use Rattle.vortex_arrays_view.specs.declared.error.ArrayError.TheVariants as error
 use Rattle.vortex_arrays_model.specs.Layout.{Layout, Valid, len_of, array_type_of, rows_of, nullability_by, HasLength}
 use Rattle.vortex_arrays_core.specs.LayoutOf.{valid_of}
 use Rattle.vortex_arrays_core.specs.declared.array.Validity.{Validity}

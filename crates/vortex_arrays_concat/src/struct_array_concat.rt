@@ -9,10 +9,10 @@ ghost use Rattle.vortex_arrays_concat.specs.EndToEnd.{AreOfType, IsConcatenation
 use crate::plain_types::has_plain;
 use crate::rows::{count_rows, lend, rows_of};
 use std::alloc::Global;
-use vortex_arrays_buffer::error::ArrayError;
 use vortex_arrays_builder::plain::build_plain;
 use vortex_arrays_core::array::ArrayRef;
 use vortex_arrays_struct::struct_array::StructArray;
+use vortex_arrays_view::error::ArrayError;
 use vortex_dtype_core::dtype::DType;
 
 /// The call of Vortex's `StructArray` that puts arrays of records end to end.

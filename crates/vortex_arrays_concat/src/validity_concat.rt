@@ -11,9 +11,9 @@ ghost use Rattle.vortex_arrays_concat.specs.EndToEnd.{parts_of, nullability_of_a
 
 use std::alloc::{AllocError, Global};
 use vortex_arrays_buffer::bit_buffer::BitBuffer;
-use vortex_arrays_buffer::error::ArrayError;
 use vortex_arrays_core::array::Validity;
 use vortex_arrays_validity::validity_ext::ValidityExt;
+use vortex_arrays_view::error::ArrayError;
 use vortex_dtype_core::dtype::DType;
 use vortex_dtype_ptype::nullability::Nullability;
 

@@ -1,10 +1,13 @@
 -- What is picked from an array's parts.
-use Rattle.std.proofs.Common.{◌≡◌, ◌<◌, ◌≤◌, ◌+◌, ◌-◌, ◌*◌, ℕ, Bool, true, false, List, [], ℤ, pos, length, get_or, slice_range, Option, Some, None, refl, sym, ap, subst, ◌∙◌, arith}
+use Rattle.std.proofs.Common.{◌≡◌, ◌<◌, ◌≤◌, ◌+◌, ◌-◌, ◌*◌, ℕ, Bool, true, false, cond, List, [], ℤ, pos, negsuc, length, get_or, slice_range, Option, Some, None, refl, sym, ap, subst, ◌∙◌, arith}
+use Rattle.std.specs.List.{All}
 use Rattle.std.proofs.lemmas.Nat.{mul-le}
 use Rattle.vortex_model.specs.LogicalType.{LogicalType, IntKind, integer_type, Nullability, non_nullable, nullable, is_nullable, IsNullable, nullability_of, either_nullable}
 use Rattle.vortex_model.specs.Content.{Content, null, integer}
 use Rattle.vortex_model.specs.Valid.{InRange, IsContent}
-use Rattle.vortex_arrays_model.specs.Layout.{Strings, Layout, bools, numbers, strings, fixed_lists, Valid, required, all_valid, all_null, by_array, len_of, array_type_of, nullability_by, content_at, IsInteger, IsSound, HasLength}
+use Rattle.vortex_arrays_model.specs.Layout.{Strings, Layout, bools, numbers, strings, fixed_lists, Valid, required, all_valid, all_null, by_array, len_of, array_type_of, nullability_by, is_valid, content_at, IsInteger, IsCode, IsSound, HasLength}
+use Rattle.vortex_arrays_model.specs.Parts.{AreWithin}
+use Rattle.vortex_arrays_buffer.specs.Places.{IsPlace}
 use Rattle.vortex_arrays_model.specs.Picks.{Picks, PicksValid, PicksSomeValid, position_of, is_valid_some}
 use Rattle.vortex_arrays_model.proofs.ValidRows.{rows_valid}
 use Rattle.vortex_arrays_model.proofs.PicksLemmas.{picks_all, picks_same, picks_bools, picks_numbers, picks_strings, picks_constant, picks_dictionary, picks_fixed_lists_from, picks_list_views_from, picks_records, get_or-part, length-part, All-part}
@@ -115,3 +118,15 @@ taken_by_array v m n f a bs e made many same = subst (λ b. PicksSomeValid v (by
 })
 
 pub ruleset rows_taken = (either_first, either_second, not_nullable, taken_required, taken_all_valid, taken_all_null)
+
+code_of_place : (n : ℕ) (z : ℤ) → IsPlace n z → IsCode n (integer z)
+code_of_place n (pos i) h = h
+code_of_place n (negsuc i) h = absurd h
+
+code_where : (n : ℕ) (z : ℤ) (b : Bool) → IsPlace n z → IsCode n (cond b (integer z) null)
+code_where n z true h = code_of_place n z h
+code_where n z false h = tt
+
+-- numbers that are places, those of null rows too
+pub numbers_within : (k : IntKind) (xs : List ℤ) (v : Valid) (n : ℕ) → All (IsPlace n) xs → AreWithin (numbers k xs v) n
+numbers_within k xs v n h i l = code_where n (get_or xs i (pos 0)) (is_valid v i) (h i (pos 0) l)

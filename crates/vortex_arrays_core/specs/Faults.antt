@@ -1,8 +1,8 @@
 -- Why a validity does not fit.
 use Rattle.std.specs.Prelude.{◌≡◌, ◌≢◌, ℕ}
 use Rattle.vortex_model.specs.LogicalType.{boolean_type, non_nullable}
-use Rattle.vortex_arrays_buffer.specs.declared.error.ArrayError.{ArrayError}
-use Rattle.vortex_arrays_buffer.specs.declared.error.ArrayError.TheVariants.{LengthMismatch, WrongType}
+use Rattle.vortex_arrays_view.specs.declared.error.ArrayError.{ArrayError}
+use Rattle.vortex_arrays_view.specs.declared.error.ArrayError.TheVariants.{LengthMismatch, WrongType}
 use Rattle.vortex_arrays_model.specs.Layout.{Valid, by_array, len_of, array_type_of}
 
 -- An array that tells which of n rows are null holds truth values, none of them null, and one for

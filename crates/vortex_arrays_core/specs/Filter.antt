@@ -1,7 +1,7 @@
 -- When rows can't be kept by a mask.
 use Rattle.std.specs.Prelude.{◌≢◌, List, Bool, length}
-use Rattle.vortex_arrays_buffer.specs.declared.error.ArrayError.{ArrayError}
-use Rattle.vortex_arrays_buffer.specs.declared.error.ArrayError.TheVariants.{Memory, LengthMismatch}
+use Rattle.vortex_arrays_view.specs.declared.error.ArrayError.{ArrayError}
+use Rattle.vortex_arrays_view.specs.declared.error.ArrayError.TheVariants.{Memory, LengthMismatch}
 use Rattle.vortex_arrays_model.specs.Layout.{Layout, len_of}
 
 -- a mask has a bit for each row

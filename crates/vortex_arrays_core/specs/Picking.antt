@@ -4,8 +4,8 @@ use Rattle.vortex_model.specs.LogicalType.{LogicalType, integer_type}
 use Rattle.vortex_dtype_ptype.specs.Numbers.{is_natural}
 use Rattle.vortex_arrays_model.specs.Layout.{Layout, array_type_of}
 use Rattle.vortex_arrays_model.specs.Parts.{AreWithin}
-use Rattle.vortex_arrays_buffer.specs.declared.error.ArrayError.{ArrayError}
-use Rattle.vortex_arrays_buffer.specs.declared.error.ArrayError.TheVariants.{Memory, OutOfRange, WrongType}
+use Rattle.vortex_arrays_view.specs.declared.error.ArrayError.{ArrayError}
+use Rattle.vortex_arrays_view.specs.declared.error.ArrayError.TheVariants.{Memory, OutOfRange, WrongType}
 
 -- integers that are never below zero
 abbrev pub IsUnsigned : LogicalType → Type 0

@@ -3,8 +3,8 @@ use Rattle.std.specs.Prelude.{◌≤◌, ◌+◌, ◌*◌, ℕ, zero, suc, pos, 
 use Rattle.vortex_model.specs.Content.{Content, null, Raw, raw_null, raw_boolean, raw_number, raw_text, raw_byte_string, raw_tuple, Raws, no_raws, raw_first}
 use Rattle.vortex_arrays_view.specs.Views.{value_of}
 use Rattle.vortex_arrays_model.specs.Layout.{Strings, texts, byte_strings, Layout, bools, numbers, strings, constant, dictionary, fixed_lists, list_views, records, Columns, no_columns, column, len_of, content_at, is_valid, number_in}
-use Rattle.vortex_arrays_buffer.specs.declared.error.ArrayError.{ArrayError}
-use Rattle.vortex_arrays_buffer.specs.declared.error.ArrayError.TheVariants as error
+use Rattle.vortex_arrays_view.specs.declared.error.ArrayError.{ArrayError}
+use Rattle.vortex_arrays_view.specs.declared.error.ArrayError.TheVariants as error
 
 -- what stands at a code's number, and null at null
 abbrev pub raw_pick : Content → (ℕ → Raw) → Raw

@@ -8,7 +8,8 @@ ghost use Rattle.vortex_arrays_core.specs.LayoutOf.{valid_of};
 
 use crate::array::{ArrayRef, Validity};
 use std::alloc::{AllocError, Global};
-use vortex_arrays_buffer::{ArrayError, Mask};
+use vortex_arrays_buffer::Mask;
+use vortex_arrays_view::error::ArrayError;
 
 impl ArrayRef {
     /// The rows that a mask keeps, as Vortex's `ArrayRef::filter`. Refuses with `LengthMismatch`

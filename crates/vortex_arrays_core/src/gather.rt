@@ -197,10 +197,10 @@ fn gather_fields(
 fn position_codes(alloc: Global, positions: &[usize]) -> Result<ArrayRef, AllocError>
     ensures { IfOk result (λ codes. codes ≡ numbers u64 (map pos positions.now) required) }
 {
-    let mut codes: Vec<u64> = Vec::with_capacity(alloc, positions.len())?;
-    for position in positions {
-        codes.push(*position as u64)?;
-    }
+    let codes = positions
+        .iter()
+        .map(|position| *position as u64)
+        .collect(alloc)?;
     let codes = PrimitiveBuffer::U64(Buffer::from_vec(codes)?);
     ArrayRef::of_numbers(alloc, codes, Validity::NonNullable)
 }

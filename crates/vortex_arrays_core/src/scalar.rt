@@ -10,9 +10,9 @@ ghost use Rattle.vortex_arrays_core.specs.RawRows.{raw_string, raw_row, raw_span
 use crate::array::{ArrayLayout, ArrayRef, StringKind, Validity};
 use bytes::Bytes;
 use std::alloc::{AllocError, Global};
-use vortex_arrays_buffer::{ArrayError, BitBuffer, Buffer, PrimitiveBuffer};
+use vortex_arrays_buffer::{BitBuffer, Buffer, PrimitiveBuffer};
 use vortex_arrays_view::shared::shared_bytes;
-use vortex_arrays_view::view::BinaryView;
+use vortex_arrays_view::{ArrayError, BinaryView};
 use vortex_dtype_core::BufferString;
 use vortex_model::laws::tests_of_validity_are_right;
 use vortex_scalar_core::scalar::Scalar;

@@ -13,14 +13,13 @@ use bytes::Bytes;
 use std::alloc::{AllocError, Global};
 use std::ops::Range;
 use std::rc::Rc;
-use vortex_arrays_buffer::{ArrayError, BitBuffer, Buffer, PrimitiveBuffer};
-use vortex_arrays_view::view::BinaryView;
+use vortex_arrays_buffer::{BitBuffer, Buffer, PrimitiveBuffer};
+use vortex_arrays_view::{ArrayError, BinaryView};
 use vortex_dtype_ptype::field_names::FieldNames;
 
 impl ArrayRef {
     /// The rows at the places of the range, as Vortex's `ArrayRef::slice`. Buffers are shared and
     /// not copied. `OutOfRange` where the range does not lie within the rows.
-    ///
     /// All rows are the array itself. Of a dictionary any fewer rows may leave a value without a
     /// code, so its flag is lost, and that of a list view is kept.
     #[tactic(auto, using(crate::proofs::Picked::picks_whole))]
@@ -97,8 +96,7 @@ impl ArrayRef {
 }
 
 impl Validity {
-    /// Which of the rows at the places of the range are null, for an array of so many rows.
-    /// `OutOfRange` where the range does not lie within the rows.
+    /// Which of so many rows are null in the range; `OutOfRange` where it does not lie within them.
     pub fn slice(
         &self,
         alloc: Global,

@@ -7,9 +7,10 @@ ghost use Rattle.vortex_arrays_core.specs.LayoutOf.{valid_of, integer_content};
 ghost use Rattle.vortex_arrays_core.specs.Picking.{IsUnsigned, IsTakeFault};
 ghost use Rattle.vortex_arrays_model.specs.Parts.{AreWithin};
 
-use crate::array::{ArrayRef, Validity};
+use crate::array::{ArrayLayout, ArrayRef, Validity};
 use std::alloc::{AllocError, Global};
-use vortex_arrays_buffer::{ArrayError, BitBuffer};
+use vortex_arrays_buffer::BitBuffer;
+use vortex_arrays_view::error::ArrayError;
 
 impl ArrayRef {
     /// Whether the values are integers that are never below zero.
@@ -23,10 +24,16 @@ impl ArrayRef {
     }
 
     /// Whether each integer that is not null is a place among so many.
+    #[tactic(auto, using(crate::proofs::Picked::numbers_within))]
     pub fn are_within(&self, count: usize) -> bool
         requires { IsInteger (array_type_of self.now) }
         ensures { IsTrue result ↔ AreWithin self.now count }
     {
+        if let ArrayLayout::Primitive(items, _) = &self.data.layout {
+            if items.are_within(count) {
+                return true;
+            }
+        }
         for i in 0..self.len() {
             if let Some(place) = self.integer(i) {
                 if place < 0 || place >= count as i128 {

@@ -8,7 +8,8 @@ ghost use Rattle.vortex_arrays_core.specs.Faults.{IsValidityFault};
 
 use crate::array::{ArrayRef, Validity};
 use std::alloc::{AllocError, Global};
-use vortex_arrays_buffer::{ArrayError, BitBuffer};
+use vortex_arrays_buffer::BitBuffer;
+use vortex_arrays_view::error::ArrayError;
 use vortex_dtype_ptype::nullability::Nullability;
 
 impl Validity {

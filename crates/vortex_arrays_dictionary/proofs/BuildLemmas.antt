@@ -11,8 +11,8 @@ use Rattle.vortex_model.specs.Valid.{valid}
 use Rattle.vortex_dtype_ptype.specs.Numbers.{HoldsNarrowly}
 use Rattle.vortex_scalar_value.specs.View.{raw_at, content_at as value_content}
 use Rattle.vortex_scalar_value.specs.declared.scalar_value.ScalarValue.{ScalarValue}
-use Rattle.vortex_arrays_buffer.specs.declared.error.ArrayError.{ArrayError}
-use Rattle.vortex_arrays_buffer.specs.declared.error.ArrayError.TheVariants as error
+use Rattle.vortex_arrays_view.specs.declared.error.ArrayError.{ArrayError}
+use Rattle.vortex_arrays_view.specs.declared.error.ArrayError.TheVariants as error
 use Rattle.vortex_arrays_model.specs.Layout.{Layout, dictionary, numbers, Valid, len_of, content_at, is_valid, rows_of, pick, IsCode, IsSound}
 use Rattle.vortex_arrays_model.proofs.RowsLemmas.{rows_by_position, row_at_position, row_count}
 use Rattle.vortex_arrays_builder.specs.Types.{HasPlain, IsPlainLayout}

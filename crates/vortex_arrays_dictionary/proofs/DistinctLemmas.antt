@@ -5,7 +5,7 @@ use Rattle.std.proofs.lemmas.Bool.{false≢true}
 use Rattle.std.proofs.lemmas.List.{append-nil}
 use Rattle.std.proofs.lemmas.List.Elements.{filter-append}
 use Rattle.vortex_model.specs.Content.{Content, null, is_null, equal_content}
-use Rattle.vortex_model.proofs.Equality.{content_so, content_passes}
+use Rattle.vortex_model_table.proofs.Equality.{content_so, content_passes}
 use Rattle.vortex_arrays_dictionary.specs.Distinct.{distinct}
 
 abbrev differs : Content → Content → Bool

@@ -14,7 +14,7 @@ use Rattle.vortex_model.specs.LogicalType.{LogicalType, Nullability, boolean_typ
 use Rattle.vortex_model.specs.Kept.{is_leaf}
 use Rattle.vortex_model.specs.Content.{content_of, is_null, equal_content, Raw, raw_null, raw_boolean, raw_number, raw_text, raw_byte_string}
 use Rattle.vortex_model.specs.Valid.{valid}
-use Rattle.vortex_model.proofs.ContentOrder.{true_left, true_right}
+use Rattle.vortex_model_table.proofs.ContentOrder.{true_left, true_right}
 use Rattle.vortex_model.proofs.Tests.{int_so}
 use Rattle.vortex_arrays_dictionary.specs.Numbering.{Key, number_in, bytes_in, has_key, key_cmp, index_where, AreOf}
 

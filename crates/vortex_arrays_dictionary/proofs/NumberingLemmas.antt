@@ -10,7 +10,7 @@ use Rattle.vortex_model.specs.LogicalType.{LogicalType}
 use Rattle.vortex_model.specs.Kept.{is_leaf}
 use Rattle.vortex_model.specs.Content.{Content, null, content_of, is_null, equal_content, Raw, raw_null}
 use Rattle.vortex_model.specs.Valid.{valid}
-use Rattle.vortex_model.proofs.Equality.{content_so}
+use Rattle.vortex_model_table.proofs.Equality.{content_so}
 use Rattle.vortex_arrays_dictionary.specs.Distinct.{distinct}
 use Rattle.vortex_arrays_dictionary.specs.Numbering.{Key, has_key, index_where, IsNumberedOrNull, IsNumbering}
 use Rattle.vortex_arrays_dictionary.proofs.DistinctLemmas.{distinct-null, distinct-new, distinct-old}

@@ -3,8 +3,8 @@ use Rattle.std.specs.Prelude.{◌≡◌, ◌<◌, ◌-◌, ℕ, ℤ, pos, List, 
 use Rattle.vortex_model.specs.LogicalType.{LogicalType, IntKind}
 use Rattle.vortex_model.specs.Content.{Content, null, is_null, content_of, Raw}
 use Rattle.vortex_dtype_ptype.specs.Numbers.{HoldsNarrowly}
-use Rattle.vortex_arrays_buffer.specs.declared.error.ArrayError.{ArrayError}
-use Rattle.vortex_arrays_buffer.specs.declared.error.ArrayError.TheVariants as error
+use Rattle.vortex_arrays_view.specs.declared.error.ArrayError.{ArrayError}
+use Rattle.vortex_arrays_view.specs.declared.error.ArrayError.TheVariants as error
 use Rattle.vortex_arrays_model.specs.Layout.{Layout, dictionary, numbers, Valid, is_valid, rows_of}
 use Rattle.vortex_arrays_builder.specs.Plain.{IsTooLarge}
 use Rattle.vortex_arrays_builder.specs.Types.{IsPlainLayout}

@@ -10,10 +10,10 @@ ghost use Rattle.vortex_arrays_dictionary.specs.Dictionary.{IsDictionaryOf, IsDi
 use crate::codes::codes_of;
 use crate::number::number_values;
 use std::alloc::Global;
-use vortex_arrays_buffer::error::ArrayError;
 use vortex_arrays_builder::leaves::nulls_of;
 use vortex_arrays_builder::plain::build_plain;
 use vortex_arrays_core::array::ArrayRef;
+use vortex_arrays_view::error::ArrayError;
 use vortex_dtype_core::dtype::DType;
 use vortex_scalar_value::scalar_value::ScalarValue;
 

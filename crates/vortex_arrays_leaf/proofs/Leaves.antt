@@ -3,8 +3,8 @@ use Rattle.std.proofs.Common.{◌≡◌, ℕ, List, length, nat_eq}
 use Rattle.std.specs.List.{list_any}
 use Rattle.std.proofs.lemmas.List.FromFn.{length-map-range_with_len}
 use Rattle.vortex_arrays_buffer.specs.Bits.{bits_at}
-use Rattle.vortex_arrays_buffer.specs.declared.error.ArrayError.{ArrayError}
-use Rattle.vortex_arrays_buffer.specs.declared.error.ArrayError.TheVariants.{Memory}
+use Rattle.vortex_arrays_view.specs.declared.error.ArrayError.{ArrayError}
+use Rattle.vortex_arrays_view.specs.declared.error.ArrayError.TheVariants.{Memory}
 use Rattle.vortex_arrays_model.specs.Layout.{Valid}
 use Rattle.vortex_arrays_core.specs.Faults.{IsValidityFault}
 use Rattle.vortex_arrays_leaf.specs.Faults.{IsLeafFault}

@@ -5,8 +5,8 @@ use Rattle.vortex_dtype_core.specs.Parts.{is_utf8_type, is_binary_type}
 use Rattle.vortex_dtype_ptype.specs.View.{nullability_of_flag}
 use Rattle.vortex_dtype_ptype.specs.declared.nullability.Nullability.{Nullability as Flag}
 use Rattle.vortex_dtype_ptype.specs.declared.nullability.Nullability.TheVariants as flag
-use Rattle.vortex_arrays_buffer.specs.declared.error.ArrayError.{ArrayError}
-use Rattle.vortex_arrays_buffer.specs.declared.error.ArrayError.TheVariants as error
+use Rattle.vortex_arrays_view.specs.declared.error.ArrayError.{ArrayError}
+use Rattle.vortex_arrays_view.specs.declared.error.ArrayError.TheVariants as error
 use Rattle.vortex_arrays_model.specs.Layout.{Strings, texts, byte_strings, strings, type_of_strings, Valid, nullability_by, IsSound, HasLength}
 use Rattle.vortex_arrays_core.specs.Faults.{IsValidityFault}
 use Rattle.vortex_arrays_leaf.specs.Strings.{IsStringType, strings_in, HaveValues, HoldStrings}

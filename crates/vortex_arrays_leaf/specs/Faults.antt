@@ -1,7 +1,7 @@
 -- Why values and their validity make no array.
 use Rattle.std.specs.Prelude.{ℕ}
-use Rattle.vortex_arrays_buffer.specs.declared.error.ArrayError.{ArrayError}
-use Rattle.vortex_arrays_buffer.specs.declared.error.ArrayError.TheVariants.{Memory}
+use Rattle.vortex_arrays_view.specs.declared.error.ArrayError.{ArrayError}
+use Rattle.vortex_arrays_view.specs.declared.error.ArrayError.TheVariants.{Memory}
 use Rattle.vortex_arrays_model.specs.Layout.{Valid}
 use Rattle.vortex_arrays_core.specs.Faults.{IsValidityFault}
 

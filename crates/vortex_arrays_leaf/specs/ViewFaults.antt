@@ -2,8 +2,8 @@
 use Rattle.std.specs.Prelude.{◌≡◌, ◌<◌, ◌⊎◌, ℕ, List, [], length, slice_index_or, IsTrue, IsUtf8}
 use Rattle.vortex_model.specs.LogicalType.{LogicalType}
 use Rattle.vortex_arrays_view.specs.Views.{value_of, HasValue}
-use Rattle.vortex_arrays_buffer.specs.declared.error.ArrayError.{ArrayError}
-use Rattle.vortex_arrays_buffer.specs.declared.error.ArrayError.TheVariants as error
+use Rattle.vortex_arrays_view.specs.declared.error.ArrayError.{ArrayError}
+use Rattle.vortex_arrays_view.specs.declared.error.ArrayError.TheVariants as error
 use Rattle.vortex_arrays_model.specs.Layout.{Strings, texts, Valid, is_valid, HasLength}
 use Rattle.vortex_arrays_core.specs.Faults.{IsValidityFault}
 use Rattle.vortex_arrays_leaf.specs.Strings.{IsStringType, strings_in, HaveValues}

@@ -14,8 +14,8 @@ ghost use Rattle.vortex_arrays_model.specs.Parts.{valid_in};
 use std::alloc::{AllocError, Global};
 use std::marker::Model;
 use vortex_arrays_buffer::bit_buffer::BitBuffer;
-use vortex_arrays_buffer::error::ArrayError;
 use vortex_arrays_core::array::{ArrayLayout, ArrayRef, Validity};
+use vortex_arrays_view::error::ArrayError;
 use vortex_dtype_core::dtype::DType;
 use vortex_dtype_ptype::nullability::Nullability;
 

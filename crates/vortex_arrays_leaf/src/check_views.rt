@@ -7,8 +7,8 @@ ghost use Rattle.vortex_arrays_leaf.specs.Strings.{HasValueAt, HoldsAt, HaveValu
 ghost use Rattle.vortex_arrays_leaf.specs.ViewFaults.{IsViewsFault, IsTextsFault};
 
 use bytes::Bytes;
-use vortex_arrays_buffer::error::ArrayError;
 use vortex_arrays_core::array::{StringKind, Validity};
+use vortex_arrays_view::error::ArrayError;
 use vortex_arrays_view::view::BinaryView;
 
 /// Tests that the view of each row that is not null has a value. `BadView` where one has none.

@@ -4,7 +4,7 @@ ghost use Rattle.vortex_arrays_view.specs.Views.{value_of};
 ghost use Rattle.vortex_dtype_core.specs.View.{type_of};
 ghost use Rattle.vortex_arrays_model.specs.Layout.{strings, len_of, array_type_of, is_valid, IsSound};
 ghost use Rattle.vortex_arrays_core.specs.LayoutOf.{valid_of, strings_of};
-ghost use Rattle.vortex_arrays_buffer.specs.declared.error.ArrayError.TheVariants.{Memory};
+ghost use Rattle.vortex_arrays_view.specs.declared.error.ArrayError.TheVariants.{Memory};
 ghost use Rattle.vortex_arrays_leaf.specs.ViewFaults.{IsStringsFault};
 ghost use Rattle.vortex_arrays_leaf.specs.Strings.{IsStrings, IsStringType, strings_in, views_in, buffers_in};
 ghost use Rattle.vortex_arrays_model.specs.Parts.{valid_in};
@@ -15,8 +15,8 @@ use std::alloc::{AllocError, Global};
 use std::marker::Model;
 use std::rc::Rc;
 use vortex_arrays_buffer::buffer::Buffer;
-use vortex_arrays_buffer::error::ArrayError;
 use vortex_arrays_core::array::{ArrayLayout, ArrayRef, StringKind, Validity};
+use vortex_arrays_view::error::ArrayError;
 use vortex_arrays_view::view::BinaryView;
 use vortex_dtype_core::dtype::DType;
 

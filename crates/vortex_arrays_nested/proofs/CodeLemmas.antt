@@ -3,8 +3,8 @@ use Rattle.std.proofs.Common.{◌≡◌, ◌<◌, ◌≤◌, ◌+◌, ◌↔◌,
 use Rattle.std.specs.List.{All}
 use Rattle.std.proofs.lemmas.Bool.{cases_eq}
 use Rattle.std.proofs.lemmas.List.Elements.{All-get_or, All-from_get_or}
-use Rattle.vortex_arrays_buffer.specs.declared.error.ArrayError.{ArrayError}
-use Rattle.vortex_arrays_buffer.specs.declared.error.ArrayError.TheVariants.{Memory}
+use Rattle.vortex_arrays_view.specs.declared.error.ArrayError.{ArrayError}
+use Rattle.vortex_arrays_view.specs.declared.error.ArrayError.TheVariants.{Memory}
 use Rattle.vortex_arrays_model.specs.Layout.{Layout, dictionary, len_of, array_type_of, content_at, IsInteger, IsCode, IsSound, AllReferenced}
 use Rattle.vortex_arrays_model.specs.Referenced.{MarksReferenced}
 use Rattle.vortex_arrays_model.proofs.ReferencedLemmas.{all_marked, all_referenced}

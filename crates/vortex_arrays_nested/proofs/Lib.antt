@@ -1,4 +1,5 @@
 pub mod BoundsLemmas
 pub mod CodeLemmas
 pub mod ListLemmas
+pub mod PairLemmas
 pub mod SliceLemmas

@@ -1,8 +1,8 @@
 -- Tests of the parts of lists.
 use Rattle.std.proofs.Common.{◌≡◌, ◌≢◌, ℕ, false, refl}
 use Rattle.vortex_model.specs.LogicalType.{LogicalType, integer_type, non_nullable, nullable, nullability_of, is_nullable}
-use Rattle.vortex_arrays_buffer.specs.declared.error.ArrayError.{ArrayError}
-use Rattle.vortex_arrays_buffer.specs.declared.error.ArrayError.TheVariants as error
+use Rattle.vortex_arrays_view.specs.declared.error.ArrayError.{ArrayError}
+use Rattle.vortex_arrays_view.specs.declared.error.ArrayError.TheVariants as error
 use Rattle.vortex_arrays_model.specs.Layout.{Layout, Valid, required, all_valid, all_null, by_array, len_of, array_type_of, IsInteger, IsOffsets, HasLength}
 use Rattle.vortex_arrays_core.specs.Faults.{IsValidityFault}
 use Rattle.vortex_arrays_nested.specs.ListViews.{HasBooleans, IsListViewFault}

@@ -1,8 +1,8 @@
 -- The elements of one list.
 use Rattle.std.proofs.Common.{◌≡◌, ◌<◌, ◌≤◌, ◌+◌, ◌-◌, ◌*◌, ℕ, refl, subst, arith}
 use Rattle.std.proofs.lemmas.Nat.{mul-le}
-use Rattle.vortex_arrays_buffer.specs.declared.error.ArrayError.{ArrayError}
-use Rattle.vortex_arrays_buffer.specs.declared.error.ArrayError.TheVariants.{Memory, OutOfRange}
+use Rattle.vortex_arrays_view.specs.declared.error.ArrayError.{ArrayError}
+use Rattle.vortex_arrays_view.specs.declared.error.ArrayError.TheVariants.{Memory, OutOfRange}
 use Rattle.vortex_arrays_model.specs.Layout.{Layout}
 use Rattle.vortex_arrays_model.specs.Picks.{Picks}
 use Rattle.vortex_arrays_core.specs.Picking.{IsSliceFault}

@@ -1,6 +1,6 @@
 -- Why codes and values make no dictionary.
-use Rattle.vortex_arrays_buffer.specs.declared.error.ArrayError.{ArrayError}
-use Rattle.vortex_arrays_buffer.specs.declared.error.ArrayError.TheVariants.{Memory, CodeOutOfRange, WrongType}
+use Rattle.vortex_arrays_view.specs.declared.error.ArrayError.{ArrayError}
+use Rattle.vortex_arrays_view.specs.declared.error.ArrayError.TheVariants.{Memory, CodeOutOfRange, WrongType}
 use Rattle.vortex_arrays_model.specs.Layout.{Layout, len_of, array_type_of, IsInteger}
 use Rattle.vortex_arrays_model.specs.Parts.{AreWithin}
 

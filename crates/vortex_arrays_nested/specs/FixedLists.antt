@@ -1,7 +1,7 @@
 -- Lists of one size, and what refuses their parts.
 use Rattle.std.specs.Prelude.{◌≡◌, ◌*◌, ℕ}
-use Rattle.vortex_arrays_buffer.specs.declared.error.ArrayError.{ArrayError}
-use Rattle.vortex_arrays_buffer.specs.declared.error.ArrayError.TheVariants.{Memory, ElementCount}
+use Rattle.vortex_arrays_view.specs.declared.error.ArrayError.{ArrayError}
+use Rattle.vortex_arrays_view.specs.declared.error.ArrayError.TheVariants.{Memory, ElementCount}
 use Rattle.vortex_arrays_model.specs.Layout.{Layout, fixed_lists, Valid, len_of, HasLength}
 use Rattle.vortex_arrays_core.specs.Faults.{IsValidityFault}
 

@@ -1,8 +1,9 @@
 -- Lists by an offset and a size each, and what refuses their parts.
-use Rattle.std.specs.Prelude.{◌≡◌, ◌<◌, ℕ}
+use Rattle.std.specs.Prelude.{◌≡◌, ◌<◌, ℕ, ℤ, pos, List, length, slice_index_or}
 use Rattle.vortex_model.specs.LogicalType.{boolean_type, non_nullable}
-use Rattle.vortex_arrays_buffer.specs.declared.error.ArrayError.{ArrayError}
-use Rattle.vortex_arrays_buffer.specs.declared.error.ArrayError.TheVariants as error
+use Rattle.vortex_model.specs.Content.{integer}
+use Rattle.vortex_arrays_view.specs.declared.error.ArrayError.{ArrayError}
+use Rattle.vortex_arrays_view.specs.declared.error.ArrayError.TheVariants as error
 use Rattle.vortex_arrays_model.specs.Layout.{Layout, list_views, Valid, by_array, len_of, array_type_of, content_at, IsOffsets, IsView, HasLength}
 
 abbrev pub IsListViews : Layout → Type 0
@@ -25,6 +26,10 @@ AreAsMany o s v = (len_of s ≡ len_of o) × HasLength v (len_of o)
 -- each list lies within so many elements, also a null one
 abbrev pub LieWithin : ℕ → Layout → Layout → Type 0
 LieWithin n o s = (i : ℕ) → i < len_of o → IsView n (content_at o i) (content_at s i)
+
+-- the same of offsets and sizes that are numbers
+abbrev pub AllLieWithin : ℕ → List ℤ → List ℤ → Type 0
+AllLieWithin n os ss = (i : ℕ) → i < length os → IsView n (integer (slice_index_or os i (pos 0))) (integer (slice_index_or ss i (pos 0)))
 
 -- why elements, offsets, sizes and a validity make no lists
 abbrev pub IsListViewFault : ArrayError → Layout → Layout → Layout → Valid → Type 0

@@ -11,8 +11,8 @@ ghost use Rattle.vortex_arrays_nested.specs.Shapes.{IsDictionary, codes_in, valu
 use crate::codes::are_codes;
 use std::alloc::{AllocError, Global};
 use std::marker::Model;
-use vortex_arrays_buffer::error::ArrayError;
 use vortex_arrays_core::array::{ArrayLayout, ArrayRef};
+use vortex_arrays_view::error::ArrayError;
 use vortex_dtype_core::dtype::DType;
 use vortex_dtype_ptype::nullability::Nullability;
 

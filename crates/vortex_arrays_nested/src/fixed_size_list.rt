@@ -3,7 +3,7 @@ ghost use Rattle.std.specs.Prelude.{◌≡◌, ◌≢◌, ◌<◌, ◌+◌, ◌*
 ghost use Rattle.vortex_model.specs.LogicalType.{nullability_of};
 ghost use Rattle.vortex_dtype_ptype.specs.View.{nullability_of_flag};
 ghost use Rattle.vortex_dtype_core.specs.View.{type_of};
-ghost use Rattle.vortex_arrays_buffer.specs.declared.error.ArrayError.TheVariants.{Memory};
+ghost use Rattle.vortex_arrays_view.specs.declared.error.ArrayError.TheVariants.{Memory};
 ghost use Rattle.vortex_arrays_model.specs.Layout.{fixed_lists, len_of, array_type_of, HasLength, IsSound};
 ghost use Rattle.vortex_arrays_model.specs.Picks.{Picks};
 ghost use Rattle.vortex_arrays_core.specs.LayoutOf.{valid_of};
@@ -13,8 +13,8 @@ ghost use Rattle.vortex_arrays_model.specs.Parts.{valid_in};
 
 use std::alloc::{AllocError, Global};
 use std::marker::Model;
-use vortex_arrays_buffer::error::ArrayError;
 use vortex_arrays_core::array::{ArrayLayout, ArrayRef, Validity};
+use vortex_arrays_view::error::ArrayError;
 use vortex_dtype_core::dtype::DType;
 use vortex_dtype_ptype::nullability::Nullability;
 

@@ -6,5 +6,6 @@ mod codes;
 pub mod dict_array;
 pub mod fixed_size_list;
 pub mod list_view;
+mod pairs;
 pub mod referenced;
 mod views;

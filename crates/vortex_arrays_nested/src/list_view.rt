@@ -3,7 +3,7 @@ ghost use Rattle.std.specs.Prelude.{◌≡◌, ◌≢◌, ◌<◌, ◌≤◌, �
 ghost use Rattle.vortex_model.specs.LogicalType.{nullability_of};
 ghost use Rattle.vortex_dtype_ptype.specs.View.{nullability_of_flag};
 ghost use Rattle.vortex_dtype_core.specs.View.{type_of};
-ghost use Rattle.vortex_arrays_buffer.specs.declared.error.ArrayError.TheVariants.{Memory};
+ghost use Rattle.vortex_arrays_view.specs.declared.error.ArrayError.TheVariants.{Memory};
 ghost use Rattle.vortex_arrays_model.specs.Layout.{
   list_views,
   len_of,
@@ -36,9 +36,9 @@ use crate::bounds::{element_bounds, total_size};
 use crate::views::{are_end_to_end, has_offsets, lie_within};
 use std::alloc::{AllocError, Global};
 use std::marker::Model;
-use vortex_arrays_buffer::error::ArrayError;
 use vortex_arrays_core::array::{ArrayLayout, ArrayRef, Validity};
 use vortex_arrays_core::scalar::view_at;
+use vortex_arrays_view::error::ArrayError;
 use vortex_dtype_core::dtype::DType;
 use vortex_dtype_ptype::nullability::Nullability;
 

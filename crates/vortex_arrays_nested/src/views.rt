@@ -10,7 +10,8 @@ ghost use Rattle.vortex_arrays_model.specs.Layout.{
 ghost use Rattle.vortex_arrays_core.specs.LayoutOf.{integer_content};
 ghost use Rattle.vortex_arrays_nested.specs.ListViews.{LieWithin};
 
-use vortex_arrays_core::array::ArrayRef;
+use crate::pairs::numbers_lie_within;
+use vortex_arrays_core::array::{ArrayLayout, ArrayRef};
 use vortex_arrays_core::scalar::view_at;
 
 /// Whether the values are integers and none of them can be null.
@@ -22,8 +23,23 @@ pub(crate) fn has_offsets(array: &ArrayRef) -> bool
 }
 
 /// Whether each list lies within so many elements.
-#[tactic(auto, using(vortex_arrays_core::proofs::Reading::offsets_are_integers))]
 pub(crate) fn lie_within(offsets: &ArrayRef, sizes: &ArrayRef, count: usize) -> bool
+    requires offsets { IsOffsets (array_type_of offsets.now) }
+    requires sizes { IsOffsets (array_type_of sizes.now) }
+    requires many { len_of sizes.now ≡ len_of offsets.now }
+    ensures { IsTrue result ↔ LieWithin count offsets.now sizes.now }
+{
+    if let ArrayLayout::Primitive(mine, _) = offsets.layout() {
+        if let ArrayLayout::Primitive(theirs, _) = sizes.layout() {
+            return numbers_lie_within(mine, theirs, count);
+        }
+    }
+    rows_lie_within(offsets, sizes, count)
+}
+
+/// Whether the rows lie within so many elements, of arrays of any layout, row by row.
+#[tactic(auto, using(vortex_arrays_core::proofs::Reading::offsets_are_integers))]
+fn rows_lie_within(offsets: &ArrayRef, sizes: &ArrayRef, count: usize) -> bool
     requires offsets { IsOffsets (array_type_of offsets.now) }
     requires sizes { IsOffsets (array_type_of sizes.now) }
     requires many { len_of sizes.now ≡ len_of offsets.now }
@@ -39,7 +55,7 @@ pub(crate) fn lie_within(offsets: &ArrayRef, sizes: &ArrayRef, count: usize) -> 
 
 /// Whether so many elements from the offset on lie within so many. Their sum is not formed, since
 /// it may be past what a number holds.
-fn is_view(offset: Option<i128>, size: Option<i128>, count: usize) -> bool
+pub(crate) fn is_view(offset: Option<i128>, size: Option<i128>, count: usize) -> bool
     ensures { IsTrue result ↔ IsView count (integer_content offset) (integer_content size) }
 {
     match (offset, size) {

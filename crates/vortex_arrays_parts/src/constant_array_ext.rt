@@ -1,16 +1,16 @@
 //! The calls of constants beside those that they are read by.
 ghost use Rattle.std.specs.Prelude.{◌≡◌, IfOk, IfErr, IsOk};
 ghost use Rattle.vortex_scalar_core.specs.Scalar.{scalar_type, scalar_raw};
-ghost use Rattle.vortex_arrays_buffer.specs.declared.error.ArrayError.TheVariants.{Memory};
+ghost use Rattle.vortex_arrays_view.specs.declared.error.ArrayError.TheVariants.{Memory};
 ghost use Rattle.vortex_arrays_model.specs.Layout.{Layout, constant};
 ghost use Rattle.vortex_arrays_core.specs.LayoutOf.{valid_of};
 ghost use Rattle.vortex_arrays_parts.specs.Nulls.{TellsNullsOf};
 
 use crate::array_ref_ext::ArrayRefExt;
 use std::alloc::{AllocError, Global};
-use vortex_arrays_buffer::error::ArrayError;
 use vortex_arrays_core::array::Validity;
 use vortex_arrays_leaf::constant_array::ConstantArray;
+use vortex_arrays_view::error::ArrayError;
 use vortex_scalar_core::scalar::Scalar;
 
 /// What a `ConstantArray` is made of.

@@ -8,9 +8,9 @@ ghost use Rattle.vortex_arrays_parts.specs.Nulls.{TellsNullsOf};
 
 use crate::array_ref_ext::ArrayRefExt;
 use std::alloc::{AllocError, Global};
-use vortex_arrays_buffer::error::ArrayError;
 use vortex_arrays_core::array::Validity;
 use vortex_arrays_nested::dict_array::{DictArray, DictParts};
+use vortex_arrays_view::error::ArrayError;
 
 /// The calls of Vortex's `DictArrayExt` that the array's own calls leave open.
 pub trait DictArrayExt: Sized {

@@ -4,8 +4,8 @@ use Rattle.std.specs.List.{All}
 use Rattle.vortex_model.specs.LogicalType.{u64}
 use Rattle.vortex_arrays_model.specs.Layout.{Layout, numbers, required, dictionary, len_of, IsSound}
 use Rattle.vortex_arrays_model.specs.Picks.{Picks}
-use Rattle.vortex_arrays_buffer.specs.declared.error.ArrayError.{ArrayError}
-use Rattle.vortex_arrays_buffer.specs.declared.error.ArrayError.TheVariants as error
+use Rattle.vortex_arrays_view.specs.declared.error.ArrayError.{ArrayError}
+use Rattle.vortex_arrays_view.specs.declared.error.ArrayError.TheVariants as error
 use Rattle.vortex_arrays_leaf.specs.Faults.{IsLeafFault}
 use Rattle.vortex_arrays_core.proofs.Gathered.{names_positions}
 use Rattle.vortex_arrays_rebuild.specs.declared.runs.Run.{Run}

@@ -6,8 +6,8 @@ use Rattle.std.proofs.lemmas.List.Concat.{length-flat_map}
 use Rattle.std.proofs.lemmas.List.Folds.{length-flat_map-take}
 use Rattle.std.proofs.lemmas.List.FromFn.{length-map-range_with_len}
 use Rattle.vortex_model.specs.Content.{Content, null}
-use Rattle.vortex_arrays_buffer.specs.declared.error.ArrayError.{ArrayError}
-use Rattle.vortex_arrays_buffer.specs.declared.error.ArrayError.TheVariants as error
+use Rattle.vortex_arrays_view.specs.declared.error.ArrayError.{ArrayError}
+use Rattle.vortex_arrays_view.specs.declared.error.ArrayError.TheVariants as error
 use Rattle.vortex_arrays_model.specs.Layout.{Layout, list_views, Valid, len_of, content_at, number_in, is_valid, rows_of, IsSound}
 use Rattle.vortex_arrays_model.specs.Canonical.{items_of, IsCanonical}
 use Rattle.vortex_arrays_model.proofs.CanonicalLemmas.{canonical_none, canonical_all, items_valid, items_null}

@@ -1,8 +1,8 @@
 -- What each mode makes of a list view, and why it is refused.
 use Rattle.std.specs.Prelude.{◌≡◌, ◌<◌, ◌≤◌, ◌^◌, ℕ, List, length, sum_by, IsTrue, IsFalse}
 use Rattle.vortex_model.specs.Content.{Content}
-use Rattle.vortex_arrays_buffer.specs.declared.error.ArrayError.{ArrayError}
-use Rattle.vortex_arrays_buffer.specs.declared.error.ArrayError.TheVariants as error
+use Rattle.vortex_arrays_view.specs.declared.error.ArrayError.{ArrayError}
+use Rattle.vortex_arrays_view.specs.declared.error.ArrayError.TheVariants as error
 use Rattle.vortex_arrays_model.specs.Layout.{Layout, len_of, rows_of}
 use Rattle.vortex_arrays_model.specs.Parts.{valid_in}
 use Rattle.vortex_arrays_model.specs.Canonical.{items_of, IsLaidOut, IsRebuilt}

@@ -1,8 +1,8 @@
 -- Neighbouring elements that are copied together.
 use Rattle.std.specs.Prelude.{◌≤◌, ◌+◌, ◌*◌, ◌^◌, ℕ, List, take, drop}
 use Rattle.std.specs.List.{flat_map, range_with_len, All}
-use Rattle.vortex_arrays_buffer.specs.declared.error.ArrayError.{ArrayError}
-use Rattle.vortex_arrays_buffer.specs.declared.error.ArrayError.TheVariants as error
+use Rattle.vortex_arrays_view.specs.declared.error.ArrayError.{ArrayError}
+use Rattle.vortex_arrays_view.specs.declared.error.ArrayError.TheVariants as error
 use Rattle.vortex_arrays_rebuild.specs.declared.runs.Run.{Run}
 
 -- the positions of the elements of a run

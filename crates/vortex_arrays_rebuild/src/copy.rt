@@ -1,7 +1,7 @@
 //! The rows of runs.
 ghost use Rattle.std.specs.Prelude.{◌≡◌, ◌+◌, ◌-◌, length, map, slice_index_or, pos, IfOk, IfErr};
 ghost use Rattle.vortex_model.specs.LogicalType.{u64};
-ghost use Rattle.vortex_arrays_buffer.specs.declared.error.ArrayError.TheVariants.{Memory};
+ghost use Rattle.vortex_arrays_view.specs.declared.error.ArrayError.TheVariants.{Memory};
 ghost use Rattle.vortex_arrays_model.specs.Layout.{len_of, numbers, required};
 ghost use Rattle.vortex_arrays_model.specs.Picks.{Picks};
 ghost use Rattle.vortex_arrays_rebuild.specs.Runs.{positions_in, LiesWithin};
@@ -10,9 +10,9 @@ use crate::ranges::copy_rows;
 use crate::runs::{Run, Runs, positions_of_runs};
 use std::alloc::{AllocError, Global};
 use vortex_arrays_buffer::buffer::Buffer;
-use vortex_arrays_buffer::error::ArrayError;
 use vortex_arrays_buffer::primitive_buffer::PrimitiveBuffer;
 use vortex_arrays_core::array::{ArrayRef, Validity};
+use vortex_arrays_view::error::ArrayError;
 
 /// The rows of the runs. Those of one run are a slice, which shares the array's buffers, and those
 /// of more are copied, run after run. `Memory` is the only refusal.

@@ -11,8 +11,8 @@ use crate::density::valid_sizes;
 use crate::read::read_indices;
 use crate::runs::{Runs, RunsBuilder};
 use std::alloc::Global;
-use vortex_arrays_buffer::error::ArrayError;
 use vortex_arrays_core::array::{ArrayRef, Validity};
+use vortex_arrays_view::error::ArrayError;
 
 /// The offsets and the sizes of lists that stand end to end, and the runs of their elements.
 #[derive(Drop)]

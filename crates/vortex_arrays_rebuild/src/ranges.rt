@@ -2,6 +2,7 @@
 ghost use Rattle.std.specs.Prelude.{◌≡◌, length, slice_index_or, IfOk};
 ghost use Rattle.vortex_arrays_model.specs.Layout.{
   bools,
+  fixed_lists,
   len_of,
   numbers,
   strings,
@@ -61,14 +62,8 @@ pub(crate) fn copy_rows(
             let codes = copy_rows(alloc, codes, runs)?;
             ArrayRef::of_dict(alloc, codes, values.clone()?, false)
         }
-        ArrayLayout::FixedSizeList(elements, size, len, validity) => {
-            let count = elements.len();
-            let Some(parts) = runs.of_elements(alloc, *size as usize, count)? else {
-                return name_rows(alloc, array, runs);
-            };
-            let validity = copy_validity(alloc, validity, *len, runs)?;
-            let elements = copy_rows(alloc, elements, &parts)?;
-            ArrayRef::of_fixed_lists(alloc, elements, *size, runs.len, validity)
+        ArrayLayout::FixedSizeList(elements, size, _, validity) => {
+            copy_lists(alloc, array, elements, *size, validity, runs)
         }
         ArrayLayout::ListView(elements, offsets, sizes, _, validity) => {
             let validity = copy_validity(alloc, validity, offsets.len(), runs)?;
@@ -82,6 +77,31 @@ pub(crate) fn copy_rows(
             ArrayRef::of_records(alloc, names.clone()?, fields, runs.len, validity)
         }
     }
+}
+
+// The lists of the runs, of an array of lists of one size: their elements are copied run after run.
+// Where these are more than can be counted the lists are named by their positions.
+#[cycle(copy)]
+fn copy_lists(
+    alloc: Global,
+    array: &ArrayRef,
+    elements: &ArrayRef,
+    size: u32,
+    validity: &Validity,
+    runs: &Runs,
+) -> Result<ArrayRef, AllocError>
+    requires { array.now
+        ≡ fixed_lists elements.now size runs.now.limit (valid_of validity.now) }
+    ensures { IfOk result (λ r. Picks array.now r (length (positions_in runs.now.list.items))
+        (λ i. slice_index_or (positions_in runs.now.list.items) i 0)) }
+{
+    let (_len, count) = (array.len(), elements.len());
+    let Some(parts) = runs.of_elements(alloc, size as usize, count)? else {
+        return name_rows(alloc, array, runs);
+    };
+    let validity = copy_validity(alloc, validity, runs.limit, runs)?;
+    let elements = copy_rows(alloc, elements, &parts)?;
+    ArrayRef::of_fixed_lists(alloc, elements, size, runs.len, validity)
 }
 
 // Which rows of the runs are null, of an array of so many rows.

@@ -3,7 +3,7 @@ ghost use Rattle.std.specs.Prelude.{◌≡◌, false, IfOk, IfErr};
 ghost use Rattle.vortex_arrays_model.specs.Layout.{Layout, list_views, rows_of, IsSound};
 ghost use Rattle.vortex_arrays_model.specs.Canonical.{IsLaidOut};
 ghost use Rattle.vortex_arrays_core.specs.LayoutOf.{valid_of};
-ghost use Rattle.vortex_arrays_buffer.specs.declared.error.ArrayError.TheVariants.{Memory};
+ghost use Rattle.vortex_arrays_view.specs.declared.error.ArrayError.TheVariants.{Memory};
 ghost use Rattle.vortex_arrays_rebuild.specs.declared.rebuild.ListViewRebuildMode.TheVariants.{
   MakeExact,
   OverlapCompression,
@@ -22,9 +22,9 @@ use crate::copy::{of_u64, rows_in};
 use crate::plan::plan_layout;
 use crate::trim::{trim_between, trim_to_bounds};
 use std::alloc::Global;
-use vortex_arrays_buffer::error::ArrayError;
 use vortex_arrays_core::array::{ArrayRef, Validity};
 use vortex_arrays_nested::list_view::ListViewArray;
+use vortex_arrays_view::error::ArrayError;
 
 /// How a list view is rebuilt, as Vortex's `ListViewRebuildMode`.
 #[derive(Clone, Copy, Debug, PartialEq, Eq)]

@@ -11,7 +11,7 @@ ghost use Rattle.vortex_arrays_rebuild.specs.Runs.{
 };
 
 use std::alloc::{AllocError, Global};
-use vortex_arrays_buffer::error::ArrayError;
+use vortex_arrays_view::error::ArrayError;
 
 /// Neighbouring elements: the first, and how many they are.
 #[derive(Clone, Copy, Drop)]

@@ -2,7 +2,7 @@
 ghost use Rattle.std.specs.Prelude.{◌≡◌, pos, IfOk, IfErr, IsTrue, All};
 ghost use Rattle.vortex_dtype_ptype.specs.Numbers.{integral, is_integral};
 ghost use Rattle.vortex_dtype_ptype.specs.View.{number_kind_of};
-ghost use Rattle.vortex_arrays_buffer.specs.declared.error.ArrayError.TheVariants.{Memory};
+ghost use Rattle.vortex_arrays_view.specs.declared.error.ArrayError.TheVariants.{Memory};
 ghost use Rattle.vortex_arrays_model.specs.Layout.{array_type_of, list_views, IsOffsets, IsSound};
 ghost use Rattle.vortex_arrays_core.specs.LayoutOf.{valid_of};
 ghost use Rattle.vortex_arrays_rebuild.specs.Indices.{AreAtMost};
@@ -19,11 +19,11 @@ use crate::read::read_indices;
 use std::alloc::Global;
 use vortex_arrays_buffer::buffer::Buffer;
 use vortex_arrays_buffer::element::Element;
-use vortex_arrays_buffer::error::ArrayError;
 use vortex_arrays_buffer::primitive_buffer::PrimitiveBuffer;
 use vortex_arrays_core::array::{ArrayRef, Validity};
 use vortex_arrays_leaf::primitive_array::PrimitiveArray;
 use vortex_arrays_nested::list_view::{ListViewArray, ListViewSlots};
+use vortex_arrays_view::error::ArrayError;
 use vortex_dtype_native::match_each_integer_ptype;
 use vortex_dtype_ptype::ptype::PType;
 

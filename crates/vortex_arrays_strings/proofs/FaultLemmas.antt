@@ -2,8 +2,8 @@
 use Rattle.std.proofs.Common.{◌≡◌, ◌∙◌, sym, ap, subst, ℕ, List, Option, map}
 use Rattle.std.specs.List.{All}
 use Rattle.vortex_model.specs.LogicalType.{LogicalType, Nullability, nullability_of}
-use Rattle.vortex_arrays_buffer.specs.declared.error.ArrayError.{ArrayError}
-use Rattle.vortex_arrays_buffer.specs.declared.error.ArrayError.TheVariants as error
+use Rattle.vortex_arrays_view.specs.declared.error.ArrayError.{ArrayError}
+use Rattle.vortex_arrays_view.specs.declared.error.ArrayError.TheVariants as error
 use Rattle.vortex_arrays_model.specs.Layout.{Layout, Strings, texts, type_of_strings}
 use Rattle.vortex_arrays_leaf.specs.Strings.{strings_in}
 use Rattle.vortex_arrays_builder.specs.Strings.{IsStringsFault}

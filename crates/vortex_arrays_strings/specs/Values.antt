@@ -8,8 +8,8 @@ use Rattle.vortex_model.specs.Content.{Content, null, Raw, raw_null, raw_byte_st
 use Rattle.vortex_arrays_view.specs.Views.{value_of}
 use Rattle.vortex_arrays_view.specs.Made.{short_view}
 use Rattle.vortex_arrays_view.specs.Cuttings.{IsFewest}
-use Rattle.vortex_arrays_buffer.specs.declared.error.ArrayError.{ArrayError}
-use Rattle.vortex_arrays_buffer.specs.declared.error.ArrayError.TheVariants as error
+use Rattle.vortex_arrays_view.specs.declared.error.ArrayError.{ArrayError}
+use Rattle.vortex_arrays_view.specs.declared.error.ArrayError.TheVariants as error
 use Rattle.vortex_arrays_model.specs.Layout.{Layout, strings, Strings, texts, is_valid, len_of, array_type_of, rows_of, string_content, IsString}
 use Rattle.vortex_arrays_leaf.specs.Strings.{IsStrings, strings_in, views_in, buffers_in}
 use Rattle.vortex_arrays_builder.specs.Strings.{buffered, buffered_len, AreViewsOf, IsStringsFault}

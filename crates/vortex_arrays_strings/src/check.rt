@@ -3,13 +3,13 @@ ghost use Rattle.std.specs.Prelude.{◌≡◌, ◌↔◌, not, map, All, IsTrue,
 ghost use Rattle.vortex_model.specs.LogicalType.{nullability_of};
 ghost use Rattle.vortex_dtype_ptype.specs.View.{nullability_of_flag};
 ghost use Rattle.vortex_dtype_core.specs.View.{type_of};
-ghost use Rattle.vortex_arrays_buffer.specs.declared.error.ArrayError.TheVariants.{NullInNonNullable};
+ghost use Rattle.vortex_arrays_view.specs.declared.error.ArrayError.TheVariants.{NullInNonNullable};
 ghost use Rattle.vortex_arrays_model.specs.Layout.{texts, byte_strings, type_of_strings, IsString};
 ghost use Rattle.vortex_arrays_core.specs.LayoutOf.{strings_of};
 ghost use Rattle.vortex_arrays_strings.specs.Values.{lent, HaveNulls, HoldsStrings, IsHeld, IsPresent};
 
-use vortex_arrays_buffer::error::ArrayError;
 use vortex_arrays_core::array::StringKind;
+use vortex_arrays_view::error::ArrayError;
 use vortex_dtype_core::dtype::DType;
 use vortex_dtype_ptype::nullability::Nullability;
 

@@ -8,9 +8,9 @@ use crate::build::{of_any_values, of_held_values};
 use crate::lend::{lend_bytes, lend_some_bytes, lend_some_texts, lend_texts};
 use std::alloc::Global;
 use std::convert::{AsSlice, AsStr};
-use vortex_arrays_buffer::error::ArrayError;
 use vortex_arrays_core::array::StringKind;
 use vortex_arrays_leaf::view_array::VarBinViewArray;
+use vortex_arrays_view::error::ArrayError;
 use vortex_dtype_core::dtype::DType;
 use vortex_dtype_ptype::nullability::Nullability;
 

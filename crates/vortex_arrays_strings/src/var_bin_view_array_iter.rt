@@ -3,15 +3,15 @@ ghost use Rattle.std.specs.Prelude.{◌≡◌, ◌⊎◌, ◌<◌, ℕ, List, Op
 ghost use Rattle.std.specs.Iterator.{Drains, IsFinite};
 ghost use Rattle.vortex_model.specs.LogicalType.{utf8, binary, nullable, non_nullable};
 ghost use Rattle.vortex_dtype_core.specs.View.{type_of};
-ghost use Rattle.vortex_arrays_buffer.specs.declared.error.ArrayError.TheVariants.{Memory};
+ghost use Rattle.vortex_arrays_view.specs.declared.error.ArrayError.TheVariants.{Memory};
 ghost use Rattle.vortex_arrays_model.specs.Layout.{Layout, len_of};
 ghost use Rattle.vortex_arrays_strings.specs.Values.{lent, value_at, values_of, IsOfValues, IsValuesFault};
 
 use crate::of_items::{of_bytes, of_some_bytes, of_some_texts, of_texts, of_typed};
 use std::alloc::{AllocError, Global};
 use std::convert::{AsSlice, AsStr};
-use vortex_arrays_buffer::error::ArrayError;
 use vortex_arrays_leaf::view_array::VarBinViewArray;
+use vortex_arrays_view::error::ArrayError;
 use vortex_dtype_core::dtype::DType;
 
 /// The calls of Vortex's `VarBinViewArray` that go over values. An iterator is gone over to its

@@ -5,7 +5,7 @@ use Rattle.vortex_model.specs.LogicalType.{LogicalType, Fields, struct, nullable
 use Rattle.vortex_model.specs.Content.{Content, null, integer, Raw, content_of}
 use Rattle.vortex_model.specs.Path.{Positions, field_at, part_at, part_of, type_at, at}
 use Rattle.vortex_model.specs.Valid.{valid}
-use Rattle.vortex_model.specs.ZoneMap.{values_at}
+use Rattle.vortex_model_table.specs.ZoneMap.{values_at}
 use Rattle.vortex_dtype_core.specs.Parts.{fields_in_type}
 use Rattle.vortex_scalar_value.specs.Parts.{raw_part}
 use Rattle.vortex_arrays_model.specs.Layout.{Layout, constant, dictionary, records, Valid, Columns, no_columns, column, len_of, array_type_of, fields_of, nullability_by, content_at, pick, rows_of, IsCode, IsSound, HasLength}

@@ -6,8 +6,8 @@ use Rattle.vortex_model.specs.Path.{Names, Positions, position_in, part_at, part
 use Rattle.vortex_arrays_model.specs.Layout.{Layout, array_type_of, rows_of, IsSound}
 use Rattle.vortex_arrays_model.specs.Column.{IsColumn}
 use Rattle.vortex_arrays_model.proofs.ColumnLemmas.{column_root, type_at_within}
-use Rattle.vortex_arrays_buffer.specs.declared.error.ArrayError.{ArrayError}
-use Rattle.vortex_arrays_buffer.specs.declared.error.ArrayError.TheVariants.{Memory, NoSuchField}
+use Rattle.vortex_arrays_view.specs.declared.error.ArrayError.{ArrayError}
+use Rattle.vortex_arrays_view.specs.declared.error.ArrayError.TheVariants.{Memory, NoSuchField}
 use Rattle.vortex_arrays_struct.specs.ColumnFaults.{IsColumnFault}
 
 -- Outer nullability is none of a path's business.

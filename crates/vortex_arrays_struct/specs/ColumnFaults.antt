@@ -2,8 +2,8 @@
 use Rattle.std.specs.Prelude.{◌≡◌, None}
 use Rattle.vortex_model.specs.Path.{Names, type_of_column}
 use Rattle.vortex_arrays_model.specs.Layout.{Layout, array_type_of}
-use Rattle.vortex_arrays_buffer.specs.declared.error.ArrayError.{ArrayError}
-use Rattle.vortex_arrays_buffer.specs.declared.error.ArrayError.TheVariants.{Memory, NoSuchField}
+use Rattle.vortex_arrays_view.specs.declared.error.ArrayError.{ArrayError}
+use Rattle.vortex_arrays_view.specs.declared.error.ArrayError.TheVariants.{Memory, NoSuchField}
 
 -- the type has nothing at the path, unless memory ran out
 abbrev pub IsColumnFault : ArrayError → Layout → Names → Type 0

@@ -2,8 +2,8 @@
 use Rattle.std.specs.Prelude.{◌≡◌, ◌≢◌, ℕ, List, map, Any, Bool, cond, Option, Some, None, option_and_then, if◌then◌else◌, MatchOption}
 use Rattle.std.specs.Str.{bytes_eq}
 use Rattle.vortex_model.specs.Path.{position_named}
-use Rattle.vortex_arrays_buffer.specs.declared.error.ArrayError.{ArrayError}
-use Rattle.vortex_arrays_buffer.specs.declared.error.ArrayError.TheVariants.{Memory, LengthMismatch, NoSuchField}
+use Rattle.vortex_arrays_view.specs.declared.error.ArrayError.{ArrayError}
+use Rattle.vortex_arrays_view.specs.declared.error.ArrayError.TheVariants.{Memory, LengthMismatch, NoSuchField}
 use Rattle.vortex_arrays_model.specs.Layout.{Layout, records, Valid, required, all_valid, Columns, no_columns, column, len_of, fields_of}
 use Rattle.vortex_arrays_model.specs.Column.{array_at, IsMasked}
 use Rattle.vortex_arrays_model.specs.Parts.{columns_of}

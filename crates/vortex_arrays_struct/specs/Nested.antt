@@ -1,7 +1,7 @@
 -- When a slice of a slice is refused.
 use Rattle.std.specs.Prelude.{◌≤◌, ◌-◌, ℕ}
-use Rattle.vortex_arrays_buffer.specs.declared.error.ArrayError.{ArrayError}
-use Rattle.vortex_arrays_buffer.specs.declared.error.ArrayError.TheVariants.{Memory, OutOfRange}
+use Rattle.vortex_arrays_view.specs.declared.error.ArrayError.{ArrayError}
+use Rattle.vortex_arrays_view.specs.declared.error.ArrayError.TheVariants.{Memory, OutOfRange}
 
 -- one range lies within so many rows, and another within the rows of that one
 abbrev pub AreNested : ℕ → ℕ → ℕ → ℕ → ℕ → Type 0

@@ -2,8 +2,8 @@
 use Rattle.std.specs.Prelude.{◌≡◌, ℕ, List, length}
 use Rattle.std.specs.List.{All}
 use Rattle.vortex_model.specs.LogicalType.{boolean_type, non_nullable}
-use Rattle.vortex_arrays_buffer.specs.declared.error.ArrayError.{ArrayError}
-use Rattle.vortex_arrays_buffer.specs.declared.error.ArrayError.TheVariants.{Memory, LengthMismatch, WrongType}
+use Rattle.vortex_arrays_view.specs.declared.error.ArrayError.{ArrayError}
+use Rattle.vortex_arrays_view.specs.declared.error.ArrayError.TheVariants.{Memory, LengthMismatch, WrongType}
 use Rattle.vortex_arrays_model.specs.Layout.{Layout, Valid, by_array, len_of, array_type_of}
 
 -- what tells which records are null holds truth values, none of them null

@@ -3,11 +3,11 @@ ghost use Rattle.std.specs.Prelude.{◌≡◌, ◌≢◌, ◌↔◌, IsTrue, OnO
 ghost use Rattle.vortex_arrays_model.specs.Layout.{IsSound, len_of, records};
 ghost use Rattle.vortex_arrays_model.specs.Parts.{columns_of};
 ghost use Rattle.vortex_arrays_core.specs.LayoutOf.{valid_of};
-ghost use Rattle.vortex_arrays_buffer.specs.declared.error.ArrayError.TheVariants.{Memory};
+ghost use Rattle.vortex_arrays_view.specs.declared.error.ArrayError.TheVariants.{Memory};
 ghost use Rattle.vortex_arrays_struct.specs.RecordFaults.{TellsNulls, FitTogether, IsRecordsFault};
 
-use vortex_arrays_buffer::error::ArrayError;
 use vortex_arrays_core::array::{ArrayRef, Validity};
+use vortex_arrays_view::error::ArrayError;
 use vortex_dtype_ptype::field_names::FieldNames;
 
 /// Tests that the parts make an array of so many records, as Vortex's `StructData::validate`.

@@ -6,8 +6,8 @@ ghost use Rattle.vortex_arrays_struct.specs.ColumnFaults.{IsColumnFault};
 
 use crate::part::field_of;
 use std::alloc::Global;
-use vortex_arrays_buffer::error::ArrayError;
 use vortex_arrays_core::array::ArrayRef;
+use vortex_arrays_view::error::ArrayError;
 use vortex_dtype_ptype::field_names::FieldName;
 
 /// The column of a path of names, null where a record on the way is null. Of names that repeat in a

@@ -10,8 +10,8 @@ use crate::mask::shared_fields;
 use crate::struct_array::StructArray;
 use std::alloc::{AllocError, Global};
 use std::rc::Rc;
-use vortex_arrays_buffer::error::ArrayError;
 use vortex_arrays_core::array::ArrayRef;
+use vortex_arrays_view::error::ArrayError;
 use vortex_dtype_ptype::field_names::{FieldName, FieldNames};
 
 impl StructArray {

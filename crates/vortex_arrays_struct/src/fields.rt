@@ -6,7 +6,7 @@ ghost use Rattle.vortex_arrays_model.specs.Layout.{fields_of, nullability_by, le
 ghost use Rattle.vortex_arrays_model.specs.Column.{array_at};
 ghost use Rattle.vortex_arrays_model.specs.Parts.{columns_of};
 ghost use Rattle.vortex_arrays_core.specs.LayoutOf.{valid_of};
-ghost use Rattle.vortex_arrays_buffer.specs.declared.error.ArrayError.TheVariants.{NoSuchField};
+ghost use Rattle.vortex_arrays_view.specs.declared.error.ArrayError.TheVariants.{NoSuchField};
 ghost use Rattle.vortex_arrays_struct.specs.Edited.{array_named};
 ghost use Rattle.vortex_arrays_struct.specs.Records.{columns_in, validity_in, names_in, arrays_in};
 
@@ -15,8 +15,8 @@ use crate::struct_array::{StructArray, parts_of};
 use crate::unmasked_fields_iter::UnmaskedFieldsIter;
 use std::alloc::{AllocError, Global};
 use std::rc::Rc;
-use vortex_arrays_buffer::error::ArrayError;
 use vortex_arrays_core::array::{ArrayRef, Validity};
+use vortex_arrays_view::error::ArrayError;
 use vortex_dtype_core::struct_fields::StructFields;
 use vortex_dtype_ptype::field_names::FieldNames;
 use vortex_dtype_ptype::nullability::Nullability;

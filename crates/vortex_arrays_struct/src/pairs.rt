@@ -8,8 +8,8 @@ ghost use Rattle.vortex_arrays_struct.specs.Pairs.{names_of, arrays_of, IsOfPair
 use crate::struct_array::StructArray;
 use std::alloc::{AllocError, Global};
 use std::rc::Rc;
-use vortex_arrays_buffer::error::ArrayError;
 use vortex_arrays_core::array::{ArrayRef, Validity};
+use vortex_arrays_view::error::ArrayError;
 use vortex_dtype_ptype::field_names::{FieldName, FieldNames};
 
 impl StructArray {

@@ -2,13 +2,13 @@
 ghost use Rattle.std.specs.Prelude.{◌≡◌, ◌+◌, ◌-◌, IfOk, IfErr};
 ghost use Rattle.vortex_arrays_model.specs.Layout.{len_of, array_type_of, rows_of};
 ghost use Rattle.vortex_arrays_model.specs.Picks.{Picks};
-ghost use Rattle.vortex_arrays_buffer.specs.declared.error.ArrayError.TheVariants.{Memory};
+ghost use Rattle.vortex_arrays_view.specs.declared.error.ArrayError.TheVariants.{Memory};
 ghost use Rattle.vortex_arrays_struct.specs.Nested.{IsNestedFault};
 
 use std::alloc::Global;
 use std::ops::Range;
-use vortex_arrays_buffer::error::ArrayError;
 use vortex_arrays_core::array::ArrayRef;
+use vortex_arrays_view::error::ArrayError;
 
 /// A slice, a slice of it, and the slice by added bounds: the last two have the same rows and the
 /// same type. `OutOfRange` where one of the ranges does not lie within the rows that it is of.

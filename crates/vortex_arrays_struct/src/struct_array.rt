@@ -18,8 +18,8 @@ use crate::check::validate;
 use std::alloc::{AllocError, Global};
 use std::marker::Model;
 use std::rc::Rc;
-use vortex_arrays_buffer::error::ArrayError;
 use vortex_arrays_core::array::{ArrayLayout, ArrayRef, Validity};
+use vortex_arrays_view::error::ArrayError;
 use vortex_dtype_core::dtype::DType;
 use vortex_dtype_ptype::field_names::FieldNames;
 

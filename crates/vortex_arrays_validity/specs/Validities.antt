@@ -3,8 +3,8 @@ use Rattle.std.specs.Prelude.{◌≡◌, ◌≢◌, ◌<◌, ◌⊎◌, ℕ, Lis
 use Rattle.std.specs.List.{range_with_len}
 use Rattle.vortex_model.specs.LogicalType.{Nullability, nullable, non_nullable, boolean_type, either_nullable}
 use Rattle.vortex_model.specs.Content.{boolean}
-use Rattle.vortex_arrays_buffer.specs.declared.error.ArrayError.{ArrayError}
-use Rattle.vortex_arrays_buffer.specs.declared.error.ArrayError.TheVariants.{Memory, OutOfRange, LengthMismatch, NullInNonNullable, WrongType}
+use Rattle.vortex_arrays_view.specs.declared.error.ArrayError.{ArrayError}
+use Rattle.vortex_arrays_view.specs.declared.error.ArrayError.TheVariants.{Memory, OutOfRange, LengthMismatch, NullInNonNullable, WrongType}
 use Rattle.vortex_arrays_model.specs.Layout.{Layout, Valid, required, all_valid, all_null, by_array, bools, len_of, array_type_of, nullability_by, content_at, is_valid, IsSound, HasLength}
 use Rattle.vortex_arrays_model.specs.Picks.{position_of}
 use Rattle.vortex_arrays_model.specs.Parts.{AreWithin}

@@ -9,8 +9,9 @@ ghost use Rattle.vortex_arrays_validity.specs.Validities.{valid_rows, CanPatch, 
 
 use crate::bits::of_rows;
 use std::alloc::{AllocError, Global};
-use vortex_arrays_buffer::{ArrayError, BitBuffer, Mask};
+use vortex_arrays_buffer::{BitBuffer, Mask};
 use vortex_arrays_core::array::{ArrayRef, Validity};
+use vortex_arrays_view::error::ArrayError;
 
 /// Tests that rows of so many can be overwritten so, as `ValidityExt::patch` does.
 pub fn check_patches(len: usize, places: &ArrayRef, patches: &Validity) -> Result<(), ArrayError>

@@ -23,8 +23,9 @@ ghost use Rattle.vortex_arrays_validity.specs.Validities.{
 use crate::bits::{are_true, array_of_rows, bits_of, inverse, of_bits, of_rows, same_rows};
 use crate::patch::{check_patches, patched};
 use std::alloc::{AllocError, Global};
-use vortex_arrays_buffer::{ArrayError, BitBuffer, Mask};
+use vortex_arrays_buffer::{BitBuffer, Mask};
 use vortex_arrays_core::array::{ArrayRef, Validity};
+use vortex_arrays_view::error::ArrayError;
 use vortex_dtype_ptype::nullability::Nullability;
 
 /// The calls of Vortex's `Validity` beside those that arrays are made with. Where a number of rows

@@ -3,8 +3,8 @@ use Rattle.std.specs.Prelude.{◌≡◌, false, ℕ, ℤ, ◌-ℤ◌, List, [], 
 use Rattle.std.specs.Int.{IsNonNegative}
 use Rattle.vortex_model.specs.LogicalType.{IntKind}
 use Rattle.vortex_model.specs.Valid.{in_range}
-use Rattle.vortex_arrays_buffer.specs.declared.error.ArrayError.{ArrayError}
-use Rattle.vortex_arrays_buffer.specs.declared.error.ArrayError.TheVariants as error
+use Rattle.vortex_arrays_view.specs.declared.error.ArrayError.{ArrayError}
+use Rattle.vortex_arrays_view.specs.declared.error.ArrayError.TheVariants as error
 
 -- the lengths as counts of bytes
 abbrev pub counts_of : List ℤ → List ℕ

@@ -3,11 +3,11 @@ ghost use Rattle.std.specs.Prelude.{◌≡◌, ◌≤◌, length, map, sum, All,
 ghost use Rattle.vortex_arrays_view.specs.Lengths.{counts_of, lengths_between, AddUp};
 ghost use Rattle.vortex_arrays_view.specs.Built.{limit_of, IsBuilt, IsPlaceFault, IsLimitFault, IsBuildFault};
 
+use crate::error::ArrayError;
 use crate::lengths::{counts, counts_between};
 use crate::view::BinaryView;
 use bytes::Bytes;
 use std::alloc::Global;
-use vortex_arrays_buffer::error::ArrayError;
 use vortex_dtype_native::native::NativePType;
 
 /// The most bytes of a buffer that views refer to.

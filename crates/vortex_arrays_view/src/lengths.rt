@@ -3,8 +3,8 @@ ghost use Rattle.std.specs.Prelude.{◌≡◌, ◌≤◌, ◌<◌, ◌-ℤ◌, p
 ghost use Rattle.std.specs.Int.{IsNonNegative};
 ghost use Rattle.vortex_arrays_view.specs.Lengths.{counts_of, lengths_between, AddUp, NeverFall, IsCountFault, IsLengthsFault};
 
+use crate::error::ArrayError;
 use std::alloc::Global;
-use vortex_arrays_buffer::error::ArrayError;
 use vortex_dtype_native::native::NativePType;
 
 /// The length from each offset to the next, as Vortex's `offsets_to_lengths`: one length less than

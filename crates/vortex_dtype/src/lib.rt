@@ -19,6 +19,7 @@ pub use vortex_dtype_decimal::precision_scale::PrecisionScale;
 pub use vortex_dtype_fields::dtype_ext::DTypeExt;
 pub use vortex_dtype_fields::field_dtype::{FieldDType, FieldDTypesIter, FieldTypesIter};
 pub use vortex_dtype_fields::map_dtype_ext::MapDTypeExt;
+pub use vortex_dtype_fields::native_dtype::NativeDType;
 pub use vortex_dtype_fields::struct_fields_ext::StructFieldsExt;
 pub use vortex_dtype_fields::union_variants_ext::UnionVariantsExt;
 pub use vortex_dtype_fields::variants_iter::VariantsIter;
@@ -27,7 +28,6 @@ pub use vortex_dtype_native::little_endian::{ToBytes, TryFromBytes};
 pub use vortex_dtype_native::native::{
     IntegerPType, NativePType, OffsetBuilderPType, PhysicalPType, UnsignedPType, offsets,
 };
-pub use vortex_dtype_native::native_dtype::NativeDType;
 pub use vortex_dtype_native::private::Sealed;
 pub use vortex_dtype_native::{
     match_each_integer_ptype, match_each_native_ptype, match_each_signed_integer_ptype,

@@ -6,17 +6,17 @@ use Rattle.std.proofs.lemmas.Bool.{cases_lt, eq-eqb}
 use Rattle.vortex_model.specs.LogicalType.{LogicalType, Nullability, utf8}
 use Rattle.vortex_model.specs.Content.{Content, null, boolean, text, is_null}
 use Rattle.vortex_model.specs.Path.{Names, begins}
-use Rattle.vortex_model.specs.Expression.{Expression, literal, column, compare, both, either, negation, is_null as is_null_test, is_not_null as is_not_null_test, is_nan, between, like, row_count, statistic, Comparison, equal, not_equal, greater, at_least, less, at_most}
-use Rattle.vortex_model.specs.Truth.{evaluate, compared, kleene_and, kleene_or, kleene_not, end_of, liked}
-use Rattle.vortex_model.specs.Statistics.{shown}
-use Rattle.vortex_model.specs.Rewrite.{comparison_falsifier, falsifier, shape_of}
-use Rattle.vortex_model.specs.Class.{Box, IsBetween, IsCounted, IsTested, IsIn, IsValueOf, of_choice, columns_of, eq_names, all_distinct, is_text_form}
-use Rattle.vortex_model.proofs.Chains.{not_above_chain}
-use Rattle.vortex_model.proofs.ContentOrder.{le, by_le, true_left, true_right}
-use Rattle.vortex_model.proofs.Groups.{front_of_all, back_of_all, or_false_left, or_false_right}
-use Rattle.vortex_model.proofs.Honesty.{all_among, each_among}
-use Rattle.vortex_model.proofs.Leasts.{all_mapped, at_most_both}
-use Rattle.vortex_model.proofs.Texts.{IsTextual}
+use Rattle.vortex_model_table.specs.Expression.{Expression, literal, column, compare, both, either, negation, is_null as is_null_test, is_not_null as is_not_null_test, is_nan, between, like, row_count, statistic, Comparison, equal, not_equal, greater, at_least, less, at_most}
+use Rattle.vortex_model_table.specs.Truth.{evaluate, compared, kleene_and, kleene_or, kleene_not, end_of, liked}
+use Rattle.vortex_model_table.specs.Statistics.{shown}
+use Rattle.vortex_model_table.specs.Rewrite.{comparison_falsifier, falsifier, shape_of}
+use Rattle.vortex_model_table.specs.Class.{Box, IsBetween, IsCounted, IsTested, IsIn, IsValueOf, of_choice, columns_of, eq_names, all_distinct, is_text_form}
+use Rattle.vortex_model_table.proofs.Chains.{not_above_chain}
+use Rattle.vortex_model_table.proofs.ContentOrder.{le, by_le, true_left, true_right}
+use Rattle.vortex_model_laws.proofs.Groups.{front_of_all, back_of_all, or_false_left, or_false_right}
+use Rattle.vortex_model_laws.proofs.Honesty.{all_among, each_among}
+use Rattle.vortex_model_laws.proofs.Leasts.{all_mapped, at_most_both}
+use Rattle.vortex_model_laws.proofs.Texts.{IsTextual}
 use Rattle.vortex_model_laws.proofs.Liked.{like_fails, like_chosen}
 use Rattle.vortex_model_laws.proofs.Members.{IsMember, member_not_null, member_itself, member_total}
 use Rattle.vortex_model_laws.proofs.Tighter.{Comparable, passed, or_left_true, or_right_true, and_made, or_made_left, or_made_right, not_true}

@@ -5,11 +5,11 @@ use Rattle.std.proofs.lemmas.List.{length-append, length-map, take-append-drop}
 use Rattle.std.proofs.lemmas.List.Sums.{count_by-le-length}
 use Rattle.std.proofs.lemmas.Bool.Decides.{nat_tests}
 use Rattle.vortex_model.specs.Content.{Content}
-use Rattle.vortex_model.specs.Expression.{Expression}
-use Rattle.vortex_model.specs.Rewrite.{falsifier, satisfier}
-use Rattle.vortex_model.specs.Table.{Table}
-use Rattle.vortex_model.specs.Scan.{Outcome, skipped_in_group, is_skipped, is_tested, is_in_group, one_if, chunk_outcome, is_many, group_outcomes, grouped, outcomes, group_zone, proves, saturated, tested_lengths, proofs_for, proofs, rows_tested}
-use Rattle.vortex_model.proofs.Outcomes.{tested_first, none_lengths}
+use Rattle.vortex_model_table.specs.Expression.{Expression}
+use Rattle.vortex_model_table.specs.Rewrite.{falsifier, satisfier}
+use Rattle.vortex_model_table.specs.Table.{Table}
+use Rattle.vortex_model_table.specs.Scan.{Outcome, skipped_in_group, is_skipped, is_tested, is_in_group, one_if, chunk_outcome, is_many, group_outcomes, grouped, outcomes, group_zone, proves, saturated, tested_lengths, proofs_for, proofs, rows_tested}
+use Rattle.vortex_model_laws.proofs.Outcomes.{tested_first, none_lengths}
 use Rattle.vortex_model_laws.specs.Laws.{groups_of_many, IsCountedWithin}
 
 -- a saturated number is at most the number, and at most the greatest u64

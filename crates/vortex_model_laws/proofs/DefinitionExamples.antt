@@ -7,11 +7,11 @@ use Rattle.vortex_model.specs.LogicalType.{LogicalType, integer_type, float, utf
 use Rattle.vortex_model.specs.Content.{Content, null, boolean, integer, text, tuple, scalar, nothing, first, raw_null, raw_text, raw_tuple, raw_first, no_raws}
 use Rattle.vortex_model.specs.Valid.{valid}
 use Rattle.vortex_model.specs.Order.{content_cmp}
-use Rattle.vortex_model.specs.Expression.{Expression, literal, column, compare, both, either, is_null, is_nan, like, greater, equal, statistic, null_count, all_non_null}
-use Rattle.vortex_model.specs.Truth.{value_at, has_truth, selects}
-use Rattle.vortex_model.specs.Rewrite.{count_literal, boolean_literal, falsifiers, falsifier, joined_proofs}
-use Rattle.vortex_model.specs.Table.{Table}
-use Rattle.vortex_model.specs.Scan.{tested, chunk_outcome}
+use Rattle.vortex_model_table.specs.Expression.{Expression, literal, column, compare, both, either, is_null, is_nan, like, greater, equal, statistic, null_count, all_non_null}
+use Rattle.vortex_model_table.specs.Truth.{value_at, has_truth, selects}
+use Rattle.vortex_model_table.specs.Rewrite.{count_literal, boolean_literal, falsifiers, falsifier, joined_proofs}
+use Rattle.vortex_model_table.specs.Table.{Table}
+use Rattle.vortex_model_table.specs.Scan.{tested, chunk_outcome}
 use Rattle.vortex_model_laws.proofs.Examples.{a, table, low_chunk, above_20}
 
 abbrev record_of : List ℕ → LogicalType → LogicalType

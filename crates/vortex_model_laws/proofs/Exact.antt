@@ -12,24 +12,24 @@ use Rattle.vortex_model.specs.Path.{Names, Positions, positions, type_at, type_o
 use Rattle.vortex_model.specs.Kept.{is_leaf}
 use Rattle.vortex_model.specs.Order.{at_most as at_most_content}
 use Rattle.vortex_model.specs.Refusal.{Refusal, not_a_leaf, or_else, unequal_types, not_boolean, unsupported_predicate, unsupported_like}
-use Rattle.vortex_model.specs.Typing.{expression_type, has_bounds, is_float}
-use Rattle.vortex_model.specs.Expression.{Expression, literal, column, compare, both, either, is_null as is_null_test, is_not_null as is_not_null_test, between, like, Comparison, at_most, HasFormedLiterals}
-use Rattle.vortex_model.specs.Truth.{is_true}
-use Rattle.vortex_model.specs.Statistics.{shown, IsNotAbove}
-use Rattle.vortex_model.specs.ZoneMap.{ZoneMap, value_in, values_at}
-use Rattle.vortex_model.specs.Rewrite.{is_comparable, is_float_placeholder, guarded, no_nan_by_count, no_nan_by_flag, comparison_falsifier, joined_proofs, either_there, falsifier, satisfier}
-use Rattle.vortex_model.specs.Table.{Table, IsTable, bound_length}
-use Rattle.vortex_model.specs.Scan.{chunk_zone, chunk_zone_at, if_leaf, leaf_at, proves, Outcome, skipped, whole, tested, is_skipped, chunk_outcome, numbers, skipped_chunks}
-use Rattle.vortex_model.specs.Command.{expression_fault, column_fault, unless, is_boolean, eq_optional_type, is_utf8_type, is_supported_like}
-use Rattle.vortex_model.specs.Pruning.{IsAsked}
-use Rattle.vortex_model.specs.Class.{Box, box_of, unknown_zone, IsValueOf, Hopeless, columns_of, all_distinct, is_there, has_both, is_bounded, are_sides, is_column, are_ends, is_text_form, is_wide_tree, is_wide}
-use Rattle.vortex_model.proofs.Columns.{all_at_type}
-use Rattle.vortex_model.proofs.ContentOrder.{le, true_left, true_right}
-use Rattle.vortex_model.proofs.Held.{first_none, second_none}
-use Rattle.vortex_model.proofs.Honesty.{Among}
-use Rattle.vortex_model.proofs.Leasts.{among_contains, contains_among}
+use Rattle.vortex_model_table.specs.Typing.{expression_type, has_bounds, is_float}
+use Rattle.vortex_model_table.specs.Expression.{Expression, literal, column, compare, both, either, is_null as is_null_test, is_not_null as is_not_null_test, between, like, Comparison, at_most, HasFormedLiterals}
+use Rattle.vortex_model_table.specs.Truth.{is_true}
+use Rattle.vortex_model_table.specs.Statistics.{shown, IsNotAbove}
+use Rattle.vortex_model_table.specs.ZoneMap.{ZoneMap, value_in, values_at}
+use Rattle.vortex_model_table.specs.Rewrite.{is_comparable, is_float_placeholder, guarded, no_nan_by_count, no_nan_by_flag, comparison_falsifier, joined_proofs, either_there, falsifier, satisfier}
+use Rattle.vortex_model_table.specs.Table.{Table, IsTable, bound_length}
+use Rattle.vortex_model_table.specs.Scan.{chunk_zone, chunk_zone_at, if_leaf, leaf_at, proves, Outcome, skipped, whole, tested, is_skipped, chunk_outcome, numbers, skipped_chunks}
+use Rattle.vortex_model_table.specs.Command.{expression_fault, column_fault, unless, is_boolean, eq_optional_type, is_utf8_type, is_supported_like}
+use Rattle.vortex_model_table.specs.Pruning.{IsAsked}
+use Rattle.vortex_model_table.specs.Class.{Box, box_of, unknown_zone, IsValueOf, Hopeless, columns_of, all_distinct, is_there, has_both, is_bounded, are_sides, is_column, are_ends, is_text_form, is_wide_tree, is_wide}
+use Rattle.vortex_model_laws.proofs.Columns.{all_at_type}
+use Rattle.vortex_model_table.proofs.ContentOrder.{le, true_left, true_right}
+use Rattle.vortex_model_laws.proofs.Held.{first_none, second_none}
+use Rattle.vortex_model_laws.proofs.Honesty.{Among}
+use Rattle.vortex_model_laws.proofs.Leasts.{among_contains, contains_among}
 use Rattle.vortex_model.proofs.Tests.{kind_so, range_so}
-use Rattle.vortex_model.proofs.Texts.{IsTextual}
+use Rattle.vortex_model_laws.proofs.Texts.{IsTextual}
 use Rattle.vortex_model_laws.specs.Exact.{SomeChoice}
 use Rattle.vortex_model_laws.proofs.Alone.{zone_ordered, as_each_alone}
 use Rattle.vortex_model_laws.proofs.Complete.{either_way, IsSide, IsTestable, IsLikeable, IsGood, tree_fails, apart_where_distinct, complete}

@@ -5,15 +5,15 @@ use Rattle.std.specs.Str.{chars}
 use Rattle.vortex_model.specs.LogicalType.{LogicalType, IntKind, boolean_type, integer_type, utf8, struct, field, no_fields, non_nullable, nullable, i16, i32, i64}
 use Rattle.vortex_model.specs.Content.{Content, null, boolean, integer, text, tuple, nothing, first, is_null}
 use Rattle.vortex_model.specs.Path.{Names}
-use Rattle.vortex_model.specs.Expression.{Expression, literal, column, compare, both, either, between, like, is_null as is_null_test, is_not_null, statistic, greater, less, equal, not_equal, min, null_count}
-use Rattle.vortex_model.specs.Truth.{evaluate}
-use Rattle.vortex_model.specs.Statistics.{exact, absent}
-use Rattle.vortex_model.specs.ZoneMap.{ZoneMap, low_of_values, high_of_values, zone_of, Joins, alone, together, made_by}
-use Rattle.vortex_model.specs.Rewrite.{falsifier, count_literal}
-use Rattle.vortex_model.specs.Table.{Table, rows_of}
-use Rattle.vortex_model.specs.Scan.{chunk_zone, proves, skipped_in_group, tested, is_skipped, chunk_outcome, numbers, outcomes, skipped_chunks, proofs, rows_tested}
-use Rattle.vortex_model.specs.Command.{Command, create, append_array, join, retype, refusal, after, predicate_fault, steps}
-use Rattle.vortex_model.specs.Class.{is_bounded, is_single_use, is_wide, of_choice, Hopeless}
+use Rattle.vortex_model_table.specs.Expression.{Expression, literal, column, compare, both, either, between, like, is_null as is_null_test, is_not_null, statistic, greater, less, equal, not_equal, min, null_count}
+use Rattle.vortex_model_table.specs.Truth.{evaluate}
+use Rattle.vortex_model_table.specs.Statistics.{exact, absent}
+use Rattle.vortex_model_table.specs.ZoneMap.{ZoneMap, low_of_values, high_of_values, zone_of, Joins, alone, together, made_by}
+use Rattle.vortex_model_table.specs.Rewrite.{falsifier, count_literal}
+use Rattle.vortex_model_table.specs.Table.{Table, rows_of}
+use Rattle.vortex_model_table.specs.Scan.{chunk_zone, proves, skipped_in_group, tested, is_skipped, chunk_outcome, numbers, outcomes, skipped_chunks, proofs, rows_tested}
+use Rattle.vortex_model_table.specs.Command.{Command, create, append_array, join, retype, refusal, after, predicate_fault, steps}
+use Rattle.vortex_model_table.specs.Class.{is_bounded, is_single_use, is_wide, of_choice, Hopeless}
 use Rattle.vortex_model_laws.specs.Binding.{Binder, bound}
 use Rattle.vortex_model_laws.specs.Exact.{box_of_chunk}
 use Rattle.vortex_model_laws.specs.Laws.{groups_of_many}

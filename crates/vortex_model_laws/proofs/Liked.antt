@@ -15,17 +15,17 @@ use Rattle.std.proofs.lemmas.List.{append-nil}
 use Rattle.std.proofs.lemmas.Str.{encode_ascii, encodes-append, encodes-chars, chars-encodes, scalars-chars}
 use Rattle.vortex_model.specs.LogicalType.{Nullability, utf8}
 use Rattle.vortex_model.specs.Content.{Content, null, boolean, text}
-use Rattle.vortex_model.specs.Bounds.{IsAtMostBytes, next_character, raise_characters, raise}
-use Rattle.vortex_model.specs.Like.{matches, some_end, after_one, after_this, is_like, has_backslash}
-use Rattle.vortex_model.specs.Truth.{liked}
-use Rattle.vortex_model.specs.Rewrite.{Sign, letter, wildcard, sign_of, Shape, exact_text, beginning, no_shape, onto_shape, shape_of_signs, shape_of}
-use Rattle.vortex_model.specs.Class.{is_plain, last_can_be_raised, front_of, ends_in_percent, is_text_form}
-use Rattle.vortex_model.proofs.Beginnings.{scalars_left}
-use Rattle.vortex_model.proofs.ByteOrder.{IsUnder, under_upto, eq_front, under_or_upto, upto_refl}
-use Rattle.vortex_model.proofs.ContentOrder.{le}
-use Rattle.vortex_model.proofs.Encoded.{encode_two, encode_three, encode_four, encode_under}
-use Rattle.vortex_model.proofs.Groups.{or_false_left, or_false_right}
-use Rattle.vortex_model.proofs.Likes.{plain_signs}
+use Rattle.vortex_model_table.specs.Bounds.{IsAtMostBytes, next_character, raise_characters, raise}
+use Rattle.vortex_model_table.specs.Like.{matches, some_end, after_one, after_this, is_like, has_backslash}
+use Rattle.vortex_model_table.specs.Truth.{liked}
+use Rattle.vortex_model_table.specs.Rewrite.{Sign, letter, wildcard, sign_of, Shape, exact_text, beginning, no_shape, onto_shape, shape_of_signs, shape_of}
+use Rattle.vortex_model_table.specs.Class.{is_plain, last_can_be_raised, front_of, ends_in_percent, is_text_form}
+use Rattle.vortex_model_laws.proofs.Beginnings.{scalars_left}
+use Rattle.vortex_model_laws.proofs.ByteOrder.{IsUnder, under_upto, eq_front, under_or_upto, upto_refl}
+use Rattle.vortex_model_table.proofs.ContentOrder.{le}
+use Rattle.vortex_model_laws.proofs.Encoded.{encode_two, encode_three, encode_four, encode_under}
+use Rattle.vortex_model_laws.proofs.Groups.{or_false_left, or_false_right}
+use Rattle.vortex_model_laws.proofs.Likes.{plain_signs}
 use Rattle.vortex_model_laws.proofs.Members.{IsMember}
 use Rattle.vortex_model_laws.proofs.Tighter.{not_true}
 

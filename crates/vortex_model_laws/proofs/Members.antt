@@ -7,16 +7,16 @@ use Rattle.vortex_model.specs.LogicalType.{LogicalType, boolean_type, integer_ty
 use Rattle.vortex_model.specs.Content.{Content, null, boolean, integer, text, byte_string, is_null}
 use Rattle.vortex_model.specs.Valid.{IsContent, AreBytes}
 use Rattle.vortex_model.specs.Kept.{is_leaf}
-use Rattle.vortex_model.specs.Bounds.{IsHigh, IsHighText, IsHighBytes, low, high, is_longer}
-use Rattle.vortex_model.specs.Statistics.{absent, shown, non_null, is_at_most, least_value, greatest_value}
-use Rattle.vortex_model.specs.ZoneMap.{bound_of, zone_of}
-use Rattle.vortex_model.specs.Class.{is_there}
-use Rattle.vortex_model.proofs.BoundFunctions.{low_of_text, high_by_function}
-use Rattle.vortex_model.proofs.ContentOrder.{le}
-use Rattle.vortex_model.proofs.CountUp.{front_bytes}
-use Rattle.vortex_model.proofs.Honesty.{Among}
-use Rattle.vortex_model.proofs.JoinOrder.{Compare, at_most_total}
-use Rattle.vortex_model.proofs.Leasts.{is_at_least, picked_end}
+use Rattle.vortex_model_table.specs.Bounds.{IsHigh, IsHighText, IsHighBytes, low, high, is_longer}
+use Rattle.vortex_model_table.specs.Statistics.{absent, shown, non_null, is_at_most, least_value, greatest_value}
+use Rattle.vortex_model_table.specs.ZoneMap.{bound_of, zone_of}
+use Rattle.vortex_model_table.specs.Class.{is_there}
+use Rattle.vortex_model_laws.proofs.BoundFunctions.{low_of_text, high_by_function}
+use Rattle.vortex_model_table.proofs.ContentOrder.{le}
+use Rattle.vortex_model_laws.proofs.CountUp.{front_bytes}
+use Rattle.vortex_model_laws.proofs.Honesty.{Among}
+use Rattle.vortex_model_laws.proofs.JoinOrder.{Compare, at_most_total}
+use Rattle.vortex_model_laws.proofs.Leasts.{is_at_least, picked_end}
 use Rattle.vortex_model_laws.proofs.Alone.{among_kept}
 
 -- a value of the leaf's type that is not null

@@ -1,10 +1,10 @@
 -- Each table is scanned as its chunks alone are, and the chunks alone are the same.
 use Rattle.std.proofs.Common.{◌≡◌, refl, sym, ◌∙◌, subst, ℕ, List, Some, None}
 use Rattle.vortex_model.specs.Path.{Names}
-use Rattle.vortex_model.specs.Expression.{Expression}
-use Rattle.vortex_model.specs.Table.{Table, IsTable}
-use Rattle.vortex_model.specs.Command.{join, refusal, after}
-use Rattle.vortex_model.specs.Laws.{StepsKeepTables}
+use Rattle.vortex_model_table.specs.Expression.{Expression}
+use Rattle.vortex_model_table.specs.Table.{Table, IsTable}
+use Rattle.vortex_model_table.specs.Command.{join, refusal, after}
+use Rattle.vortex_model_table.specs.Laws.{StepsKeepTables}
 use Rattle.vortex_model_laws.specs.Regrouped.{AreScannedAlike}
 use Rattle.vortex_model_laws.proofs.Alone.{as_each_alone}
 

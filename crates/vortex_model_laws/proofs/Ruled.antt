@@ -6,21 +6,21 @@ use Rattle.std.proofs.lemmas.Str.{scalars-chars}
 use Rattle.vortex_model.specs.LogicalType.{LogicalType, Nullability, utf8}
 use Rattle.vortex_model.specs.Content.{Content, null, boolean, integer, text, is_null}
 use Rattle.vortex_model.specs.Path.{Names}
-use Rattle.vortex_model.specs.Bounds.{IsAtMostBytes, IsRaise, raise}
-use Rattle.vortex_model.specs.Expression.{Expression, literal, column, compare, both, either, is_null as is_null_test, is_not_null as is_not_null_test, between, like, row_count, statistic, Comparison, equal, not_equal, greater, at_least, less, at_most, min, max, null_count, all_null, all_non_null}
-use Rattle.vortex_model.specs.Truth.{Given, evaluate, compared, kleene_and, kleene_or, liked, is_true}
-use Rattle.vortex_model.specs.Statistics.{Precision, exact, inexact, absent, shown}
-use Rattle.vortex_model.specs.ZoneMap.{ZoneMap, value_in}
-use Rattle.vortex_model.specs.Rewrite.{bound_expression, comparison_falsifier, boolean_literal, count_literal, joined_proofs, as_list, Shape, exact_text, beginning, no_shape, shape_of, outside, shape_falsifier, either_there, both_there, falsifier}
-use Rattle.vortex_model.specs.Scan.{told, known, proves}
-use Rattle.vortex_model.specs.Class.{Box, box_of, unknown_zone, IsFrom, IsUpTo, IsIn, Hopeless, of_choice, columns_of, all_distinct, is_there}
-use Rattle.vortex_model.proofs.BoundFunctions.{raise_by_function}
-use Rattle.vortex_model.proofs.ByteOrder.{upto_refl}
-use Rattle.vortex_model.proofs.ContentOrder.{Bounds, le, by_le, Between, passing, none_equal, none_equal_back, none_not_equal, none_greater, none_at_least, none_less, none_at_most, true_left, true_right}
-use Rattle.vortex_model.proofs.Hopeless.{and_left, and_right, or_one}
-use Rattle.vortex_model.proofs.Likes.{Fits, matched, shape_fits, exact_bytes, beginning_upto, beginning_below}
-use Rattle.vortex_model.proofs.Skipping.{truly}
-use Rattle.vortex_model.proofs.Texts.{IsTextual}
+use Rattle.vortex_model_table.specs.Bounds.{IsAtMostBytes, IsRaise, raise}
+use Rattle.vortex_model_table.specs.Expression.{Expression, literal, column, compare, both, either, is_null as is_null_test, is_not_null as is_not_null_test, between, like, row_count, statistic, Comparison, equal, not_equal, greater, at_least, less, at_most, min, max, null_count, all_null, all_non_null}
+use Rattle.vortex_model_table.specs.Truth.{Given, evaluate, compared, kleene_and, kleene_or, liked, is_true}
+use Rattle.vortex_model_table.specs.Statistics.{Precision, exact, inexact, absent, shown}
+use Rattle.vortex_model_table.specs.ZoneMap.{ZoneMap, value_in}
+use Rattle.vortex_model_table.specs.Rewrite.{bound_expression, comparison_falsifier, boolean_literal, count_literal, joined_proofs, as_list, Shape, exact_text, beginning, no_shape, shape_of, outside, shape_falsifier, either_there, both_there, falsifier}
+use Rattle.vortex_model_table.specs.Scan.{told, known, proves}
+use Rattle.vortex_model_table.specs.Class.{Box, box_of, unknown_zone, IsFrom, IsUpTo, IsIn, Hopeless, of_choice, columns_of, all_distinct, is_there}
+use Rattle.vortex_model_laws.proofs.BoundFunctions.{raise_by_function}
+use Rattle.vortex_model_laws.proofs.ByteOrder.{upto_refl}
+use Rattle.vortex_model_table.proofs.ContentOrder.{Bounds, le, by_le, Between, passing, none_equal, none_equal_back, none_not_equal, none_greater, none_at_least, none_less, none_at_most, true_left, true_right}
+use Rattle.vortex_model_laws.proofs.Hopeless.{and_left, and_right, or_one}
+use Rattle.vortex_model_laws.proofs.Likes.{Fits, matched, shape_fits, exact_bytes, beginning_upto, beginning_below}
+use Rattle.vortex_model_laws.proofs.Skipping.{truly}
+use Rattle.vortex_model_laws.proofs.Texts.{IsTextual}
 use Rattle.vortex_model_laws.proofs.Complete.{either_way, proof_value, fails_value, made, or_cases, is_side, lows, highs, IsSide, IsLikeable, IsGood, tree_fails, apart_where_distinct, complete}
 use Rattle.vortex_model_laws.proofs.Liked.{IsTextForm, IsPrefixForm, form_cases, like_fails}
 use Rattle.vortex_model_laws.proofs.Tighter.{and_made, or_made_left, or_made_right, not_true, count_so}

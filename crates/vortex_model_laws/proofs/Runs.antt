@@ -5,12 +5,12 @@ use Rattle.std.proofs.lemmas.Grind.{flat_map-append}
 use Rattle.std.proofs.lemmas.List.{append-nil}
 use Rattle.vortex_model.specs.LogicalType.{struct, no_fields, non_nullable}
 use Rattle.vortex_model.specs.Content.{Content, content_of}
-use Rattle.vortex_model.specs.Truth.{selects}
-use Rattle.vortex_model.specs.Cut.{cut_row}
+use Rattle.vortex_model_table.specs.Truth.{selects}
+use Rattle.vortex_model_table.specs.Cut.{cut_row}
 use Rattle.vortex_model.specs.Refusal.{Refusal}
-use Rattle.vortex_model.specs.Table.{Table, IsTable, rows_of}
-use Rattle.vortex_model.specs.Command.{Command, create, append, append_array, join, retype, compact, scan, describe, appended, created, create_fault, refusal, after, refusal_in, after_in, step_in, steps}
-use Rattle.vortex_model.specs.Laws.{IsFormed, StepsKeepTables}
+use Rattle.vortex_model_table.specs.Table.{Table, IsTable, rows_of}
+use Rattle.vortex_model_table.specs.Command.{Command, create, append, append_array, join, retype, compact, scan, describe, appended, created, create_fault, refusal, after, refusal_in, after_in, step_in, steps}
+use Rattle.vortex_model_table.specs.Laws.{IsFormed, StepsKeepTables}
 use Rattle.vortex_model_laws.specs.Runs.{rows_by, handed_in, IsLeftBy, IsScannedExactly}
 use Rattle.vortex_model_laws.proofs.Exact.{exactly_hopeless}
 

@@ -9,19 +9,19 @@ use Rattle.vortex_model.specs.LogicalType.{LogicalType}
 use Rattle.vortex_model.specs.Content.{Content, null, boolean, integer, text, is_null}
 use Rattle.vortex_model.specs.Path.{Names}
 use Rattle.vortex_model.specs.Order.{content_cmp, is_known}
-use Rattle.vortex_model.specs.Expression.{Expression, literal, column, compare, both, either, is_null as is_null_test, is_not_null as is_not_null_test, is_nan as is_nan_test, between, like, row_count, statistic, Comparison, equal, not_equal, greater, at_least, less, at_most, min, max, nan_count, all_null, all_non_null, all_nan, all_non_nan}
-use Rattle.vortex_model.specs.Truth.{Given, evaluate, compared, kleene_and, kleene_or, end_of, is_true, test_of}
-use Rattle.vortex_model.specs.Typing.{is_of_floats}
-use Rattle.vortex_model.specs.Statistics.{Precision, exact, inexact, absent, shown}
-use Rattle.vortex_model.specs.ZoneMap.{ZoneMap, value_in}
-use Rattle.vortex_model.specs.Bounds.{raise}
-use Rattle.vortex_model.specs.Rewrite.{bound_expression, null_count_expression, nan_count_expression, comparison_falsifier, comparison_falsifiers, guarded, no_nan_by_count, no_nan_by_flag, is_comparable, is_float_placeholder, joined_proofs, either_there, both_there, as_list, Shape, exact_text, beginning, no_shape, shape_of, outside, shape_falsifier, falsifier, satisfier, count_literal}
-use Rattle.vortex_model.specs.Scan.{told, known, proves}
-use Rattle.vortex_model.proofs.Chains.{not_above_chain}
-use Rattle.vortex_model.proofs.ContentOrder.{Bounds, chain, le, reversed, by_le, passing, true_left, true_right}
-use Rattle.vortex_model.proofs.Hopeless.{and_left, and_right, or_one}
-use Rattle.vortex_model.proofs.Leasts.{at_most_both}
-use Rattle.vortex_model.proofs.Skipping.{truly}
+use Rattle.vortex_model_table.specs.Expression.{Expression, literal, column, compare, both, either, is_null as is_null_test, is_not_null as is_not_null_test, is_nan as is_nan_test, between, like, row_count, statistic, Comparison, equal, not_equal, greater, at_least, less, at_most, min, max, nan_count, all_null, all_non_null, all_nan, all_non_nan}
+use Rattle.vortex_model_table.specs.Truth.{Given, evaluate, compared, kleene_and, kleene_or, end_of, is_true, test_of}
+use Rattle.vortex_model_table.specs.Typing.{is_of_floats}
+use Rattle.vortex_model_table.specs.Statistics.{Precision, exact, inexact, absent, shown}
+use Rattle.vortex_model_table.specs.ZoneMap.{ZoneMap, value_in}
+use Rattle.vortex_model_table.specs.Bounds.{raise}
+use Rattle.vortex_model_table.specs.Rewrite.{bound_expression, null_count_expression, nan_count_expression, comparison_falsifier, comparison_falsifiers, guarded, no_nan_by_count, no_nan_by_flag, is_comparable, is_float_placeholder, joined_proofs, either_there, both_there, as_list, Shape, exact_text, beginning, no_shape, shape_of, outside, shape_falsifier, falsifier, satisfier, count_literal}
+use Rattle.vortex_model_table.specs.Scan.{told, known, proves}
+use Rattle.vortex_model_table.proofs.Chains.{not_above_chain}
+use Rattle.vortex_model_table.proofs.ContentOrder.{Bounds, chain, le, reversed, by_le, passing, true_left, true_right}
+use Rattle.vortex_model_laws.proofs.Hopeless.{and_left, and_right, or_one}
+use Rattle.vortex_model_laws.proofs.Leasts.{at_most_both}
+use Rattle.vortex_model_laws.proofs.Skipping.{truly}
 use Rattle.vortex_model_laws.specs.Tighter.{IsRaised, IsLowered, TellsMore}
 
 -- ---- truth values

@@ -6,13 +6,13 @@ use Rattle.std.proofs.Math.IntN.{+ℤ_comm, suc_ℤ-*ℤ, zero-*ℤ}
 use Rattle.std.proofs.lemmas.List.{length-replicate}
 use Rattle.vortex_model.specs.LogicalType.{LogicalType}
 use Rattle.vortex_model.specs.Content.{Content, is_null, equal_content}
-use Rattle.vortex_model.specs.Typing.{sum_kind}
-use Rattle.vortex_model.specs.Statistics.{Precision, exact, absent, non_null, null_count_of, is_at_most, number_in, sum_of}
-use Rattle.vortex_model.specs.Bounds.{low, high, is_longer}
-use Rattle.vortex_model.specs.ZoneMap.{bound_of, low_of_values, high_of_values, sum_in, zone_of}
-use Rattle.vortex_model.proofs.Equality.{content_passes}
-use Rattle.vortex_model.proofs.Honesty.{Among, each_among, all_among, nulls_first}
-use Rattle.vortex_model.proofs.Leasts.{is_at_least, IsEnd, picked, picked_end, end_picked, at_most_both, at_least_both, among_contains, contains_among}
+use Rattle.vortex_model_table.specs.Typing.{sum_kind}
+use Rattle.vortex_model_table.specs.Statistics.{Precision, exact, absent, non_null, null_count_of, is_at_most, number_in, sum_of}
+use Rattle.vortex_model_table.specs.Bounds.{low, high, is_longer}
+use Rattle.vortex_model_table.specs.ZoneMap.{bound_of, low_of_values, high_of_values, sum_in, zone_of}
+use Rattle.vortex_model_table.proofs.Equality.{content_passes}
+use Rattle.vortex_model_laws.proofs.Honesty.{Among, each_among, all_among, nulls_first}
+use Rattle.vortex_model_laws.proofs.Leasts.{is_at_least, IsEnd, picked, picked_end, end_picked, at_most_both, at_least_both, among_contains, contains_among}
 use Rattle.vortex_model_laws.specs.Values.{HoldTheSame, IsOfOneValue}
 use Rattle.vortex_model_laws.proofs.Alone.{among_kept}
 

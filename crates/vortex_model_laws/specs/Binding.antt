@@ -4,9 +4,9 @@ use Rattle.std.specs.List.{AllByRecursion}
 use Rattle.vortex_model.specs.LogicalType.{LogicalType}
 use Rattle.vortex_model.specs.Content.{Content}
 use Rattle.vortex_model.specs.Valid.{IsContent}
-use Rattle.vortex_model.specs.Expression.{Expression, literal, column, compare, both, either, negation, is_null, is_not_null, is_nan, between, like, row_count, statistic, Aggregate}
-use Rattle.vortex_model.specs.Truth.{evaluate, Satisfies}
-use Rattle.vortex_model.specs.Sound.{Placeholders, AreHonest, of_proof, Proves, IsSoundFalsifier, IsSoundSatisfier}
+use Rattle.vortex_model_table.specs.Expression.{Expression, literal, column, compare, both, either, negation, is_null, is_not_null, is_nan, between, like, row_count, statistic, Aggregate}
+use Rattle.vortex_model_table.specs.Truth.{evaluate, Satisfies}
+use Rattle.vortex_model_table.specs.Sound.{Placeholders, AreHonest, of_proof, Proves, IsSoundFalsifier, IsSoundSatisfier}
 
 -- what a binder answers for a placeholder: an expression, such as a literal, or another placeholder
 abbrev pub Binder : Type 0

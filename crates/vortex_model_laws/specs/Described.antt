@@ -3,10 +3,10 @@ use Rattle.std.specs.Prelude.{◌≡◌, ℕ, flat_map, Some, true}
 use Rattle.vortex_model.specs.LogicalType.{LogicalType}
 use Rattle.vortex_model.specs.Path.{Positions, type_at}
 use Rattle.vortex_model.specs.Kept.{is_leaf}
-use Rattle.vortex_model.specs.Statistics.{IsHonest}
-use Rattle.vortex_model.specs.ZoneMap.{ZoneMap, values_at, statistics_of}
-use Rattle.vortex_model.specs.Table.{Table, IsTable}
-use Rattle.vortex_model.specs.Reply.{chunks_of_group, Describes}
+use Rattle.vortex_model_table.specs.Statistics.{IsHonest}
+use Rattle.vortex_model_table.specs.ZoneMap.{ZoneMap, values_at, statistics_of}
+use Rattle.vortex_model_table.specs.Table.{Table, IsTable}
+use Rattle.vortex_model_table.specs.Reply.{chunks_of_group, Describes}
 
 -- All that is described of a leaf column of a group is honest of the group's rows, and the count of
 -- nulls is theirs.

@@ -4,13 +4,13 @@ use Rattle.std.specs.List.{AllByRecursion}
 use Rattle.vortex_model.specs.Content.{Content, boolean}
 use Rattle.vortex_model.specs.Valid.{IsContent}
 use Rattle.vortex_model.specs.Path.{Names}
-use Rattle.vortex_model.specs.Expression.{Expression}
-use Rattle.vortex_model.specs.Truth.{evaluate}
-use Rattle.vortex_model.specs.Rewrite.{falsifier}
-use Rattle.vortex_model.specs.Table.{Table, IsTable}
-use Rattle.vortex_model.specs.Scan.{chunk_zone, proves, skipped_chunks}
-use Rattle.vortex_model.specs.Pruning.{IsAsked}
-use Rattle.vortex_model.specs.Class.{Box, box_of, IsIn, of_choice, Hopeless, is_wide, is_bounded}
+use Rattle.vortex_model_table.specs.Expression.{Expression}
+use Rattle.vortex_model_table.specs.Truth.{evaluate}
+use Rattle.vortex_model_table.specs.Rewrite.{falsifier}
+use Rattle.vortex_model_table.specs.Table.{Table, IsTable}
+use Rattle.vortex_model_table.specs.Scan.{chunk_zone, proves, skipped_chunks}
+use Rattle.vortex_model_table.specs.Pruning.{IsAsked}
+use Rattle.vortex_model_table.specs.Class.{Box, box_of, IsIn, of_choice, Hopeless, is_wide, is_bounded}
 
 -- what is known of the columns of a chunk
 abbrev pub box_of_chunk : Table → List Content → Box

@@ -6,10 +6,10 @@ use Rattle.vortex_model.specs.LogicalType.{LogicalType}
 use Rattle.vortex_model.specs.Content.{Content}
 use Rattle.vortex_model.specs.Valid.{IsContent}
 use Rattle.vortex_model.specs.Kept.{is_leaf}
-use Rattle.vortex_model.specs.Expression.{Expression}
-use Rattle.vortex_model.specs.Statistics.{sum_of}
-use Rattle.vortex_model.specs.ZoneMap.{zone_of, IsGroupTotal, IsGroupConstancy, Joins, all_joined, made_by}
-use Rattle.vortex_model.specs.Class.{is_single_use, is_wide}
+use Rattle.vortex_model_table.specs.Expression.{Expression}
+use Rattle.vortex_model_table.specs.Statistics.{sum_of}
+use Rattle.vortex_model_table.specs.ZoneMap.{zone_of, IsGroupTotal, IsGroupConstancy, Joins, all_joined, made_by}
+use Rattle.vortex_model_table.specs.Class.{is_single_use, is_wide}
 
 -- The sum that joins make of the zone maps of chunks is that of all their rows, or missing, and is
 -- there where the sum of each run of neighbouring chunks fits.

@@ -3,11 +3,11 @@ use Rattle.std.specs.Prelude.{◌≡◌, ℕ, ◌+◌, ◌*◌, ◌-◌, ◌^◌
 use Rattle.vortex_model.specs.LogicalType.{LogicalType}
 use Rattle.vortex_model.specs.Content.{Content}
 use Rattle.vortex_model.specs.Path.{Names, positions}
-use Rattle.vortex_model.specs.Expression.{Expression}
-use Rattle.vortex_model.specs.ZoneMap.{ZoneMap}
-use Rattle.vortex_model.specs.Table.{Table, rows_of}
-use Rattle.vortex_model.specs.Scan.{chunk_zone, proofs, rows_tested}
-use Rattle.vortex_model.specs.Command.{retype, refusal, after}
+use Rattle.vortex_model_table.specs.Expression.{Expression}
+use Rattle.vortex_model_table.specs.ZoneMap.{ZoneMap}
+use Rattle.vortex_model_table.specs.Table.{Table, rows_of}
+use Rattle.vortex_model_table.specs.Scan.{chunk_zone, proofs, rows_tested}
+use Rattle.vortex_model_table.specs.Command.{retype, refusal, after}
 
 -- Where retyping to one type and then to another is accepted, so is retyping at once, and it leaves
 -- the same table, rows included.

@@ -1,10 +1,10 @@
 -- The same chunks in other groups.
 use Rattle.std.specs.Prelude.{◌≡◌, ℕ, List, None}
 use Rattle.vortex_model.specs.Path.{Names}
-use Rattle.vortex_model.specs.Expression.{Expression}
-use Rattle.vortex_model.specs.Table.{Table, IsTable, answer}
-use Rattle.vortex_model.specs.Scan.{skipped_chunks, whole_chunks, rows_tested}
-use Rattle.vortex_model.specs.Command.{join, refusal, after}
+use Rattle.vortex_model_table.specs.Expression.{Expression}
+use Rattle.vortex_model_table.specs.Table.{Table, IsTable, answer}
+use Rattle.vortex_model_table.specs.Scan.{skipped_chunks, whole_chunks, rows_tested}
+use Rattle.vortex_model_table.specs.Command.{join, refusal, after}
 
 -- A scan of either table answers the same rows, and skips, takes whole and tests the same chunks.
 -- How many proofs it tries is left open.

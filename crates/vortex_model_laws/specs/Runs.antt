@@ -3,15 +3,15 @@ use Rattle.std.specs.Prelude.{◌≡◌, ◌↔◌, List, [], ◌∷◌, ◌++�
 use Rattle.std.specs.List.{AllByRecursion}
 use Rattle.vortex_model.specs.Content.{Content, content_of}
 use Rattle.vortex_model.specs.Path.{Names}
-use Rattle.vortex_model.specs.Expression.{Expression}
-use Rattle.vortex_model.specs.Truth.{selects}
-use Rattle.vortex_model.specs.Cut.{cut_row}
-use Rattle.vortex_model.specs.Table.{Table, IsTable, rows_of, answer}
-use Rattle.vortex_model.specs.Scan.{skipped_chunks}
-use Rattle.vortex_model.specs.Pruning.{IsAsked}
-use Rattle.vortex_model.specs.Class.{Hopeless, is_wide, is_bounded}
-use Rattle.vortex_model.specs.Command.{Command, create, append, append_array, refusal_in, step_in, steps}
-use Rattle.vortex_model.specs.Laws.{IsFormed}
+use Rattle.vortex_model_table.specs.Expression.{Expression}
+use Rattle.vortex_model_table.specs.Truth.{selects}
+use Rattle.vortex_model_table.specs.Cut.{cut_row}
+use Rattle.vortex_model_table.specs.Table.{Table, IsTable, rows_of, answer}
+use Rattle.vortex_model_table.specs.Scan.{skipped_chunks}
+use Rattle.vortex_model_table.specs.Pruning.{IsAsked}
+use Rattle.vortex_model_table.specs.Class.{Hopeless, is_wide, is_bounded}
+use Rattle.vortex_model_table.specs.Command.{Command, create, append, append_array, refusal_in, step_in, steps}
+use Rattle.vortex_model_table.specs.Laws.{IsFormed}
 use Rattle.vortex_model_laws.specs.Exact.{box_of_chunk}
 
 -- the rows after an accepted command

@@ -3,12 +3,12 @@ use Rattle.std.specs.Prelude.{◌≡◌, ℕ, ◌<◌, Option, Some, None, true,
 use Rattle.vortex_model.specs.LogicalType.{LogicalType}
 use Rattle.vortex_model.specs.Content.{Content, is_null}
 use Rattle.vortex_model.specs.Path.{Names}
-use Rattle.vortex_model.specs.Expression.{Expression}
-use Rattle.vortex_model.specs.Statistics.{IsNotAbove}
-use Rattle.vortex_model.specs.ZoneMap.{ZoneMap, value_in}
-use Rattle.vortex_model.specs.Rewrite.{falsifier, satisfier}
-use Rattle.vortex_model.specs.Table.{Table, IsTable}
-use Rattle.vortex_model.specs.Scan.{proves, chunk_outcome, is_skipped, is_whole, numbers, skipped_chunks, whole_chunks, tested_lengths, rows_tested, saturated}
+use Rattle.vortex_model_table.specs.Expression.{Expression}
+use Rattle.vortex_model_table.specs.Statistics.{IsNotAbove}
+use Rattle.vortex_model_table.specs.ZoneMap.{ZoneMap, value_in}
+use Rattle.vortex_model_table.specs.Rewrite.{falsifier, satisfier}
+use Rattle.vortex_model_table.specs.Table.{Table, IsTable}
+use Rattle.vortex_model_table.specs.Scan.{proves, chunk_outcome, is_skipped, is_whole, numbers, skipped_chunks, whole_chunks, tested_lengths, rows_tested, saturated}
 
 -- A bound that is there first is there later, and a low is then not below it.
 abbrev pub IsRaised : Option Content → Option Content → Type 0

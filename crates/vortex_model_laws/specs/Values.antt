@@ -2,9 +2,9 @@
 use Rattle.std.specs.Prelude.{◌≡◌, ◌↔◌, ◌<◌, ℕ, pos, ◌*ℤ◌, List, [], ◌∷◌, replicate, if◌then◌else◌, Contains, true, false}
 use Rattle.vortex_model.specs.LogicalType.{LogicalType}
 use Rattle.vortex_model.specs.Content.{Content, is_null}
-use Rattle.vortex_model.specs.Typing.{sum_kind}
-use Rattle.vortex_model.specs.Statistics.{exact, number_in}
-use Rattle.vortex_model.specs.ZoneMap.{ZoneMap, low_of_values, high_of_values, sum_in, zone_of}
+use Rattle.vortex_model_table.specs.Typing.{sum_kind}
+use Rattle.vortex_model_table.specs.Statistics.{exact, number_in}
+use Rattle.vortex_model_table.specs.ZoneMap.{ZoneMap, low_of_values, high_of_values, sum_in, zone_of}
 
 -- the same values but null stand in both lists, however often
 abbrev pub HoldTheSame : List Content → List Content → Type 0

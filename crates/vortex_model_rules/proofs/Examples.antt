@@ -3,8 +3,8 @@ use Rattle.std.proofs.Common.{◌≡◌, refl, ℕ, pos, List, [], ◌∷◌, So
 use Rattle.std.specs.Prelude.{codes}
 use Rattle.vortex_model.specs.LogicalType.{LogicalType, boolean_type, integer_type, float, utf8, struct, field, no_fields, non_nullable, nullable, i32, f32}
 use Rattle.vortex_model.specs.Content.{null, boolean, integer, text}
-use Rattle.vortex_model.specs.Expression.{Expression, literal, column, compare, both, either, negation, is_null, between, like, statistic, greater, at_least, equal, at_most, less, min, max, sum, null_count, all_null, all_non_null}
-use Rattle.vortex_model.specs.Rewrite.{count_literal, boolean_literal}
+use Rattle.vortex_model_table.specs.Expression.{Expression, literal, column, compare, both, either, negation, is_null, between, like, statistic, greater, at_least, equal, at_most, less, min, max, sum, null_count, all_null, all_non_null}
+use Rattle.vortex_model_table.specs.Rewrite.{count_literal, boolean_literal}
 use Rattle.vortex_model_rules.specs.Faults.{proof_fault, unknown_column, unequal_types, not_boolean, unsupported_aggregate, not_evaluable, reads_a_column}
 use Rattle.vortex_model_rules.specs.Rules.{no_proof, proof, fault, of_binary, of_between, of_not, of_is_null, Meaning, Rule, falsify_answers, joined_answers, fals, sat}
 

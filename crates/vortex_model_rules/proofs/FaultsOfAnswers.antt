@@ -2,9 +2,9 @@
 use Rattle.std.proofs.Common.{◌≡◌, refl, sym, ◌∙◌, ap, List, [], ◌∷◌, ◌++◌, map, Bool, true, false, ◌||◌, if◌then◌else◌, Option, Some, None}
 use Rattle.std.specs.List.{list_any}
 use Rattle.vortex_model.specs.LogicalType.{LogicalType}
-use Rattle.vortex_model.specs.Expression.{Expression, literal, column, compare, both, either, negation, is_null, is_not_null, is_nan, between, like, row_count, statistic}
-use Rattle.vortex_model.specs.Truth.{end_of}
-use Rattle.vortex_model.specs.Rewrite.{falsifiers, satisfiers, joined_proofs}
+use Rattle.vortex_model_table.specs.Expression.{Expression, literal, column, compare, both, either, negation, is_null, is_not_null, is_nan, between, like, row_count, statistic}
+use Rattle.vortex_model_table.specs.Truth.{end_of}
+use Rattle.vortex_model_table.specs.Rewrite.{falsifiers, satisfiers, joined_proofs}
 use Rattle.vortex_model_rules.specs.Rules.{Answer, no_proof, proof, fault, Rule, is_fault, proofs_in, answer_of, joined_answers, either_answer, both_answers, falsify_answers, satisfy_answers, falsifier_alone, falsifier_of_and, fals, sat, handed_over}
 use Rattle.vortex_model_rules.proofs.Believed.{any_append}
 

@@ -3,10 +3,10 @@ use Rattle.std.proofs.Common.{◌≡◌, refl, sym, ◌∙◌, ap, List, [], ◌
 use Rattle.std.specs.List.{list_any}
 use Rattle.std.specs.Option.{option_map_or}
 use Rattle.vortex_model.specs.LogicalType.{LogicalType}
-use Rattle.vortex_model.specs.Expression.{Expression, literal, column, compare, both, either, negation, is_null, is_not_null, is_nan, between, like, row_count, statistic, reads_columns}
-use Rattle.vortex_model.specs.Truth.{end_of, has_truth}
-use Rattle.vortex_model.specs.Rewrite.{falsifiers, satisfiers, joined_proofs}
-use Rattle.vortex_model.specs.Laws.{BuiltInProofsReadNoColumns}
+use Rattle.vortex_model_table.specs.Expression.{Expression, literal, column, compare, both, either, negation, is_null, is_not_null, is_nan, between, like, row_count, statistic, reads_columns}
+use Rattle.vortex_model_table.specs.Truth.{end_of, has_truth}
+use Rattle.vortex_model_table.specs.Rewrite.{falsifiers, satisfiers, joined_proofs}
+use Rattle.vortex_model_table.specs.Laws.{BuiltInProofsReadNoColumns}
 use Rattle.vortex_model_rules.specs.Faults.{ProofFault, not_evaluable, not_boolean, reads_a_column, or_fault, unless, is_truth, binding_fault, proof_fault}
 use Rattle.vortex_model_rules.specs.Rules.{Answer, no_proof, proof, fault, Root, Meaning, Rule, is_fault, proofs_in, answer_of, eq_root, root_of, judged, asked, joined_answers, either_answer, both_answers, falsify_answers, satisfy_answers, falsifier_alone, falsifier_of_and, fals, sat}
 use Rattle.vortex_model_rules.proofs.Believed.{any_append, joined_any}

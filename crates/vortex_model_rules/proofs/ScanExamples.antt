@@ -3,11 +3,11 @@ use Rattle.std.proofs.Common.{◌≡◌, refl, ℕ, pos, List, [], ◌∷◌, So
 use Rattle.std.specs.Prelude.{codes}
 use Rattle.vortex_model.specs.LogicalType.{LogicalType, integer_type, struct, field, no_fields, non_nullable, i32}
 use Rattle.vortex_model.specs.Content.{Content, integer, tuple, nothing, first}
-use Rattle.vortex_model.specs.Expression.{Expression, negation}
-use Rattle.vortex_model.specs.Rewrite.{boolean_literal}
-use Rattle.vortex_model.specs.Sound.{IsSoundFalsifier, IsSoundSatisfier}
-use Rattle.vortex_model.specs.Table.{Table}
-use Rattle.vortex_model.specs.Scan.{ScanAnswer, scanned}
+use Rattle.vortex_model_table.specs.Expression.{Expression, negation}
+use Rattle.vortex_model_table.specs.Rewrite.{boolean_literal}
+use Rattle.vortex_model_table.specs.Sound.{IsSoundFalsifier, IsSoundSatisfier}
+use Rattle.vortex_model_table.specs.Table.{Table}
+use Rattle.vortex_model_table.specs.Scan.{ScanAnswer, scanned}
 use Rattle.vortex_model_rules.specs.Rules.{no_proof, proof, fault, eq_root, root_of, of_not, Rule}
 use Rattle.vortex_model_rules.specs.Laws.{KeepsItsLaw}
 use Rattle.vortex_model_rules.specs.Scanned.{scanned_with}

@@ -8,23 +8,23 @@ use Rattle.std.proofs.lemmas.Grind.{flat_map-append}
 use Rattle.vortex_model.specs.Content.{Content}
 use Rattle.vortex_model.specs.Valid.{IsContent}
 use Rattle.vortex_model.specs.Path.{Names}
-use Rattle.vortex_model.specs.Expression.{Expression, reads_columns}
-use Rattle.vortex_model.specs.Truth.{evaluate, value_at, is_true, selects, Satisfies}
-use Rattle.vortex_model.specs.ZoneMap.{ZoneMap}
-use Rattle.vortex_model.specs.Rewrite.{falsifier, satisfier}
-use Rattle.vortex_model.specs.Sound.{AreHonest, IsSoundFalsifier, IsSoundSatisfier, of_proof}
-use Rattle.vortex_model.specs.Table.{Table, IsTable, rows_of, answer}
-use Rattle.vortex_model.specs.Cut.{cut_row, cut_type}
-use Rattle.vortex_model.specs.Scan.{chunk_zone, group_zone, known, proves, Outcome, skipped_in_group, skipped, whole as taken_whole, tested, is_many, grouped, ScanAnswer, skipped_chunks, whole_chunks, rows_tested, proofs, scanned}
-use Rattle.vortex_model.specs.Pruning.{found_in, IsAsked}
-use Rattle.vortex_model.specs.Laws.{BuiltInProofsReadNoColumns}
-use Rattle.vortex_model.proofs.ContentOrder.{true_right}
-use Rattle.vortex_model.proofs.Groups.{front_of_all, back_of_all}
-use Rattle.vortex_model.proofs.Outcomes.{sum_first}
-use Rattle.vortex_model.proofs.Honesty.{all_among}
-use Rattle.vortex_model.proofs.Accepted.{accepted_truth}
-use Rattle.vortex_model.proofs.Skipping.{truly, never_true, kept_none, kept_all, chunk_honest}
-use Rattle.vortex_model.proofs.GroupSkipping.{group_honest}
+use Rattle.vortex_model_table.specs.Expression.{Expression, reads_columns}
+use Rattle.vortex_model_table.specs.Truth.{evaluate, value_at, is_true, selects, Satisfies}
+use Rattle.vortex_model_table.specs.ZoneMap.{ZoneMap}
+use Rattle.vortex_model_table.specs.Rewrite.{falsifier, satisfier}
+use Rattle.vortex_model_table.specs.Sound.{AreHonest, IsSoundFalsifier, IsSoundSatisfier, of_proof}
+use Rattle.vortex_model_table.specs.Table.{Table, IsTable, rows_of, answer}
+use Rattle.vortex_model_table.specs.Cut.{cut_row, cut_type}
+use Rattle.vortex_model_table.specs.Scan.{chunk_zone, group_zone, known, proves, Outcome, skipped_in_group, skipped, whole as taken_whole, tested, is_many, grouped, ScanAnswer, skipped_chunks, whole_chunks, rows_tested, proofs, scanned}
+use Rattle.vortex_model_table.specs.Pruning.{found_in, IsAsked}
+use Rattle.vortex_model_table.specs.Laws.{BuiltInProofsReadNoColumns}
+use Rattle.vortex_model_table.proofs.ContentOrder.{true_right}
+use Rattle.vortex_model_laws.proofs.Groups.{front_of_all, back_of_all}
+use Rattle.vortex_model_laws.proofs.Outcomes.{sum_first}
+use Rattle.vortex_model_laws.proofs.Honesty.{all_among}
+use Rattle.vortex_model_laws.proofs.Accepted.{accepted_truth}
+use Rattle.vortex_model_laws.proofs.Skipping.{truly, never_true, kept_none, kept_all, chunk_honest}
+use Rattle.vortex_model_laws.proofs.GroupSkipping.{group_honest}
 use Rattle.vortex_model_rules.specs.Rules.{Answer, no_proof, proof, fault, is_fault, answer_of, Rule, fals, sat}
 use Rattle.vortex_model_rules.specs.Laws.{KeepsItsLaw}
 use Rattle.vortex_model_rules.specs.Scanned.{chunk_outcome_by, group_outcomes_by, outcomes_by, taken, scanned_by, proof_of, by_answers, scanned_with}

@@ -2,10 +2,10 @@
 use Rattle.std.specs.Prelude.{Option, Some, None, Bool, not, ◌&&◌, if◌then◌else◌, is_some, option_and_then}
 use Rattle.vortex_model.specs.LogicalType.{LogicalType}
 use Rattle.vortex_model.specs.Path.{type_of_column}
-use Rattle.vortex_model.specs.Expression.{Expression, literal, column, compare, both, either, negation, is_null, is_not_null, is_nan, between, like, row_count, statistic, reads_columns}
-use Rattle.vortex_model.specs.Typing.{expression_type, type_of_aggregate, is_of_floats}
-use Rattle.vortex_model.specs.Truth.{has_truth}
-use Rattle.vortex_model.specs.Command.{eq_optional_type, is_boolean, is_utf8_type}
+use Rattle.vortex_model_table.specs.Expression.{Expression, literal, column, compare, both, either, negation, is_null, is_not_null, is_nan, between, like, row_count, statistic, reads_columns}
+use Rattle.vortex_model_table.specs.Typing.{expression_type, type_of_aggregate, is_of_floats}
+use Rattle.vortex_model_table.specs.Truth.{has_truth}
+use Rattle.vortex_model_table.specs.Command.{eq_optional_type, is_boolean, is_utf8_type}
 
 pub data ProofFault : Type 0 where
   unknown_column unequal_types not_boolean : ProofFault

@@ -2,14 +2,14 @@
 use Rattle.std.specs.Prelude.{◌≡◌, List, [], Some}
 use Rattle.std.specs.List.{AllByRecursion, list_any}
 use Rattle.vortex_model.specs.LogicalType.{LogicalType}
-use Rattle.vortex_model.specs.Expression.{Expression, HasFormedLiterals}
-use Rattle.vortex_model.specs.Truth.{HasTruth}
-use Rattle.vortex_model.specs.Rewrite.{falsifier, satisfier}
-use Rattle.vortex_model.specs.Sound.{IsSoundFalsifier, IsSoundSatisfier}
+use Rattle.vortex_model_table.specs.Expression.{Expression, HasFormedLiterals}
+use Rattle.vortex_model_table.specs.Truth.{HasTruth}
+use Rattle.vortex_model_table.specs.Rewrite.{falsifier, satisfier}
+use Rattle.vortex_model_table.specs.Sound.{IsSoundFalsifier, IsSoundSatisfier}
 use Rattle.vortex_model.specs.Path.{Names}
-use Rattle.vortex_model.specs.Table.{Table, IsTable}
-use Rattle.vortex_model.specs.Scan.{ScanAnswer, scanned}
-use Rattle.vortex_model.specs.Pruning.{IsAsked}
+use Rattle.vortex_model_table.specs.Table.{Table, IsTable}
+use Rattle.vortex_model_table.specs.Scan.{ScanAnswer, scanned}
+use Rattle.vortex_model_table.specs.Pruning.{IsAsked}
 use Rattle.vortex_model_rules.specs.Scanned.{scanned_with}
 use Rattle.vortex_model_rules.specs.Rules.{proof, is_fault, answer_of, Rule, asked, falsify_answers, satisfy_answers, fals, sat, handed_over}
 

@@ -2,9 +2,9 @@
 use Rattle.std.specs.Prelude.{List, [], ◌∷◌, ◌++◌, map, Option, Some, None, Bool, true, false, if◌then◌else◌}
 use Rattle.std.specs.List.{list_any}
 use Rattle.vortex_model.specs.LogicalType.{LogicalType}
-use Rattle.vortex_model.specs.Expression.{Expression, literal, column, compare, both, either, negation, is_null, is_not_null, is_nan, between, like, row_count, statistic}
-use Rattle.vortex_model.specs.Truth.{end_of}
-use Rattle.vortex_model.specs.Rewrite.{falsifiers, satisfiers, joined_proofs}
+use Rattle.vortex_model_table.specs.Expression.{Expression, literal, column, compare, both, either, negation, is_null, is_not_null, is_nan, between, like, row_count, statistic}
+use Rattle.vortex_model_table.specs.Truth.{end_of}
+use Rattle.vortex_model_table.specs.Rewrite.{falsifiers, satisfiers, joined_proofs}
 use Rattle.vortex_model_rules.specs.Faults.{proof_fault}
 
 -- what is answered at a node

@@ -2,12 +2,12 @@
 use Rattle.std.specs.Prelude.{ℕ, ◌+◌, ◌*◌, List, length, map, zip, sum, count_by, flat_map, Option, Some, None, is_some, not, ◌&&◌, ◌||◌, if◌then◌else◌, nat_lt}
 use Rattle.vortex_model.specs.Content.{Content}
 use Rattle.vortex_model.specs.Path.{Names}
-use Rattle.vortex_model.specs.Expression.{Expression}
-use Rattle.vortex_model.specs.Truth.{selects}
-use Rattle.vortex_model.specs.Cut.{cut_row, cut_type}
-use Rattle.vortex_model.specs.Table.{Table}
-use Rattle.vortex_model.specs.Scan.{chunk_zone, group_zone, proves, Outcome, skipped_in_group, skipped, whole, tested, is_many, grouped, is_skipped, is_whole, is_in_group, numbers, saturated, tested_lengths, one_if, ScanAnswer}
-use Rattle.vortex_model.specs.Pruning.{found_in}
+use Rattle.vortex_model_table.specs.Expression.{Expression}
+use Rattle.vortex_model_table.specs.Truth.{selects}
+use Rattle.vortex_model_table.specs.Cut.{cut_row, cut_type}
+use Rattle.vortex_model_table.specs.Table.{Table}
+use Rattle.vortex_model_table.specs.Scan.{chunk_zone, group_zone, proves, Outcome, skipped_in_group, skipped, whole, tested, is_many, grouped, is_skipped, is_whole, is_in_group, numbers, saturated, tested_lengths, one_if, ScanAnswer}
+use Rattle.vortex_model_table.specs.Pruning.{found_in}
 use Rattle.vortex_model_rules.specs.Rules.{Answer, no_proof, proof, fault, is_fault, Rule, fals, sat}
 
 -- What a scan does with a chunk, by a proof that no row satisfies its predicate and one that every

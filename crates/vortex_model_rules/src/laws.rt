@@ -8,7 +8,7 @@ ghost use Rattle.vortex_model_rules.specs.Laws.{
   ScansWithNoRulesAreScans,
 };
 
-use vortex_model::laws::built_in_proofs_read_no_columns;
+use vortex_model_laws::laws::built_in_proofs_read_no_columns;
 
 /// Without rules the two proofs are the built-in ones.
 pub fn no_rules_add_nothing()

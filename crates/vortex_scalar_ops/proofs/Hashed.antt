@@ -6,7 +6,7 @@ use Rattle.std.specs.Cmp.Lexicographic.{bytes_decides}
 use Rattle.vortex_model.specs.LogicalType.{bare}
 use Rattle.vortex_model.proofs.Tests.{kind_so}
 use Rattle.vortex_model.specs.Content.{Content, null, boolean, integer, text, byte_string, tuple, tagged, scalar, Contents, nothing, first, count}
-use Rattle.vortex_model.proofs.ContentOrder.{true_left, true_right}
+use Rattle.vortex_model_table.proofs.ContentOrder.{true_left, true_right}
 use Rattle.vortex_dtype_fields.proofs.Lawful.{hash_alike}
 use Rattle.vortex_scalar_value.proofs.Views.{one_level}
 use Rattle.vortex_scalar_ops.specs.Hashing.{content_writes, contents_writes}

@@ -10,8 +10,8 @@ use Rattle.std.proofs.lemmas.Cmp.{int_cmp_total, nat_list_cmp_total}
 use Rattle.vortex_model.specs.LogicalType.{LogicalType, eq_flag}
 use Rattle.vortex_model.specs.Content.{Content, null, boolean, integer, text, byte_string, tuple, tagged, scalar, Contents, nothing, first}
 use Rattle.vortex_model.specs.Order.{content_cmp, contents_cmp, and_then, is_known, bytes_cmp}
-use Rattle.vortex_model.proofs.ContentOrder.{true_left, true_right}
-use Rattle.vortex_model.proofs.Chains.{tied, not_above_chain}
+use Rattle.vortex_model_table.proofs.ContentOrder.{true_left, true_right}
+use Rattle.vortex_model_table.proofs.Chains.{tied, not_above_chain}
 use Rattle.vortex_scalar_ops.specs.Equality.{eq_content, eq_contents, holds_variant, hold_variants}
 use Rattle.vortex_scalar_ops.specs.Laws.{IsBelow, IsNotAbove}
 

@@ -8,8 +8,8 @@ ghost use Rattle.vortex_scalar_ops.specs.Native.{raw_or_null};
 
 use std::alloc::{AllocError, Global};
 use vortex_dtype_core::{BufferString, ByteBuffer};
+use vortex_dtype_fields::native_dtype::NativeDType;
 use vortex_dtype_native::native::NativePType;
-use vortex_dtype_native::native_dtype::NativeDType;
 use vortex_scalar_value::pvalue::PValue;
 use vortex_scalar_value::scalar_value::ScalarValue;
 

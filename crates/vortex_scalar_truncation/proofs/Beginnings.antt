@@ -5,8 +5,8 @@ use Rattle.std.specs.Str.{encode_utf8_all}
 use Rattle.std.proofs.lemmas.Bool.{cases_lt}
 use Rattle.std.proofs.lemmas.Str.{IsUtf8-take, IsUtf8-drop, encodes-append, encodes-chars, IsCharBoundary-from_take, chars-append, chars_past_char, chars-nil}
 use Rattle.std.proofs.lemmas.List.Prefix.{front_rest}
-use Rattle.vortex_model.specs.Bounds.{Begins, IsLongestBeginning}
-use Rattle.vortex_model.proofs.Beginnings.{begins_take, begins_length}
+use Rattle.vortex_model_table.specs.Bounds.{Begins, IsLongestBeginning}
+use Rattle.vortex_model_laws.proofs.Beginnings.{begins_take, begins_length}
 
 -- cut where a character ends, with no later such place within the length
 pub cut_longest : (v : List ℕ) (n e : ℕ) → IsUtf8 v → IsCharBoundary v e → e ≤ n → ((i : ℕ) → e < i → i ≤ n → IsCharBoundary v i → ⊥) → IsLongestBeginning IsUtf8 v n (take e v)

@@ -5,9 +5,9 @@ use Rattle.std.proofs.lemmas.List.Elements.{All-from_get_or, recursion_from_All}
 use Rattle.std.proofs.lemmas.List.{get_or-take, get_or-drop, take-append-drop, length-replicate}
 use Rattle.std.proofs.Math.Seq.{drop-cons}
 use Rattle.vortex_model.specs.Valid.{AreBytes}
-use Rattle.vortex_model.specs.Bounds.{IsLeastAbove, NoneAbove}
-use Rattle.vortex_model.proofs.CountUp.{zeros_are_bytes, front_bytes}
-use Rattle.vortex_model.proofs.ByteOrder.{IsUnder, under_cases, under_head, under_tail, under_below, below_under, under_or_upto}
+use Rattle.vortex_model_table.specs.Bounds.{IsLeastAbove, NoneAbove}
+use Rattle.vortex_model_laws.proofs.CountUp.{zeros_are_bytes, front_bytes}
+use Rattle.vortex_model_laws.proofs.ByteOrder.{IsUnder, under_cases, under_head, under_tail, under_below, below_under, under_or_upto}
 
 abbrev pub AreFull : List ℕ → Type 0
 AreFull f = AllByRecursion (λ b. b ≡ 255) f

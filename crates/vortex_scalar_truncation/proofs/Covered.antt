@@ -3,9 +3,9 @@ use Rattle.std.proofs.Common.{◌≡◌, ℕ, ◌≤◌, List, length, refl, sym
 use Rattle.std.proofs.lemmas.Bool.{cases_lt}
 use Rattle.vortex_model.specs.Content.{Content, text, byte_string}
 use Rattle.vortex_model.specs.Valid.{AreBytes}
-use Rattle.vortex_model.specs.Bounds.{IsLow, IsHigh, IsHighText, IsHighBytes, IsWellFormed, bytes_of, is_longer}
-use Rattle.vortex_model.proofs.Bounded.{some_equal}
-use Rattle.vortex_model.proofs.CountUp.{front_bytes}
+use Rattle.vortex_model_table.specs.Bounds.{IsLow, IsHigh, IsHighText, IsHighBytes, IsWellFormed, bytes_of, is_longer}
+use Rattle.vortex_model_laws.proofs.Bounded.{some_equal}
+use Rattle.vortex_model_laws.proofs.CountUp.{front_bytes}
 use Rattle.vortex_scalar_truncation.proofs.Raised.{raised_length}
 
 pub low_well_formed : (v l : Content) (L : ℕ) → IsWellFormed v → IsLow v L l → IsWellFormed l

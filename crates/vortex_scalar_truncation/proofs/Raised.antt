@@ -4,7 +4,7 @@ use Rattle.std.specs.List.{AllByRecursion}
 use Rattle.std.specs.Char.{encode_utf8}
 use Rattle.std.specs.Str.{encode_utf8_all}
 use Rattle.std.proofs.lemmas.Str.{encodes-append, encodes-chars, length-encode}
-use Rattle.vortex_model.specs.Bounds.{IsHigher, IsHighest, IsNext, IsRaised, IsRaise, CannotBeRaised}
+use Rattle.vortex_model_table.specs.Bounds.{IsHigher, IsHighest, IsNext, IsRaised, IsRaise, CannotBeRaised}
 
 -- ---- how it is made
 

@@ -2,10 +2,10 @@
 use Rattle.std.proofs.Common.{◌≡◌, ℕ, List, length, refl, sym, ap, ◌∙◌, subst, ⊎_elim, IsUtf8, Option, Some, None, option_map}
 use Rattle.std.proofs.lemmas.Bool.{cases_lt}
 use Rattle.vortex_model.specs.Content.{Content, text, byte_string}
-use Rattle.vortex_model.specs.Bounds.{IsLow, IsHigh, IsHighText, IsHighBytes, IsRaise, IsRaisedBeginning, IsLeastAbove, NoneAbove, IsWellFormed, AnyBytes, low, high}
-use Rattle.vortex_model.proofs.ByteOrder.{upto_antisym}
-use Rattle.vortex_model.proofs.Beginnings.{longest_same}
-use Rattle.vortex_model.proofs.BoundFunctions.{low_by_function, high_by_function}
+use Rattle.vortex_model_table.specs.Bounds.{IsLow, IsHigh, IsHighText, IsHighBytes, IsRaise, IsRaisedBeginning, IsLeastAbove, NoneAbove, IsWellFormed, AnyBytes, low, high}
+use Rattle.vortex_model_laws.proofs.ByteOrder.{upto_antisym}
+use Rattle.vortex_model_laws.proofs.Beginnings.{longest_same}
+use Rattle.vortex_model_laws.proofs.BoundFunctions.{low_by_function, high_by_function}
 use Rattle.vortex_scalar_truncation.proofs.Raised.{raise_same}
 
 pub low_same : (v l m : Content) (L : ℕ) → IsLow v L l → IsLow v L m → l ≡ m

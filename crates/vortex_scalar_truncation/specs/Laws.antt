@@ -2,7 +2,7 @@
 use Rattle.std.specs.Prelude.{◌≡◌, ℕ, ◌≤◌, length, Option, Some}
 use Rattle.vortex_model.specs.Content.{Content}
 use Rattle.vortex_model.specs.Order.{IsAtMost}
-use Rattle.vortex_model.specs.Bounds.{IsLow, IsHigh, IsWellFormed, bytes_of, low, high}
+use Rattle.vortex_model_table.specs.Bounds.{IsLow, IsHigh, IsWellFormed, bytes_of, low, high}
 
 -- the functions give the low and the high
 abbrev pub LowsAreOfTheFunction : Type 0

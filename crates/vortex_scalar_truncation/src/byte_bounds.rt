@@ -1,6 +1,6 @@
 //! Bounds of byte strings, of at most `max_length` bytes.
 ghost use Rattle.std.specs.Prelude.{◌≡◌, ◌<◌, ◌≤◌, ◌-◌, ℕ, length, slice_index, option_map, IsOk, IfOk, IfSome, MatchOption};
-ghost use Rattle.vortex_model.specs.Bounds.{IsLow, IsHigh, IsLeastAbove, NoneAbove, is_longer};
+ghost use Rattle.vortex_model_table.specs.Bounds.{IsLow, IsHigh, IsLeastAbove, NoneAbove, is_longer};
 ghost use Rattle.vortex_model.specs.Content.{byte_string};
 
 use bytes::Bytes as ByteBuffer;

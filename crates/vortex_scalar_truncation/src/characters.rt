@@ -1,6 +1,6 @@
 //! The characters of one length in UTF-8, in order.
 ghost use Rattle.std.specs.Prelude.{MatchOption};
-ghost use Rattle.vortex_model.specs.Bounds.{IsHighest, IsNext};
+ghost use Rattle.vortex_model_table.specs.Bounds.{IsHighest, IsNext};
 
 /// The least higher character with as many bytes in UTF-8, over the gap of the surrogates.
 pub fn next_character(character: char) -> Option<char>

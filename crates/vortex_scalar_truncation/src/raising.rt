@@ -1,7 +1,7 @@
 //! Texts raised at the latest character that can be.
 ghost use Rattle.std.specs.Prelude.{◌≡◌, [], ◌∷◌, ◌++◌, chars, string_bytes, IsUtf8, IfOk, IfSome, MatchOption, option_map};
 ghost use Rattle.std.specs.Str.{encode_utf8_all};
-ghost use Rattle.vortex_model.specs.Bounds.{IsRaise, IsRaised, CannotBeRaised};
+ghost use Rattle.vortex_model_table.specs.Bounds.{IsRaise, IsRaised, CannotBeRaised};
 
 use crate::characters::next_character;
 use std::alloc::{AllocError, Global};

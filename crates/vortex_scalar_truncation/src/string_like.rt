@@ -1,6 +1,6 @@
 //! Texts that are raised.
 ghost use Rattle.std.specs.Prelude.{◌≡◌, ℕ, List, Some, chars, string_bytes, IfOk, IfErr, MatchResult};
-ghost use Rattle.vortex_model.specs.Bounds.{IsRaise, CannotBeRaised};
+ghost use Rattle.vortex_model_table.specs.Bounds.{IsRaise, CannotBeRaised};
 ghost use Rattle.vortex_scalar_value.specs.declared.error.ScalarError.TheVariants.{Memory};
 
 use crate::private::Sealed;

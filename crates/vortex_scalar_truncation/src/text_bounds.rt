@@ -1,6 +1,6 @@
 //! Bounds of texts, of at most `max_length` bytes.
 ghost use Rattle.std.specs.Prelude.{◌≡◌, ◌≤◌, length, take, option_map, IsCharBoundary, IsOk, IfOk, IfSome};
-ghost use Rattle.vortex_model.specs.Bounds.{IsLow, IsHigh, IsRaisedBeginning, is_longer};
+ghost use Rattle.vortex_model_table.specs.Bounds.{IsLow, IsHigh, IsRaisedBeginning, is_longer};
 ghost use Rattle.vortex_model.specs.Content.{text};
 
 use crate::raising::raise;

@@ -1,6 +1,6 @@
 //! Texts and bytes of values, and the values that bound them.
 ghost use Rattle.std.specs.Prelude.{◌≡◌, ℕ, true, List, Option, is_some, option_map, nat_lt, length, IsOk, IfOk, IfErr, IfSome};
-ghost use Rattle.vortex_model.specs.Bounds.{IsLow, IsHigh};
+ghost use Rattle.vortex_model_table.specs.Bounds.{IsLow, IsHigh};
 ghost use Rattle.vortex_model.specs.Content.{Content, Raw, text, byte_string};
 ghost use Rattle.vortex_model.specs.LogicalType.{LogicalType, Nullability, utf8, binary};
 ghost use Rattle.vortex_dtype_ptype.specs.View.{nullability_of_flag};

@@ -16,7 +16,7 @@ pub mod bound {
 pub use vortex_stats_array::array_stats::ArrayStats;
 pub use vortex_stats_array::of_array::array_stats;
 pub use vortex_stats_bind::bind::bind_proof;
-pub use vortex_stats_bind::bound::{BoundExpression as BoundTree, Operands, bound_literal};
+pub use vortex_stats_bind::bound::{BoundTree, Operands, bound_literal};
 pub use vortex_stats_bind::stats::StatBinder;
 pub use vortex_stats_bind::value::Value;
 pub use vortex_stats_bound::bound::{LowerBound, UpperBound};

@@ -4,7 +4,7 @@ use Rattle.std.proofs.lemmas.List.Elements.{recursion_from_All}
 use Rattle.vortex_model.specs.LogicalType.{Nullability}
 use Rattle.vortex_model.specs.Kept.{is_leaf}
 use Rattle.vortex_model.specs.Valid.{IsContent}
-use Rattle.vortex_model.proofs.LeafOrder.{leaves_compare}
+use Rattle.vortex_model_laws.proofs.LeafOrder.{leaves_compare}
 use Rattle.vortex_dtype_ptype.specs.Numbers.{NumberKind, integral, floating, type_of_numbers}
 use Rattle.vortex_dtype_core.proofs.Views.{one_level}
 use Rattle.vortex_arrays_model.specs.Layout.{Layout, array_type_of, rows_of, IsSound}

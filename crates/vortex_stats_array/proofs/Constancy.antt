@@ -3,16 +3,16 @@ use Rattle.std.proofs.Common.{◌≡◌, refl, sym, ◌∙◌, ap, ℕ, ◌+◌,
 use Rattle.std.specs.List.{AllByRecursion, list_all}
 use Rattle.std.proofs.lemmas.Bool.Decides.{nat_tests}
 use Rattle.vortex_model.specs.Content.{Content, null, is_null, equal_content}
-use Rattle.vortex_model.specs.Statistics.{is_at_most, non_null, null_count_of, least_value, greatest_value, is_constant}
-use Rattle.vortex_model.specs.ZoneLaws.{AllCompare}
+use Rattle.vortex_model_table.specs.Statistics.{is_at_most, non_null, null_count_of, least_value, greatest_value, is_constant}
+use Rattle.vortex_model_table.specs.ZoneLaws.{AllCompare}
 use Rattle.vortex_stats_array.specs.Running.{constant_by}
-use Rattle.vortex_model.proofs.Chains.{not_above_chain}
-use Rattle.vortex_model.proofs.ContentOrder.{true_left, true_right}
-use Rattle.vortex_model.proofs.Equality.{content_so, content_passes}
-use Rattle.vortex_model.proofs.Groups.{at_least_chain}
-use Rattle.vortex_model.proofs.Honesty.{Among, all_among, each_among, no_null_among, nulls_first}
-use Rattle.vortex_model.proofs.JoinOrder.{some_end, at_most_total, at_least_total}
-use Rattle.vortex_model.proofs.Leasts.{IsEnd, picked_end, end_picked, at_most_both, at_least_both, is_at_least, all_mapped}
+use Rattle.vortex_model_table.proofs.Chains.{not_above_chain}
+use Rattle.vortex_model_table.proofs.ContentOrder.{true_left, true_right}
+use Rattle.vortex_model_table.proofs.Equality.{content_so, content_passes}
+use Rattle.vortex_model_laws.proofs.Groups.{at_least_chain}
+use Rattle.vortex_model_laws.proofs.Honesty.{Among, all_among, each_among, no_null_among, nulls_first}
+use Rattle.vortex_model_laws.proofs.JoinOrder.{some_end, at_most_total, at_least_total}
+use Rattle.vortex_model_laws.proofs.Leasts.{IsEnd, picked_end, end_picked, at_most_both, at_least_both, is_at_least, all_mapped}
 
 -- ---- the values that are not null
 

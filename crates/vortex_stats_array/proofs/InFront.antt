@@ -4,13 +4,13 @@ use Rattle.std.proofs.lemmas.Int.{ints}
 use Rattle.std.proofs.lemmas.List.Sums.{sum_by-append}
 use Rattle.vortex_model.specs.LogicalType.{LogicalType, IntKind}
 use Rattle.vortex_model.specs.Content.{Content, null, is_null}
-use Rattle.vortex_model.specs.Bounds.{low, high, is_longer}
-use Rattle.vortex_model.specs.Typing.{sum_kind}
-use Rattle.vortex_model.specs.ZoneMap.{bound_of, low_of_values, high_of_values, sum_in, zone_of}
-use Rattle.vortex_model.specs.Statistics.{exact, absent, is_constant, is_at_most, least_value, greatest_value, non_null, null_count_of, number_in, sum_of}
-use Rattle.vortex_model.specs.ZoneLaws.{AllCompare}
-use Rattle.vortex_model.proofs.JoinOrder.{fewer_compare}
-use Rattle.vortex_model.proofs.LeafOrder.{least_in_front, greatest_in_front}
+use Rattle.vortex_model_table.specs.Bounds.{low, high, is_longer}
+use Rattle.vortex_model_table.specs.Typing.{sum_kind}
+use Rattle.vortex_model_table.specs.ZoneMap.{bound_of, low_of_values, high_of_values, sum_in, zone_of}
+use Rattle.vortex_model_table.specs.Statistics.{exact, absent, is_constant, is_at_most, least_value, greatest_value, non_null, null_count_of, number_in, sum_of}
+use Rattle.vortex_model_table.specs.ZoneLaws.{AllCompare}
+use Rattle.vortex_model_laws.proofs.JoinOrder.{fewer_compare}
+use Rattle.vortex_model_laws.proofs.LeafOrder.{least_in_front, greatest_in_front}
 use Rattle.vortex_stats_array.specs.declared.running.Running.{Running}
 use Rattle.vortex_stats_array.specs.declared.array_stats.ArrayStats.{ArrayStats}
 use Rattle.vortex_stats_array.specs.Sums.{sum_in_parts, known_sum}

@@ -6,14 +6,14 @@ use Rattle.std.proofs.lemmas.Int.{ints}
 use Rattle.std.proofs.lemmas.List.Sums.{sum_by-cons}
 use Rattle.std.proofs.lemmas.List.Sorted.{IsPermutation-sym, Contains-permutation, sum_by-IsPermutation}
 use Rattle.vortex_model.specs.Content.{Content, is_null}
-use Rattle.vortex_model.specs.Statistics.{non_null, null_count_of, least_value, greatest_value, is_at_most, number_in, sum_of}
-use Rattle.vortex_model.specs.ZoneLaws.{AllCompare}
-use Rattle.vortex_model.proofs.Honesty.{Among, each_among, all_among}
-use Rattle.vortex_model.proofs.JoinOrder.{Compare}
+use Rattle.vortex_model_table.specs.Statistics.{non_null, null_count_of, least_value, greatest_value, is_at_most, number_in, sum_of}
+use Rattle.vortex_model_table.specs.ZoneLaws.{AllCompare}
+use Rattle.vortex_model_laws.proofs.Honesty.{Among, each_among, all_among}
+use Rattle.vortex_model_laws.proofs.JoinOrder.{Compare}
 use Rattle.vortex_stats_array.specs.declared.running.Running.{Running}
 use Rattle.vortex_stats_array.specs.Running.{IsSeen}
 use Rattle.vortex_stats_array.proofs.Constancy.{kept, value_in}
-use Rattle.vortex_model.proofs.Leasts.{is_at_least, IsEnd, picked, picked_end, end_picked, at_most_both, at_least_both, among_contains, contains_among}
+use Rattle.vortex_model_laws.proofs.Leasts.{is_at_least, IsEnd, picked, picked_end, end_picked, at_most_both, at_least_both, among_contains, contains_among}
 
 -- ---- values among others
 

@@ -8,9 +8,9 @@ use Rattle.std.proofs.lemmas.List.FromFn.{length-range_with_len}
 use Rattle.std.proofs.lemmas.List.Sums.{sum_by-append}
 use Rattle.std.proofs.lemmas.Simd.{splat_is_map}
 use Rattle.vortex_model.specs.Content.{Content, null, is_null}
-use Rattle.vortex_model.specs.Statistics.{is_at_most, least_value, greatest_value, non_null, null_count_of, number_in, sum_of}
-use Rattle.vortex_model.specs.ZoneLaws.{AllCompare}
-use Rattle.vortex_model.proofs.LeafOrder.{least_in_front, greatest_in_front}
+use Rattle.vortex_model_table.specs.Statistics.{is_at_most, least_value, greatest_value, non_null, null_count_of, number_in, sum_of}
+use Rattle.vortex_model_table.specs.ZoneLaws.{AllCompare}
+use Rattle.vortex_model_laws.proofs.LeafOrder.{least_in_front, greatest_in_front}
 use Rattle.vortex_stats_array.specs.declared.running.Running.{Running}
 use Rattle.vortex_stats_array.specs.Sums.{sum_in_parts, repeated_sum}
 use Rattle.vortex_stats_array.specs.Running.{content_or_null, lesser, greater, in_front, DoCompare, IsSeen}

@@ -2,9 +2,9 @@
 use Rattle.std.proofs.Common.{◌≡◌, refl, sym, ap, ℕ, ℤ, pos, neg_ℤ, ◌-ℤ◌, ◌≤ℤ◌, ◌+◌, ◌^◌, ◌≤◌, true, false, Option, Some, None, if◌then◌else◌, arith}
 use Rattle.std.proofs.lemmas.Int.{ints}
 use Rattle.vortex_model.specs.LogicalType.{IntKind, u8, u16, u32, u64, i8, i16, i32, i64}
-use Rattle.vortex_model.specs.Statistics.{exact, absent}
+use Rattle.vortex_model_table.specs.Statistics.{exact, absent}
 use Rattle.vortex_model.specs.Valid.{in_range}
-use Rattle.vortex_model.specs.ZoneMap.{sum_in}
+use Rattle.vortex_model_table.specs.ZoneMap.{sum_in}
 use Rattle.vortex_dtype_ptype.specs.Numbers.{NumberKind, integral, floating, int_kind_in}
 use Rattle.vortex_scalar_value.specs.Numbers.{holds_number}
 use Rattle.vortex_stats_array.specs.declared.running_sum.RunningSum.{RunningSum}

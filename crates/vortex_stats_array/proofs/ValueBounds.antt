@@ -2,9 +2,9 @@
 use Rattle.std.proofs.Common.{◌≡◌, refl, ap, ◌∙◌, subst, ℕ, List, Bool, Option, Some, None, option_map, IfSome, IsUtf8}
 use Rattle.vortex_model.specs.Content.{Content, content_of, text, byte_string}
 use Rattle.vortex_model.specs.Valid.{AreBytes}
-use Rattle.vortex_model.specs.Bounds.{IsLow, IsHigh, low, high, is_longer}
-use Rattle.vortex_model.specs.Statistics.{absent}
-use Rattle.vortex_model.specs.ZoneMap.{bound_of}
+use Rattle.vortex_model_table.specs.Bounds.{IsLow, IsHigh, low, high, is_longer}
+use Rattle.vortex_model_table.specs.Statistics.{absent}
+use Rattle.vortex_model_table.specs.ZoneMap.{bound_of}
 use Rattle.vortex_scalar_value.specs.View.{raw_of}
 use Rattle.vortex_scalar_value.specs.declared.scalar_value.ScalarValue as value
 use Rattle.vortex_scalar_value.proofs.Views.{raw_of-Utf8, raw_of-Binary}

@@ -2,7 +2,7 @@
 use Rattle.std.specs.Prelude.{◌≡◌, List, length, Option}
 use Rattle.std.specs.Borrow.{Bor}
 use Rattle.vortex_model.specs.Content.{Content}
-use Rattle.vortex_model.specs.ZoneMap.{zone_of}
+use Rattle.vortex_model_table.specs.ZoneMap.{zone_of}
 use Rattle.vortex_dtype_core.specs.View.{type_of}
 use Rattle.vortex_arrays_model.specs.Layout.{Layout, len_of, content_at}
 use Rattle.vortex_stats_array.specs.Counted.{StandIn}

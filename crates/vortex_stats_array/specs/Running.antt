@@ -1,8 +1,8 @@
 -- The least and the greatest of values, how many are null, and their sum.
 use Rattle.std.specs.Prelude.{◌≡◌, ◌≤◌, ◌<◌, ℕ, Bool, true, ◌&&◌, ◌==◌, List, Option, Some, None, option_map, if◌then◌else◌}
 use Rattle.vortex_model.specs.Content.{Content, null}
-use Rattle.vortex_model.specs.Statistics.{is_at_most, non_null, null_count_of, least_value, greatest_value, sum_of}
-use Rattle.vortex_model.specs.ZoneLaws.{AllCompare}
+use Rattle.vortex_model_table.specs.Statistics.{is_at_most, non_null, null_count_of, least_value, greatest_value, sum_of}
+use Rattle.vortex_model_table.specs.ZoneLaws.{AllCompare}
 use Rattle.vortex_stats_array.specs.Sums.{sum_in_parts, FitsSum}
 use Rattle.vortex_stats_array.specs.declared.running.Running.{Running}
 

@@ -1,7 +1,7 @@
 -- Sums of the values of a leaf column.
 use Rattle.std.specs.Prelude.{◌≤◌, ◌*◌, ◌^◌, ℕ, zero, suc, ℤ, pos, ◌+ℤ◌, ◌-ℤ◌, Option, Some, None}
 use Rattle.vortex_model.specs.LogicalType.{IntKind}
-use Rattle.vortex_model.specs.Statistics.{Precision, exact, absent}
+use Rattle.vortex_model_table.specs.Statistics.{Precision, exact, absent}
 use Rattle.vortex_dtype_ptype.specs.Numbers.{int_kind_in}
 use Rattle.vortex_dtype_ptype.specs.View.{number_kind_of}
 use Rattle.vortex_dtype_ptype.specs.declared.ptype.PType.{PType}

@@ -1,9 +1,9 @@
 -- Statistics of an array as the zone map of its rows.
 use Rattle.std.specs.Prelude.{ℕ, Option, Some, None}
 use Rattle.vortex_model.specs.Content.{Content}
-use Rattle.vortex_model.specs.Bounds.{low, high, is_longer}
-use Rattle.vortex_model.specs.Statistics.{Precision, exact, absent}
-use Rattle.vortex_model.specs.ZoneMap.{ZoneMap, bound_of}
+use Rattle.vortex_model_table.specs.Bounds.{low, high, is_longer}
+use Rattle.vortex_model_table.specs.Statistics.{Precision, exact, absent}
+use Rattle.vortex_model_table.specs.ZoneMap.{ZoneMap, bound_of}
 use Rattle.vortex_scalar_value.specs.declared.scalar_value.ScalarValue.{ScalarValue}
 use Rattle.vortex_stats_bound.specs.Precision.{precision_of, precision_map}
 use Rattle.vortex_stats_bound.specs.ValueOrder.{value_content}

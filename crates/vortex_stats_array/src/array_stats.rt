@@ -1,6 +1,6 @@
 //! The statistics of a leaf column that is an array.
 ghost use Rattle.std.specs.Prelude.{◌≡◌};
-ghost use Rattle.vortex_model.specs.Typing.{sum_kind};
+ghost use Rattle.vortex_model_table.specs.Typing.{sum_kind};
 ghost use Rattle.vortex_dtype_core.specs.View.{type_of};
 ghost use Rattle.vortex_stats_array.specs.Sums.{int_kind_of};
 

@@ -8,6 +8,7 @@ ghost use Rattle.vortex_arrays_core.specs.LayoutOf.{valid_of};
 ghost use Rattle.vortex_stats_array.specs.Counted.{code_or_null, ReadsCodes, IsCountOf};
 
 use crate::counts::Counts;
+use crate::nulls::is_valid_at;
 use std::alloc::{AllocError, Global};
 use vortex_arrays_buffer::PrimitiveBuffer;
 use vortex_arrays_core::array::{ArrayLayout, ArrayRef, Validity};
@@ -69,7 +70,7 @@ fn code_at<T: NativePType>(
         ≡ content_at (numbers T.kind (map T.integer items.now) (valid_of validity.now)) i }
     ensures within { IfSome result (λ j. j < value_count) }
 {
-    if validity.is_valid(i, items.len()) {
+    if is_valid_at(validity, i, items.len()) {
         Some(code_of(items[i].get(), value_count))
     } else {
         None

@@ -1,10 +1,10 @@
 //! Values of leaf columns, as they lie in arrays.
 ghost use Rattle.std.specs.Prelude.{◌≡◌, ◌^◌, false, pos, neg_ℤ, ◌≤ℤ◌, refl, IfOk, IsTrue, IsUtf8};
 ghost use Rattle.std.specs.Str.{is_utf8};
-ghost use Rattle.vortex_model.specs.Bounds.{low, high, is_longer};
+ghost use Rattle.vortex_model_table.specs.Bounds.{low, high, is_longer};
 ghost use Rattle.vortex_model.specs.Content.{Content, boolean, integer, text, byte_string, is_null};
-ghost use Rattle.vortex_model.specs.Statistics.{is_at_most, number_in};
-ghost use Rattle.vortex_model.specs.ZoneMap.{bound_of};
+ghost use Rattle.vortex_model_table.specs.Statistics.{is_at_most, number_in};
+ghost use Rattle.vortex_model_table.specs.ZoneMap.{bound_of};
 ghost use Rattle.vortex_stats_bound.specs.ValueOrder.{value_content};
 ghost use Rattle.vortex_stats_array.specs.Zones.{bound_content, high_by};
 

@@ -7,6 +7,7 @@ mod asked;
 mod counting;
 mod counts;
 mod leaf_value;
+mod nulls;
 pub mod of_array;
 mod referenced;
 mod rows;

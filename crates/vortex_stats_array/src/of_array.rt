@@ -1,7 +1,7 @@
 //! The statistics of an array of any layout.
 ghost use Rattle.std.specs.Prelude.{◌≡◌, IfOk, MatchOption, Bool, None, length, false, map};
 ghost use Rattle.vortex_model.specs.Kept.{is_leaf};
-ghost use Rattle.vortex_model.specs.ZoneMap.{zone_of};
+ghost use Rattle.vortex_model_table.specs.ZoneMap.{zone_of};
 ghost use Rattle.vortex_dtype_ptype.specs.View.{number_kind_of};
 ghost use Rattle.vortex_arrays_buffer.specs.PrimitiveBuffers.{kind_of_numbers, integers_of};
 ghost use Rattle.vortex_arrays_model.specs.Layout.{bools, numbers, strings, dictionary, array_type_of, len_of, rows_of, IsInteger, IsSound};
@@ -165,34 +165,18 @@ fn stats_of_numbers(
         stats) }
 {
     match items {
-        PrimitiveBuffer::U8(items) => {
-            stats_of_kind(alloc, items.as_slice(), validity, counts, asked)
-        }
-        PrimitiveBuffer::U16(items) => {
-            stats_of_kind(alloc, items.as_slice(), validity, counts, asked)
-        }
-        PrimitiveBuffer::U32(items) => {
-            stats_of_kind(alloc, items.as_slice(), validity, counts, asked)
-        }
-        PrimitiveBuffer::U64(items) => {
-            stats_of_kind(alloc, items.as_slice(), validity, counts, asked)
-        }
-        PrimitiveBuffer::I8(items) => {
-            stats_of_kind(alloc, items.as_slice(), validity, counts, asked)
-        }
-        PrimitiveBuffer::I16(items) => {
-            stats_of_kind(alloc, items.as_slice(), validity, counts, asked)
-        }
-        PrimitiveBuffer::I32(items) => {
-            stats_of_kind(alloc, items.as_slice(), validity, counts, asked)
-        }
-        PrimitiveBuffer::I64(items) => {
-            stats_of_kind(alloc, items.as_slice(), validity, counts, asked)
-        }
+        PrimitiveBuffer::U8(items) => of_kind(alloc, items.as_slice(), validity, counts, asked),
+        PrimitiveBuffer::U16(items) => of_kind(alloc, items.as_slice(), validity, counts, asked),
+        PrimitiveBuffer::U32(items) => of_kind(alloc, items.as_slice(), validity, counts, asked),
+        PrimitiveBuffer::U64(items) => of_kind(alloc, items.as_slice(), validity, counts, asked),
+        PrimitiveBuffer::I8(items) => of_kind(alloc, items.as_slice(), validity, counts, asked),
+        PrimitiveBuffer::I16(items) => of_kind(alloc, items.as_slice(), validity, counts, asked),
+        PrimitiveBuffer::I32(items) => of_kind(alloc, items.as_slice(), validity, counts, asked),
+        PrimitiveBuffer::I64(items) => of_kind(alloc, items.as_slice(), validity, counts, asked),
     }
 }
 
-fn stats_of_kind<T: NativePType>(
+fn of_kind<T: NativePType>(
     alloc: Global,
     items: &[T],
     validity: &Validity,

@@ -8,6 +8,7 @@ ghost use Rattle.vortex_stats_array.specs.Running.{content_or_null, IsSeen};
 
 use crate::counts::Counts;
 use crate::leaf_value::{ByteString, Number, Text};
+use crate::nulls::is_valid_at;
 use crate::running::Running;
 use crate::seen::seen;
 use bytes::Bytes;
@@ -22,7 +23,7 @@ fn number_at<T: NativePType>(items: &[T], validity: &Validity, i: usize) -> Opti
     ensures { content_or_null (λ v. integer (T.integer v.0)) result
         ≡ content_at (numbers T.kind (map T.integer items.now) (valid_of validity.now)) i }
 {
-    if validity.is_valid(i, items.len()) {
+    if is_valid_at(validity, i, items.len()) {
         Some(Number(items[i]))
     } else {
         None
@@ -50,7 +51,7 @@ fn bool_at(bits: &BitBuffer, validity: &Validity, i: usize) -> Option<bool>
     ensures { content_or_null boolean result
         ≡ content_at (bools bits.now (valid_of validity.now)) i }
 {
-    if validity.is_valid(i, bits.len()) {
+    if is_valid_at(validity, i, bits.len()) {
         Some(bits.value(i))
     } else {
         None
@@ -83,7 +84,7 @@ fn text_at<'a>(
     ensures { content_or_null (λ v. text v.bytes.now) result
         ≡ content_at (strings texts views.now buffers.now (valid_of validity.now)) i }
 {
-    if validity.is_valid(i, views.len()) {
+    if is_valid_at(validity, i, views.len()) {
         Some(Text::new(views[i].bytes(buffers)))
     } else {
         None
@@ -121,7 +122,7 @@ fn bytes_at<'a>(
     ensures { content_or_null (λ v. byte_string v.0.now) result
         ≡ content_at (strings byte_strings views.now buffers.now (valid_of validity.now)) i }
 {
-    if validity.is_valid(i, views.len()) {
+    if is_valid_at(validity, i, views.len()) {
         Some(ByteString(views[i].bytes(buffers)))
     } else {
         None

@@ -1,7 +1,7 @@
 //! What is seen of a leaf column, row by row.
 ghost use Rattle.std.specs.Prelude.{◌≡◌, ◌<◌, ◌≤◌, ◌+◌, ◌-◌, ◌*◌, ◌^◌, ◌∷◌, ◌++◌, [], ℕ, List, length, replicate, option_map, IfOk};
 ghost use Rattle.vortex_model.specs.Content.{Content, null};
-ghost use Rattle.vortex_model.specs.ZoneMap.{zone_of};
+ghost use Rattle.vortex_model_table.specs.ZoneMap.{zone_of};
 ghost use Rattle.vortex_dtype_core.specs.View.{type_of};
 ghost use Rattle.vortex_stats_array.specs.Running.{content_or_null, lesser, greater, in_front, DoCompare, IsSeen, FitsRows, constant_by};
 ghost use Rattle.vortex_stats_array.specs.Zones.{bound_content, zone_in, low_at, high_at};
@@ -17,9 +17,8 @@ use vortex_stats_bound::precision::Precision;
 /// The least and the greatest of the values seen so far, how many rows are null, and the sum.
 #[derive(Clone, Copy, Drop)]
 pub(crate) struct Running<V> {
-    // `None` where every row is null.
+    // Neither is there where every row is null.
     pub(crate) least: Option<V>,
-    // `None` where every row is null.
     pub(crate) greatest: Option<V>,
     pub(crate) null_count: usize,
     pub(crate) sum: RunningSum,

@@ -2,7 +2,7 @@
 ghost use Rattle.std.specs.Prelude.{◌≡◌, ◌<◌, ◌≤◌, ◌+◌, ◌-◌, ◌*◌, ◌^◌, false, pos, neg_ℤ, ◌+ℤ◌, ◌≤ℤ◌, IfSome, IfNone};
 ghost use Rattle.vortex_model.specs.LogicalType.{IntKind};
 ghost use Rattle.vortex_model.specs.Valid.{in_range};
-ghost use Rattle.vortex_model.specs.ZoneMap.{sum_in};
+ghost use Rattle.vortex_model_table.specs.ZoneMap.{sum_in};
 ghost use Rattle.vortex_dtype_ptype.specs.Numbers.{int_kind_in};
 ghost use Rattle.vortex_dtype_ptype.specs.View.{number_kind_of};
 ghost use Rattle.vortex_stats_array.specs.Sums.{sum_in_parts, repeated_sum, FitsSum, int_kind_of, known_sum};

@@ -1,9 +1,9 @@
 //! Copies of texts and bytes, shortened to bounds.
 ghost use Rattle.std.specs.Prelude.{◌≡◌, IfOk, IsUtf8};
 ghost use Rattle.vortex_model.specs.Content.{text, byte_string};
-ghost use Rattle.vortex_model.specs.Bounds.{low, high, is_longer};
+ghost use Rattle.vortex_model_table.specs.Bounds.{low, high, is_longer};
 ghost use Rattle.vortex_model.specs.Valid.{AreBytes};
-ghost use Rattle.vortex_model.specs.ZoneMap.{bound_of};
+ghost use Rattle.vortex_model_table.specs.ZoneMap.{bound_of};
 ghost use Rattle.vortex_stats_bound.specs.ValueOrder.{value_content};
 ghost use Rattle.vortex_stats_array.specs.Zones.{bound_content, high_by};
 

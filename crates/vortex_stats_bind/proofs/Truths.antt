@@ -3,7 +3,7 @@ use Rattle.std.proofs.Common.{◌≡◌, refl, sym, ap, ◌∙◌, ℕ, List, po
 use Rattle.std.specs.Option.{unwrap_or}
 use Rattle.vortex_model.specs.Content.{Content, content_of, null, boolean, integer, text, is_null, Raw, raw_boolean, raw_text}
 use Rattle.vortex_model.specs.Order.{content_cmp}
-use Rattle.vortex_model.specs.Truth.{kleene_and, kleene_not, kleene_or, is_true, liked}
+use Rattle.vortex_model_table.specs.Truth.{kleene_and, kleene_not, kleene_or, is_true, liked}
 use Rattle.vortex_scalar_value.specs.Parts.{boolean_in as raw_truth_in, text_in as raw_text_in}
 use Rattle.vortex_scalar_value.specs.View.{raw_of}
 use Rattle.vortex_scalar_value.specs.declared.pvalue.PValue.TheVariants as number

@@ -3,8 +3,8 @@ use Rattle.std.specs.Prelude.{ℕ, ◌+◌, Bool, true, false, not, ◌||◌, Op
 use Rattle.vortex_model.specs.LogicalType.{LogicalType}
 use Rattle.vortex_model.specs.Content.{Content, null, boolean, integer, is_null as is_null_content}
 use Rattle.vortex_model.specs.Path.{Positions, positions, at}
-use Rattle.vortex_model.specs.Truth.{Given, compared, kleene_and, kleene_or, kleene_not, end_of, liked}
-use Rattle.vortex_model.specs.Expression.{Expression, literal, column, compare, both, either, negation, is_null, is_not_null, is_nan, between, like, row_count, statistic, Comparison, Aggregate}
+use Rattle.vortex_model_table.specs.Truth.{Given, compared, kleene_and, kleene_or, kleene_not, end_of, liked}
+use Rattle.vortex_model_table.specs.Expression.{Expression, literal, column, compare, both, either, negation, is_null, is_not_null, is_nan, between, like, row_count, statistic, Comparison, Aggregate}
 use Rattle.std.specs.Prelude.{pos}
 
 -- `count_of_rows` is the number of rows, and a placeholder asks for a statistic of the values of a

@@ -3,7 +3,7 @@ use Rattle.std.specs.Prelude.{◌≤◌, max}
 use Rattle.std.proofs.Common.{arith}
 use Rattle.vortex_stats_bind.specs.declared.bound.BoundNode.{BoundNode}
 use Rattle.vortex_stats_bind.specs.declared.bound.BoundNode.TheVariants.{Literal, Column, Compare, And, Or, Not, IsNull, IsNotNull, Between, Like, RowCount, Stat}
-use Rattle.vortex_stats_bind.specs.declared.bound.BoundExpression.TheDeep.{deep-BoundNode}
+use Rattle.vortex_stats_bind.specs.declared.bound.BoundTree.TheDeep.{deep-BoundNode}
 use Rattle.vortex_stats_bind.specs.Bound.{bound_size}
 use Rattle.vortex_stats_bind.specs.BoundTree.{bound_tree}
 

@@ -2,7 +2,7 @@
 use Rattle.std.specs.Prelude.{◌≡◌, ℕ, Option, Some, None}
 use Rattle.vortex_model.specs.Content.{Content, null}
 use Rattle.vortex_model.specs.Path.{Positions}
-use Rattle.vortex_model.specs.Expression.{Aggregate}
+use Rattle.vortex_model_table.specs.Expression.{Aggregate}
 use Rattle.vortex_stats_bind.specs.Bound.{Bound, Provided, fixed, reads_places, evaluate_bound}
 
 -- A binder's answer: a literal of the value, or none for what stands for missing statistics.

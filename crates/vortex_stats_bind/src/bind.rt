@@ -3,16 +3,16 @@
 //! `bind_proof` is called once for a predicate or a proof of a scan, so that no name is looked up
 //! while rows are tested and chunks judged.
 ghost use Rattle.std.specs.Prelude.{◌≡◌, IfOk, option_map};
-ghost use Rattle.vortex_model.specs.Expression.{between, like};
+ghost use Rattle.vortex_model_table.specs.Expression.{between, like};
 ghost use Rattle.vortex_model.specs.Path.{positions};
-ghost use Rattle.vortex_model.specs.Truth.{evaluate};
+ghost use Rattle.vortex_model_table.specs.Truth.{evaluate};
 ghost use Rattle.vortex_dtype_core.specs.View.{type_of};
 ghost use Rattle.vortex_scalar_core.specs.Scalar.{scalar_content};
 ghost use Rattle.vortex_stats_bind.specs.Bound.{Provided, fixed, evaluate_bound, bound_of, bound_column, by_names};
 ghost use Rattle.vortex_stats_expr.specs.Tree.{is_strict};
 
 use crate::bound::{
-    BoundExpression, BoundNode, bound_and, bound_between, bound_compare, bound_is_not_null,
+    BoundNode, BoundTree, bound_and, bound_between, bound_compare, bound_is_not_null,
     bound_is_null, bound_like, bound_literal, bound_not, bound_or, bound_row_count, bound_stat,
 };
 use std::alloc::{AllocError, Global};
@@ -29,11 +29,7 @@ use vortex_stats_expr::types::field_named;
 /// has one has the value that the definition of truth gives it. The whole is copied, in time linear
 /// in its size.
 #[tactic(auto, using(crate::proofs::BoundValues::resolving))]
-pub fn bind_proof(
-    alloc: Global,
-    proof: &Expression,
-    dtype: &DType,
-) -> Result<BoundExpression, AllocError>
+pub fn bind_proof(alloc: Global, proof: &Expression, dtype: &DType) -> Result<BoundTree, AllocError>
     ensures { IfOk result (λ bound. (provided : Provided) → evaluate_bound provided bound
         ≡ evaluate (by_names (type_of dtype.now) provided) proof.now) }
 {
@@ -43,7 +39,7 @@ pub fn bind_proof(
 // Columns become positions, and null where they lead nowhere. So do a test for NaN and a LIKE that
 // ignores case, which have no truth.
 #[cycle(resolve)]
-fn resolve(alloc: Global, dtype: &DType, e: &Expression) -> Result<BoundExpression, AllocError>
+fn resolve(alloc: Global, dtype: &DType, e: &Expression) -> Result<BoundTree, AllocError>
     ensures { IfOk result (λ bound. bound ≡ bound_of (type_of dtype.now) e.now) }
 {
     match &e.node {
@@ -92,7 +88,7 @@ fn resolve_both(
     dtype: &DType,
     left: &Expression,
     right: &Expression,
-) -> Result<(BoundExpression, BoundExpression), AllocError>
+) -> Result<(BoundTree, BoundTree), AllocError>
     ensures left { IfOk result (λ both. both.0 ≡ bound_of (type_of dtype.now) left.now) }
     ensures right { IfOk result (λ both. both.1 ≡ bound_of (type_of dtype.now) right.now) }
 {
@@ -109,7 +105,7 @@ fn resolve_range(
     lower: &Expression,
     upper: &Expression,
     options: BetweenOptions,
-) -> Result<BoundExpression, AllocError>
+) -> Result<BoundTree, AllocError>
     ensures { IfOk result (λ bound. bound ≡ bound_of (type_of dtype.now) (between value.now
         lower.now upper.now (is_strict options.lower_strict) (is_strict options.upper_strict))) }
 {
@@ -125,7 +121,7 @@ fn resolve_like(
     value: &Expression,
     pattern: &Expression,
     options: LikeOptions,
-) -> Result<BoundExpression, AllocError>
+) -> Result<BoundTree, AllocError>
     ensures { IfOk result (λ bound. bound ≡ bound_of (type_of dtype.now) (like value.now
         pattern.now options.negated options.case_insensitive)) }
 {
@@ -136,22 +132,18 @@ fn resolve_like(
     bound_like(alloc, value, pattern, options.negated)
 }
 
-fn resolve_literal(value: &Scalar) -> Result<BoundExpression, AllocError>
+fn resolve_literal(value: &Scalar) -> Result<BoundTree, AllocError>
     ensures { IfOk result (λ bound. bound ≡ fixed (scalar_content value.now)) }
 {
     let value = clone_value(value.value())?;
     Ok(bound_literal(value))
 }
 
-fn resolve_column(
-    alloc: Global,
-    dtype: &DType,
-    path: &FieldNames,
-) -> Result<BoundExpression, AllocError>
+fn resolve_column(alloc: Global, dtype: &DType, path: &FieldNames) -> Result<BoundTree, AllocError>
     ensures { IfOk result (λ bound. bound ≡ bound_column (positions (type_of dtype.now) path.now)) }
 {
     match column_positions(alloc, dtype, path)? {
-        Some(positions) => Ok(BoundExpression {
+        Some(positions) => Ok(BoundTree {
             node: BoundNode::Column(positions),
         }),
         None => Ok(bound_literal(None)),

@@ -5,7 +5,7 @@
 ghost use Rattle.std.specs.Prelude.{◌≡◌, IfOk, IfSome, IfNone, None};
 ghost use Rattle.vortex_model.specs.Content.{content_of};
 ghost use Rattle.vortex_model.specs.Path.{at, part_of};
-ghost use Rattle.vortex_model.specs.Truth.{is_true};
+ghost use Rattle.vortex_model_table.specs.Truth.{is_true};
 ghost use Rattle.vortex_scalar_value.specs.View.{raw_of, content_at, content_in};
 ghost use Rattle.vortex_stats_bind.specs.Bound.{Provided, fixed, place, test, each, some, opposite, null_test, value_test, range_test, match_test, count_of_rows, placeholder, place_of, evaluate_bound, bound_value};
 ghost use Rattle.vortex_stats_bind.specs.OperandValue.{operand_value};
@@ -23,12 +23,12 @@ use vortex_stats_expr::operator::Comparison;
 use vortex_stats_expr::options::BetweenOptions;
 use vortex_stats_stat::aggregate::AggregateFn;
 
-/// A predicate or a proof over rows of one type, as Vortex's `BoundExpression`. `bind` makes one of
-/// a predicate without a fault, and `bind_proof` of any proof. Contracts see it as a tree with
-/// positions in place of names.
+/// A predicate or a proof over rows of one type, the tree of what Vortex calls a bound expression.
+/// `bind` makes one of a predicate without a fault, and `bind_proof` of any proof. Contracts see it
+/// as a tree with positions in place of names.
 #[cycle(bound)]
 #[derive(Drop)]
-pub struct BoundExpression {
+pub struct BoundTree {
     /// The form, with the parts that it is made of.
     pub node: BoundNode,
 }
@@ -39,18 +39,18 @@ pub struct BoundExpression {
 pub enum BoundNode {
     Literal(Option<ScalarValue>),
     Column(Vec<usize>),
-    Compare(Comparison, Box<BoundExpression>, Box<BoundExpression>),
-    And(Box<BoundExpression>, Box<BoundExpression>),
-    Or(Box<BoundExpression>, Box<BoundExpression>),
-    Not(Box<BoundExpression>),
-    IsNull(Box<BoundExpression>),
-    IsNotNull(Box<BoundExpression>),
+    Compare(Comparison, Box<BoundTree>, Box<BoundTree>),
+    And(Box<BoundTree>, Box<BoundTree>),
+    Or(Box<BoundTree>, Box<BoundTree>),
+    Not(Box<BoundTree>),
+    IsNull(Box<BoundTree>),
+    IsNotNull(Box<BoundTree>),
     // The value, the lower end and the upper end.
-    Between(Box<BoundExpression>, Box<BoundExpression>, Box<BoundExpression>, BetweenOptions),
+    Between(Box<BoundTree>, Box<BoundTree>, Box<BoundTree>, BetweenOptions),
     // The value, the pattern, and whether the answer is negated. Letters keep their case.
-    Like(Box<BoundExpression>, Box<BoundExpression>, bool),
+    Like(Box<BoundTree>, Box<BoundTree>, bool),
     RowCount,
-    Stat(AggregateFn, Box<BoundExpression>),
+    Stat(AggregateFn, Box<BoundTree>),
 }
 
 impl Drop for BoundNode {
@@ -73,7 +73,7 @@ impl Drop for BoundNode {
     }
 }
 
-impl Model for BoundExpression {
+impl Model for BoundTree {
     ghost use Rattle.vortex_stats_bind.specs.Bound.{Bound, bound_size};
     ghost use Rattle.vortex_stats_bind.specs.BoundCode.{bound_code};
 
@@ -95,108 +95,99 @@ impl Model for BoundExpression {
 pub(crate) fn bound_compare(
     alloc: Global,
     comparison: Comparison,
-    left: BoundExpression,
-    right: BoundExpression,
-) -> Result<BoundExpression, AllocError>
+    left: BoundTree,
+    right: BoundTree,
+) -> Result<BoundTree, AllocError>
     ensures { IfOk result (λ bound. bound ≡ test (comparison_of comparison) left right) }
 {
-    Ok(BoundExpression {
+    Ok(BoundTree {
         node: BoundNode::Compare(comparison, Box::new(alloc, left)?, Box::new(alloc, right)?),
     })
 }
 
 pub(crate) fn bound_and(
     alloc: Global,
-    left: BoundExpression,
-    right: BoundExpression,
-) -> Result<BoundExpression, AllocError>
+    left: BoundTree,
+    right: BoundTree,
+) -> Result<BoundTree, AllocError>
     ensures { IfOk result (λ bound. bound ≡ each left right) }
 {
-    Ok(BoundExpression {
+    Ok(BoundTree {
         node: BoundNode::And(Box::new(alloc, left)?, Box::new(alloc, right)?),
     })
 }
 
 pub(crate) fn bound_or(
     alloc: Global,
-    left: BoundExpression,
-    right: BoundExpression,
-) -> Result<BoundExpression, AllocError>
+    left: BoundTree,
+    right: BoundTree,
+) -> Result<BoundTree, AllocError>
     ensures { IfOk result (λ bound. bound ≡ some left right) }
 {
-    Ok(BoundExpression {
+    Ok(BoundTree {
         node: BoundNode::Or(Box::new(alloc, left)?, Box::new(alloc, right)?),
     })
 }
 
-pub(crate) fn bound_not(
-    alloc: Global,
-    input: BoundExpression,
-) -> Result<BoundExpression, AllocError>
+pub(crate) fn bound_not(alloc: Global, input: BoundTree) -> Result<BoundTree, AllocError>
     ensures { IfOk result (λ bound. bound ≡ opposite input) }
 {
-    Ok(BoundExpression {
+    Ok(BoundTree {
         node: BoundNode::Not(Box::new(alloc, input)?),
     })
 }
 
-pub(crate) fn bound_is_null(
-    alloc: Global,
-    input: BoundExpression,
-) -> Result<BoundExpression, AllocError>
+pub(crate) fn bound_is_null(alloc: Global, input: BoundTree) -> Result<BoundTree, AllocError>
     ensures { IfOk result (λ bound. bound ≡ null_test input) }
 {
-    Ok(BoundExpression {
+    Ok(BoundTree {
         node: BoundNode::IsNull(Box::new(alloc, input)?),
     })
 }
 
-pub(crate) fn bound_is_not_null(
-    alloc: Global,
-    input: BoundExpression,
-) -> Result<BoundExpression, AllocError>
+pub(crate) fn bound_is_not_null(alloc: Global, input: BoundTree) -> Result<BoundTree, AllocError>
     ensures { IfOk result (λ bound. bound ≡ value_test input) }
 {
-    Ok(BoundExpression {
+    Ok(BoundTree {
         node: BoundNode::IsNotNull(Box::new(alloc, input)?),
     })
 }
 
 pub(crate) fn bound_between(
     alloc: Global,
-    value: BoundExpression,
-    lower: BoundExpression,
-    upper: BoundExpression,
+    value: BoundTree,
+    lower: BoundTree,
+    upper: BoundTree,
     options: BetweenOptions,
-) -> Result<BoundExpression, AllocError>
+) -> Result<BoundTree, AllocError>
     ensures { IfOk result (λ bound. bound ≡ range_test value lower upper
         (is_strict options.lower_strict) (is_strict options.upper_strict)) }
 {
     let value = Box::new(alloc, value)?;
     let lower = Box::new(alloc, lower)?;
     let upper = Box::new(alloc, upper)?;
-    Ok(BoundExpression {
+    Ok(BoundTree {
         node: BoundNode::Between(value, lower, upper, options),
     })
 }
 
 pub(crate) fn bound_like(
     alloc: Global,
-    value: BoundExpression,
-    pattern: BoundExpression,
+    value: BoundTree,
+    pattern: BoundTree,
     negated: bool,
-) -> Result<BoundExpression, AllocError>
+) -> Result<BoundTree, AllocError>
     ensures { IfOk result (λ bound. bound ≡ match_test value pattern negated) }
 {
-    Ok(BoundExpression {
+    Ok(BoundTree {
         node: BoundNode::Like(Box::new(alloc, value)?, Box::new(alloc, pattern)?, negated),
     })
 }
 
-pub(crate) fn bound_row_count() -> BoundExpression
+pub(crate) fn bound_row_count() -> BoundTree
     ensures { result ≡ count_of_rows }
 {
-    BoundExpression {
+    BoundTree {
         node: BoundNode::RowCount,
     }
 }
@@ -204,20 +195,20 @@ pub(crate) fn bound_row_count() -> BoundExpression
 pub(crate) fn bound_stat(
     alloc: Global,
     aggregate: AggregateFn,
-    input: BoundExpression,
-) -> Result<BoundExpression, AllocError>
+    input: BoundTree,
+) -> Result<BoundTree, AllocError>
     ensures { IfOk result (λ bound. bound ≡ placeholder input (aggregate_of aggregate)) }
 {
-    Ok(BoundExpression {
+    Ok(BoundTree {
         node: BoundNode::Stat(aggregate, Box::new(alloc, input)?),
     })
 }
 
 /// A literal, where `None` is null. Binders answer placeholders by it.
-pub fn bound_literal(value: Option<ScalarValue>) -> BoundExpression
+pub fn bound_literal(value: Option<ScalarValue>) -> BoundTree
     ensures { result ≡ fixed (content_in value) }
 {
-    BoundExpression {
+    BoundTree {
         node: BoundNode::Literal(value),
     }
 }
@@ -232,7 +223,7 @@ pub trait Operands {
         ensures { operand_value result ≡ (provided self.now).columns path.now };
 
     /// The value of a statistic of the values of `input`, null where it is not known.
-    fn statistic<'a>(&'a self, input: &BoundExpression, aggregate: AggregateFn) -> Value<'a>
+    fn statistic<'a>(&'a self, input: &BoundTree, aggregate: AggregateFn) -> Value<'a>
         ensures { operand_value result
             ≡ (provided self.now).statistics input.now (aggregate_of aggregate) };
 
@@ -253,7 +244,7 @@ impl Operands for ScalarValue {
         read(part_at(self, path))
     }
 
-    fn statistic<'a>(&'a self, _input: &BoundExpression, _aggregate: AggregateFn) -> Value<'a> {
+    fn statistic<'a>(&'a self, _input: &BoundTree, _aggregate: AggregateFn) -> Value<'a> {
         Value::Null
     }
 
@@ -264,7 +255,7 @@ impl Operands for ScalarValue {
 
 /// The value of a bound expression, borrowed from it or from what its columns and placeholders
 /// stand for.
-pub fn value_of<'a, S: Operands>(e: &'a BoundExpression, source: &'a S) -> Value<'a>
+pub fn value_of<'a, S: Operands>(e: &'a BoundTree, source: &'a S) -> Value<'a>
     ensures { operand_value result ≡ evaluate_bound (S.provided source.now) e.now }
 {
     match &e.node {
@@ -296,7 +287,7 @@ pub fn value_of<'a, S: Operands>(e: &'a BoundExpression, source: &'a S) -> Value
     }
 }
 
-impl BoundExpression {
+impl BoundTree {
     /// Whether it is true where its columns and placeholders stand for these: neither false nor
     /// null. It allocates nothing.
     #[tactic(auto, using(crate::proofs::Truths::is_true_by))]

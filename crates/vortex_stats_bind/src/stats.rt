@@ -1,23 +1,18 @@
-//! Values for the placeholders of a bound proof, and its truth without placeholders.
-//!
-//! `bind_stats` and `prove` are the two steps apart, for a caller that looks at the proof between
-//! them. `BoundExpression::holds` evaluates a proof in one walk that allocates nothing.
-ghost use Rattle.std.specs.Prelude.{◌≡◌, IfOk, None, false, true};
+//! Values for the placeholders of a bound proof, for a caller that looks at the proof without them.
+//! `BoundTree::holds` evaluates a proof in one walk that allocates nothing.
+ghost use Rattle.std.specs.Prelude.{◌≡◌, IfOk};
 ghost use Rattle.vortex_model.specs.Content.{Content};
-ghost use Rattle.vortex_model.specs.Expression.{Aggregate};
+ghost use Rattle.vortex_model_table.specs.Expression.{Aggregate};
 ghost use Rattle.vortex_scalar_value.specs.View.{content_at};
-ghost use Rattle.vortex_stats_bind.specs.Bound.{Bound, fixed, range_test, placeholder, reads_places, evaluate_bound};
-ghost use Rattle.vortex_stats_bind.specs.OperandValue.{boolean_in};
-ghost use Rattle.vortex_stats_bind.specs.Stats.{IsAnswer, IsBinding, of_rows_alone};
+ghost use Rattle.vortex_stats_bind.specs.Bound.{Bound, fixed, range_test, placeholder};
+ghost use Rattle.vortex_stats_bind.specs.Stats.{IsAnswer, IsBinding};
 ghost use Rattle.vortex_stats_expr.specs.Tree.{is_strict};
 ghost use Rattle.vortex_stats_stat.specs.Aggregate.{aggregate_of};
 
 use crate::bound::{
-    BoundExpression, BoundNode, Operands, bound_and, bound_between, bound_compare,
-    bound_is_not_null, bound_is_null, bound_like, bound_literal, bound_not, bound_or,
-    bound_row_count, value_of,
+    BoundNode, BoundTree, bound_and, bound_between, bound_compare, bound_is_not_null,
+    bound_is_null, bound_like, bound_literal, bound_not, bound_or, bound_row_count,
 };
-use crate::value::{Value, truth_of};
 use std::alloc::{AllocError, Global};
 use vortex_scalar_value::clone::clone_value;
 use vortex_scalar_value::scalar_value::ScalarValue;
@@ -37,16 +32,16 @@ pub trait StatBinder {
     fn bind_aggregate(
         &self,
         alloc: Global,
-        input: &BoundExpression,
+        input: &BoundTree,
         aggregate: AggregateFn,
-    ) -> Result<Option<BoundExpression>, AllocError>
+    ) -> Result<Option<BoundTree>, AllocError>
         ensures { IfOk result
             (λ found. IsAnswer (missing self.now) found
             (meaning self.now input.now (aggregate_of aggregate))) };
 
     /// A literal that stands for each statistic that isn't known. A source that has nothing better
     /// answers null.
-    fn missing_stat(&self, alloc: Global) -> Result<BoundExpression, AllocError>
+    fn missing_stat(&self, alloc: Global) -> Result<BoundTree, AllocError>
         ensures { IfOk result (λ literal. literal ≡ fixed (missing self.now)) };
 }
 
@@ -56,14 +51,14 @@ pub trait StatBinder {
 #[cycle(bind)]
 pub fn bind_stats<B: StatBinder>(
     alloc: Global,
-    proof: &BoundExpression,
+    proof: &BoundTree,
     binder: &B,
-) -> Result<BoundExpression, AllocError>
+) -> Result<BoundTree, AllocError>
     ensures { IfOk result (λ bound. IsBinding (B.meaning binder.now) proof.now bound) }
 {
     match &proof.node {
         BoundNode::Literal(value) => copy_literal(value.as_ref()),
-        BoundNode::Column(path) => Ok(BoundExpression {
+        BoundNode::Column(path) => Ok(BoundTree {
             node: BoundNode::Column(path.clone()?),
         }),
         BoundNode::Compare(comparison, x, y) => {
@@ -105,10 +100,10 @@ pub fn bind_stats<B: StatBinder>(
 #[cycle(bind)]
 fn bind_both<B: StatBinder>(
     alloc: Global,
-    x: &BoundExpression,
-    y: &BoundExpression,
+    x: &BoundTree,
+    y: &BoundTree,
     binder: &B,
-) -> Result<(BoundExpression, BoundExpression), AllocError>
+) -> Result<(BoundTree, BoundTree), AllocError>
     ensures left { IfOk result (λ bound. IsBinding (B.meaning binder.now) x.now bound.0) }
     ensures right { IfOk result (λ bound. IsBinding (B.meaning binder.now) y.now bound.1) }
 {
@@ -120,12 +115,12 @@ fn bind_both<B: StatBinder>(
 #[cycle(bind)]
 fn bind_range<B: StatBinder>(
     alloc: Global,
-    x: &BoundExpression,
-    lower: &BoundExpression,
-    upper: &BoundExpression,
+    x: &BoundTree,
+    lower: &BoundTree,
+    upper: &BoundTree,
     options: BetweenOptions,
     binder: &B,
-) -> Result<BoundExpression, AllocError>
+) -> Result<BoundTree, AllocError>
     ensures { IfOk result (λ bound. IsBinding (B.meaning binder.now) (range_test x.now lower.now
         upper.now (is_strict options.lower_strict) (is_strict options.upper_strict)) bound) }
 {
@@ -134,7 +129,7 @@ fn bind_range<B: StatBinder>(
     bound_between(alloc, value, lower, upper, options)
 }
 
-fn copy_literal(value: Option<&ScalarValue>) -> Result<BoundExpression, AllocError>
+fn copy_literal(value: Option<&ScalarValue>) -> Result<BoundTree, AllocError>
     ensures { IfOk result (λ bound. bound ≡ fixed (content_at value.entry)) }
 {
     let value = clone_value(value)?;
@@ -144,74 +139,14 @@ fn copy_literal(value: Option<&ScalarValue>) -> Result<BoundExpression, AllocErr
 fn bind_stat<B: StatBinder>(
     alloc: Global,
     aggregate: AggregateFn,
-    input: &BoundExpression,
+    input: &BoundTree,
     binder: &B,
-) -> Result<BoundExpression, AllocError>
+) -> Result<BoundTree, AllocError>
     ensures { IfOk result (λ bound. IsBinding (B.meaning binder.now)
         (placeholder input.now (aggregate_of aggregate)) bound) }
 {
     match binder.bind_aggregate(alloc, input, aggregate)? {
         Some(found) => Ok(found),
         None => binder.missing_stat(alloc),
-    }
-}
-
-// Rows of which neither columns nor statistics are known.
-#[derive(Clone, Copy, Drop)]
-struct RowsAlone {
-    rows: u64,
-}
-
-impl Operands for RowsAlone {
-    ghost use Rattle.vortex_stats_bind.specs.Stats.{of_rows_alone};
-
-    ghost provided = { λ alone. of_rows_alone alone.rows };
-
-    fn column<'a>(&'a self, _path: &[usize]) -> Value<'a> {
-        Value::Null
-    }
-
-    fn statistic<'a>(&'a self, _input: &BoundExpression, _aggregate: AggregateFn) -> Value<'a> {
-        Value::Null
-    }
-
-    fn rows(&self) -> u64 {
-        self.rows
-    }
-}
-
-/// The truth of a proof about `rows` rows whose placeholders are bound, as Vortex's `prove`. `None`
-/// where it is null, and where it reads a column, which has no value outside a row. Placeholders
-/// that are left count as null.
-pub fn prove(bound: &BoundExpression, rows: u64) -> Option<bool>
-    ensures value { reads_places bound.now ≡ false → result
-        ≡ boolean_in (evaluate_bound (of_rows_alone rows) bound.now) }
-    ensures of_columns { reads_places bound.now ≡ true → result ≡ None }
-{
-    if reads_columns(bound) {
-        return None;
-    }
-    truth_of(value_of(bound, &RowsAlone { rows }))
-}
-
-// A column inside a placeholder doesn't count.
-fn reads_columns(e: &BoundExpression) -> bool
-    ensures { result ≡ reads_places e.now }
-{
-    match &e.node {
-        BoundNode::Literal(_) => false,
-        BoundNode::Column(_) => true,
-        BoundNode::Compare(_, x, y) => reads_columns(x) || reads_columns(y),
-        BoundNode::And(x, y) => reads_columns(x) || reads_columns(y),
-        BoundNode::Or(x, y) => reads_columns(x) || reads_columns(y),
-        BoundNode::Not(x) => reads_columns(x),
-        BoundNode::IsNull(x) => reads_columns(x),
-        BoundNode::IsNotNull(x) => reads_columns(x),
-        BoundNode::Between(x, lower, upper, _) => {
-            reads_columns(x) || reads_columns(lower) || reads_columns(upper)
-        }
-        BoundNode::Like(x, pattern, _) => reads_columns(x) || reads_columns(pattern),
-        BoundNode::RowCount => false,
-        BoundNode::Stat(_, _) => false,
     }
 }

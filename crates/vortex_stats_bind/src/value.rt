@@ -3,7 +3,7 @@
 //! What is no truth value counts as null under AND, OR and NOT, and null compares with nothing.
 ghost use Rattle.std.specs.Prelude.{◌≡◌, pos, option_copied};
 ghost use Rattle.vortex_model.specs.Content.{content_of, integer, is_null, text};
-ghost use Rattle.vortex_model.specs.Truth.{compared, end_of, kleene_and, kleene_not, kleene_or, liked};
+ghost use Rattle.vortex_model_table.specs.Truth.{compared, end_of, kleene_and, kleene_not, kleene_or, liked};
 ghost use Rattle.vortex_scalar_value.specs.View.{raw_of, content_at};
 ghost use Rattle.vortex_stats_bind.specs.OperandValue.{operand_value, truth_content, boolean_in, text_in, order_of};
 ghost use Rattle.vortex_stats_expr.specs.Tree.{comparison_of, is_strict};

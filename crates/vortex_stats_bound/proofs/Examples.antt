@@ -2,7 +2,7 @@
 use Rattle.std.proofs.Common.{◌≡◌, refl, ℕ, Some, None}
 use Rattle.std.specs.Ordering.{nat_cmp, as_partial_cmp}
 use Rattle.std.specs.declared.cmp.Ordering.TheVariants.{Equal, Greater}
-use Rattle.vortex_model.specs.Statistics.{Precision, exact, inexact, absent}
+use Rattle.vortex_model_table.specs.Statistics.{Precision, exact, inexact, absent}
 use Rattle.vortex_stats_bound.specs.Order.{Comparison}
 use Rattle.vortex_stats_bound.specs.Precision.{precision_zip}
 use Rattle.vortex_stats_bound.specs.Bounds.{Union, Intersection, union_lower, union_upper, union_plain, intersection_lower, intersection_upper, intersection_plain, cmp_lower, cmp_upper}

@@ -5,7 +5,7 @@ use Rattle.std.specs.declared.cmp.Ordering.TheVariants.{Equal}
 use Rattle.vortex_model.specs.LogicalType.{bare, stored, equal_ignoring_nullability}
 use Rattle.vortex_model.specs.Valid.{IsContent}
 use Rattle.vortex_model.specs.Order.{content_cmp}
-use Rattle.vortex_model.proofs.Chains.{tied}
+use Rattle.vortex_model_table.proofs.Chains.{tied}
 use Rattle.vortex_model.proofs.Contents.{said}
 use Rattle.vortex_model.proofs.Tests.{kind_so, has_so}
 use Rattle.vortex_dtype_fields.proofs.Lawful.{equal_equiv}

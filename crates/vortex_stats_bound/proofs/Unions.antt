@@ -5,7 +5,7 @@ use Rattle.std.specs.declared.cmp.Ordering.{Ordering}
 use Rattle.std.specs.declared.cmp.Ordering.TheVariants.{Less, Equal, Greater}
 use Rattle.std.specs.Ordering.{ordering_reverse, is_gt, is_eq, flip_args, is_some_and}
 use Rattle.std.specs.Cmp.{po_right}
-use Rattle.vortex_model.specs.Statistics.{Precision, exact, inexact, absent}
+use Rattle.vortex_model_table.specs.Statistics.{Precision, exact, inexact, absent}
 use Rattle.vortex_stats_bound.specs.Order.{Comparison, ties, IsLawful}
 use Rattle.vortex_stats_bound.specs.Bounds.{first_unless_greater, lesser, lesser_of_both, union_lower, union_upper}
 use Rattle.vortex_stats_bound.specs.Laws.{AreAlike, Agree, Commutes, ComparesInGroups, Passes, Associates}

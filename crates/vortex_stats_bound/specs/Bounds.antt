@@ -4,7 +4,7 @@ use Rattle.std.specs.Prelude.{Option, Some, None, option_map, if◌then◌else�
 use Rattle.std.specs.declared.cmp.Ordering.{Ordering}
 use Rattle.std.specs.declared.cmp.Ordering.TheVariants.{Less, Greater}
 use Rattle.std.specs.Ordering.{is_eq, is_lt, is_gt, flip_args}
-use Rattle.vortex_model.specs.Statistics.{Precision, exact, inexact, absent}
+use Rattle.vortex_model_table.specs.Statistics.{Precision, exact, inexact, absent}
 use Rattle.vortex_stats_bound.specs.Precision.{precision_of}
 use Rattle.vortex_stats_bound.specs.Order.{Comparison}
 use Rattle.vortex_stats_bound.specs.declared.bound.LowerBound.{LowerBound}

@@ -2,7 +2,7 @@
 use Rattle.std.specs.Prelude.{◌≡◌, ◌⊎◌, Bool, true, Option, Some, None, is_some}
 use Rattle.std.specs.Option.{ForSome, option_and_then}
 use Rattle.std.specs.declared.cmp.Ordering.TheVariants.{Equal}
-use Rattle.vortex_model.specs.Statistics.{Precision}
+use Rattle.vortex_model_table.specs.Statistics.{Precision}
 use Rattle.vortex_stats_bound.specs.Precision.{known_value, Maps}
 use Rattle.vortex_stats_bound.specs.Order.{Comparison}
 use Rattle.vortex_stats_bound.specs.Bounds.{Union}

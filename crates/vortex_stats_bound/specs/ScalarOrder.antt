@@ -7,7 +7,7 @@ use Rattle.std.specs.Bool.{Decides}
 use Rattle.std.proofs.Common.{ap, ◌∙◌}
 use Rattle.vortex_model.specs.LogicalType.{equal_ignoring_nullability}
 use Rattle.vortex_model.specs.Order.{content_cmp, scalar_cmp}
-use Rattle.vortex_model.proofs.Chains.{tied}
+use Rattle.vortex_model_table.proofs.Chains.{tied}
 use Rattle.vortex_dtype_fields.proofs.Lawful.{equal_equiv}
 use Rattle.vortex_scalar_ops.specs.Equality.{has_variant}
 use Rattle.vortex_scalar_ops.proofs.Ordered.{reversed, chains}

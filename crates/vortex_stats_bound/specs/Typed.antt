@@ -3,7 +3,7 @@ use Rattle.std.specs.Prelude.{◌≡◌, Bool, true}
 use Rattle.vortex_model.specs.LogicalType.{LogicalType}
 use Rattle.vortex_model.specs.Content.{Raw}
 use Rattle.vortex_model.specs.Valid.{valid}
-use Rattle.vortex_model.specs.Statistics.{Precision, exact, inexact, absent}
+use Rattle.vortex_model_table.specs.Statistics.{Precision, exact, inexact, absent}
 use Rattle.vortex_scalar_core.specs.Scalar.{scalar_type}
 use Rattle.vortex_scalar_core.specs.declared.scalar.Scalar.{Scalar}
 

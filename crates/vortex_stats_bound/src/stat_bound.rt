@@ -1,7 +1,7 @@
 //! What can be known of a statistic of two sets of values, from what is known of each.
 ghost use Rattle.std.specs.Prelude.{◌≡◌, option_map};
 ghost use Rattle.std.specs.Option.{option_copied};
-ghost use Rattle.vortex_model.specs.Statistics.{Precision as Known};
+ghost use Rattle.vortex_model_table.specs.Statistics.{Precision as Known};
 ghost use Rattle.vortex_stats_stat.specs.declared.stat.Stat.{Stat};
 ghost use Rattle.vortex_stats_bound.specs.Precision.{precision_of, exact_value, if_known};
 ghost use Rattle.vortex_stats_bound.specs.Bounds.{

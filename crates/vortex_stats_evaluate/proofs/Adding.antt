@@ -3,7 +3,7 @@ use Rattle.std.proofs.Common.{◌≡◌, ◌≢◌, refl, sym, ap, ◌∙◌, �
 use Rattle.std.specs.Prelude.{is_some, option_and_then}
 use Rattle.vortex_model.specs.LogicalType.{LogicalType}
 use Rattle.vortex_model.specs.Path.{Names, Positions, positions, type_at, type_of_column}
-use Rattle.vortex_model.specs.Expression.{column}
+use Rattle.vortex_model_table.specs.Expression.{column}
 use Rattle.vortex_model_rules.specs.Faults.{ProofFault, unless, unknown_column, unequal_types, not_boolean, unsupported_aggregate, not_evaluable, reads_a_column, binding_fault}
 use Rattle.vortex_stats_set.specs.Valid.{are_valid_for}
 use Rattle.vortex_stats_stat.specs.declared.error.StatsError.{StatsError}

@@ -3,8 +3,8 @@ use Rattle.std.proofs.Common.{◌≡◌, refl, ◌∙◌, ℕ, List, true, false
 use Rattle.vortex_model.specs.LogicalType.{LogicalType}
 use Rattle.vortex_model.specs.Content.{Content, null}
 use Rattle.vortex_model.specs.Path.{Positions, positions, at}
-use Rattle.vortex_model.specs.Expression.{Expression, literal, column, compare, both, either, negation, is_null, is_not_null, is_nan, between, like, row_count, statistic, Aggregate}
-use Rattle.vortex_model.specs.Truth.{evaluate}
+use Rattle.vortex_model_table.specs.Expression.{Expression, literal, column, compare, both, either, negation, is_null, is_not_null, is_nan, between, like, row_count, statistic, Aggregate}
+use Rattle.vortex_model_table.specs.Truth.{evaluate}
 use Rattle.vortex_stats_bind.specs.Bound.{Bound, Provided, evaluate_bound, bound_of, bound_column, by_names}
 use Rattle.vortex_stats_evaluate.specs.declared.column.ColumnStats.{ColumnStats}
 use Rattle.vortex_stats_evaluate.specs.Scopes.{at_row, over_rows, given_at, given_over, told, told_at, told_by}

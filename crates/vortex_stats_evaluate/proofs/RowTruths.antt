@@ -5,10 +5,10 @@ use Rattle.std.proofs.lemmas.List.{map-append, take_more, take_all}
 use Rattle.std.specs.List.{zip}
 use Rattle.vortex_model.specs.Content.{Content, null, boolean, is_null}
 use Rattle.vortex_model.specs.Path.{Positions, at}
-use Rattle.vortex_model.specs.Scan.{saturated}
+use Rattle.vortex_model_table.specs.Scan.{saturated}
 use Rattle.vortex_arrays_model.specs.Layout.{Layout, len_of, content_at, rows_of}
 use Rattle.vortex_arrays_model.proofs.RowsLemmas.{row_at_position, row_count}
-use Rattle.vortex_model.specs.Truth.{compared, kleene_and, kleene_or, kleene_not, liked, end_of}
+use Rattle.vortex_model_table.specs.Truth.{compared, kleene_and, kleene_or, kleene_not, liked, end_of}
 use Rattle.vortex_stats_bind.specs.Bound.{Bound, fixed, place, test, each, some, opposite, null_test, value_test, range_test, match_test, count_of_rows, placeholder, bound_value, evaluate_bound}
 use Rattle.vortex_stats_bind.specs.OperandValue.{boolean_in}
 use Rattle.vortex_stats_bind.specs.Stats.{IsBinding, of_rows_alone}

@@ -5,11 +5,11 @@ use Rattle.std.specs.Prelude.{is_some, if◌then◌else◌, ◌==◌}
 use Rattle.std.specs.Option.{option_map_or}
 use Rattle.vortex_model.specs.LogicalType.{LogicalType}
 use Rattle.vortex_model.specs.Content.{Content, null}
-use Rattle.vortex_model.specs.Expression.{Aggregate}
+use Rattle.vortex_model_table.specs.Expression.{Aggregate}
 use Rattle.vortex_model.specs.Path.{Positions}
-use Rattle.vortex_model.specs.Statistics.{placeholder_value}
-use Rattle.vortex_model.specs.Typing.{type_of_aggregate}
-use Rattle.vortex_model.proofs.ContentOrder.{true_left, true_right}
+use Rattle.vortex_model_table.specs.Statistics.{placeholder_value}
+use Rattle.vortex_model_table.specs.Typing.{type_of_aggregate}
+use Rattle.vortex_model_table.proofs.ContentOrder.{true_left, true_right}
 use Rattle.vortex_dtype_core.specs.View.{type_of}
 use Rattle.vortex_stats_bind.specs.Bound.{Bound, place, place_of}
 use Rattle.vortex_stats_stat.specs.declared.error.StatsError.{StatsError}

@@ -1,6 +1,6 @@
 -- What a meter counts of rows and proofs.
 use Rattle.std.specs.Prelude.{ℕ, ◌+◌}
-use Rattle.vortex_model.specs.Scan.{saturated}
+use Rattle.vortex_model_table.specs.Scan.{saturated}
 use Rattle.vortex_stats_rules.specs.declared.meter.Meter.{Meter}
 
 -- after so many rows more

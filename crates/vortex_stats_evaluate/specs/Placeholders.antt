@@ -1,7 +1,7 @@
 -- Placeholders that are made of bound expressions.
 use Rattle.std.specs.Prelude.{◌≡◌, false, Some, None}
-use Rattle.vortex_model.specs.Expression.{Aggregate}
-use Rattle.vortex_model.specs.Typing.{type_of_aggregate}
+use Rattle.vortex_model_table.specs.Expression.{Aggregate}
+use Rattle.vortex_model_table.specs.Typing.{type_of_aggregate}
 use Rattle.vortex_dtype_core.specs.View.{type_of}
 use Rattle.vortex_stats_bind.specs.Bound.{placeholder}
 use Rattle.vortex_stats_stat.specs.declared.error.StatsError.{StatsError}

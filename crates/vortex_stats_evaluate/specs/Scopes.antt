@@ -3,10 +3,10 @@ use Rattle.std.specs.Prelude.{◌≡◌, ℕ, List, [], ◌∷◌, ◌++◌, Opt
 use Rattle.vortex_model.specs.LogicalType.{LogicalType}
 use Rattle.vortex_model.specs.Content.{Content, null}
 use Rattle.vortex_model.specs.Path.{Names, Positions, positions, at, eq_positions, type_of_column, column as column_value}
-use Rattle.vortex_model.specs.Expression.{Expression, column, Aggregate}
-use Rattle.vortex_model.specs.Statistics.{placeholder_value}
-use Rattle.vortex_model.specs.Truth.{Given}
-use Rattle.vortex_model.specs.Typing.{type_of_aggregate}
+use Rattle.vortex_model_table.specs.Expression.{Expression, column, Aggregate}
+use Rattle.vortex_model_table.specs.Statistics.{placeholder_value}
+use Rattle.vortex_model_table.specs.Truth.{Given}
+use Rattle.vortex_model_table.specs.Typing.{type_of_aggregate}
 use Rattle.vortex_dtype_core.specs.View.{type_of}
 use Rattle.vortex_scalar_value.specs.declared.scalar_value.ScalarValue.{ScalarValue}
 use Rattle.vortex_stats_bind.specs.Bound.{Bound, Provided, place}

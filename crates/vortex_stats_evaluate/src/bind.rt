@@ -1,9 +1,9 @@
 //! Expressions with their columns resolved.
 ghost use Rattle.std.specs.Prelude.{◌≡◌, ℕ, List, None, Some, IfOk, IfErr, OnOk};
 ghost use Rattle.vortex_model.specs.Content.{Content};
-ghost use Rattle.vortex_model.specs.Expression.{reads_columns};
-ghost use Rattle.vortex_model.specs.Truth.{evaluate, has_truth};
-ghost use Rattle.vortex_model.specs.Typing.{expression_type};
+ghost use Rattle.vortex_model_table.specs.Expression.{reads_columns};
+ghost use Rattle.vortex_model_table.specs.Truth.{evaluate, has_truth};
+ghost use Rattle.vortex_model_table.specs.Typing.{expression_type};
 ghost use Rattle.vortex_model_rules.specs.Faults.{binding_fault};
 ghost use Rattle.vortex_dtype_core.specs.View.{type_of};
 ghost use Rattle.vortex_stats_bind.specs.Bound.{Provided, evaluate_bound, by_names};
@@ -14,10 +14,10 @@ ghost use Rattle.vortex_stats_typing.specs.Typed.{IsReason};
 use std::alloc::Global;
 use vortex_dtype_core::dtype::DType;
 use vortex_stats_bind::bind::bind_proof;
-use vortex_stats_bind::bound::BoundExpression as BoundTree;
-use vortex_stats_expr::expression::{Expression, Node};
+use vortex_stats_bind::bound::BoundTree;
+use vortex_stats_expr::expression::Expression;
 use vortex_stats_stat::error::StatsError;
-use vortex_stats_typing::check::type_expression;
+use vortex_stats_typing::check::{reads_columns, type_expression};
 
 /// An expression over rows of one type whose columns are resolved, as Vortex's `BoundExpression`,
 /// with what its typing found.
@@ -66,26 +66,4 @@ pub fn bind(alloc: Global, e: &Expression, dtype: &DType) -> Result<BoundExpress
         has_truth: typed.has_truth,
         reads_columns: reads_columns(e),
     })
-}
-
-fn reads_columns(e: &Expression) -> bool
-    ensures { result ≡ reads_columns e.now }
-{
-    match &e.node {
-        Node::Literal(_) => false,
-        Node::Column(_) => true,
-        Node::Compare(_, x, y) => reads_columns(x) || reads_columns(y),
-        Node::And(x, y) => reads_columns(x) || reads_columns(y),
-        Node::Or(x, y) => reads_columns(x) || reads_columns(y),
-        Node::Not(x) => reads_columns(x),
-        Node::IsNull(x) => reads_columns(x),
-        Node::IsNotNull(x) => reads_columns(x),
-        Node::IsNan(x) => reads_columns(x),
-        Node::Between(x, lower, upper, _) => {
-            reads_columns(x) || reads_columns(lower) || reads_columns(upper)
-        }
-        Node::Like(x, pattern, _) => reads_columns(x) || reads_columns(pattern),
-        Node::RowCount => false,
-        Node::Stat(_, _) => false,
-    }
 }

@@ -12,37 +12,12 @@ ghost use Rattle.vortex_stats_evaluate.specs.Truths.{truth_by};
 use std::alloc::{AllocError, Global};
 use vortex_arrays_builder::rows::row_value;
 use vortex_arrays_core::array::ArrayRef;
-use vortex_arrays_struct::part::part_at_positions;
 use vortex_scalar_value::scalar_value::ScalarValue;
-use vortex_stats_bind::bound::{
-    BoundExpression as BoundTree, BoundNode, Operands, part_at, value_of,
-};
+use vortex_stats_bind::bound::{BoundNode, BoundTree, Operands, part_at, value_of};
 use vortex_stats_bind::value::{Value, read, truth_of};
-use vortex_stats_select::columns::Columns;
+use vortex_stats_select::columns::ArrayColumns;
 use vortex_stats_select::select::select;
 use vortex_stats_stat::aggregate::AggregateFn;
-
-// The rows of an array.
-#[derive(Clone, Copy)]
-struct ArrayColumns<'a> {
-    array: &'a ArrayRef,
-}
-
-impl Columns for ArrayColumns<'_> {
-    ghost use Rattle.vortex_arrays_model.specs.Layout.{rows_of};
-
-    ghost rows = { λ columns. rows_of columns.array.now };
-
-    #[tactic(auto, using(vortex_arrays_model::proofs::RowsLemmas::rows_said))]
-    fn len(&self) -> usize {
-        self.array.len()
-    }
-
-    #[tactic(auto, using(vortex_arrays_struct::proofs::Parts::part_rows))]
-    fn column(&self, alloc: Global, path: &[usize]) -> Result<Option<ArrayRef>, AllocError> {
-        part_at_positions(alloc, self.array, path)
-    }
-}
 
 // A row among so many, where `None` is null, as the source of its columns.
 #[derive(Drop)]

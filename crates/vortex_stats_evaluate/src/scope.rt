@@ -15,7 +15,7 @@ use vortex_arrays_core::array::ArrayRef;
 use vortex_dtype_core::dtype::DType;
 use vortex_dtype_ptype::field_names::FieldNames;
 use vortex_stats_bind::bind::column_positions;
-use vortex_stats_bind::bound::{BoundExpression as BoundTree, bound_literal};
+use vortex_stats_bind::bound::{BoundTree, bound_literal};
 use vortex_stats_bind::stats::StatBinder;
 use vortex_stats_expr::expression::col;
 use vortex_stats_provider::stat_scalar::stat_scalar;

@@ -2,7 +2,7 @@
 -- of a root.
 use Rattle.std.specs.Prelude.{Option, Some, None, Bool, true, false}
 use Rattle.vortex_model.specs.Path.{Names}
-use Rattle.vortex_model.specs.Expression.{Expression, literal, column, compare, both, either, negation, is_null, is_not_null, is_nan, between, like, row_count, statistic, Comparison, equal, not_equal, greater, at_least, less, at_most}
+use Rattle.vortex_model_table.specs.Expression.{Expression, literal, column, compare, both, either, negation, is_null, is_not_null, is_nan, between, like, row_count, statistic, Comparison, equal, not_equal, greater, at_least, less, at_most}
 use Rattle.vortex_stats_expr.specs.declared.operator.Operator.{Operator}
 use Rattle.vortex_stats_expr.specs.declared.operator.Operator.TheVariants as operator
 use Rattle.vortex_stats_expr.specs.declared.operator.Comparison as comparison

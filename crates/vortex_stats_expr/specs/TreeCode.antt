@@ -3,7 +3,7 @@ use Rattle.std.specs.Prelude.{◌≡◌, ℕ, ◌+◌, List}
 use Rattle.std.specs.Coded.{Coded, coded_bool, coded_list}
 use base.Stored.{Gv, gnum, gcons}
 use Rattle.std.proofs.Common.{ap, arith}
-use Rattle.vortex_model.specs.Expression.{Comparison, equal, not_equal, greater, at_least, less, at_most, Aggregate, min, max, sum, null_count, nan_count, size, min_max, all_null, all_non_null, all_nan, all_non_nan, Expression, literal, column, compare, both, either, negation, is_null, is_not_null, is_nan, between, like, row_count, statistic}
+use Rattle.vortex_model_table.specs.Expression.{Comparison, equal, not_equal, greater, at_least, less, at_most, Aggregate, min, max, sum, null_count, nan_count, size, min_max, all_null, all_non_null, all_nan, all_non_nan, Expression, literal, column, compare, both, either, negation, is_null, is_not_null, is_nan, between, like, row_count, statistic}
 use Rattle.vortex_stats_expr.specs.KindCode.{head, tail, tag, coded_bytes, type_code, type_inj}
 use Rattle.vortex_stats_expr.specs.ContentCode.{content_code, content_inj}
 

@@ -1,5 +1,5 @@
 -- The tree of a node, whose children are seen as theirs.
-use Rattle.vortex_model.specs.Expression.{Expression, literal, column, compare, both, either, negation, is_null, is_not_null, is_nan, between, like, row_count, statistic}
+use Rattle.vortex_model_table.specs.Expression.{Expression, literal, column, compare, both, either, negation, is_null, is_not_null, is_nan, between, like, row_count, statistic}
 use Rattle.vortex_scalar_core.specs.Scalar.{scalar_type, scalar_content}
 use Rattle.vortex_stats_expr.specs.declared.expression.Node.{Node}
 use Rattle.vortex_stats_expr.specs.declared.expression.Node.TheVariants.{Literal, Column, Compare, And, Or, Not, IsNull, IsNotNull, IsNan, Between, Like, RowCount, Stat}

@@ -3,8 +3,8 @@ use Rattle.std.specs.Prelude.{◌≡◌, ℕ, List, [], ◌∷◌, Option, Some,
 use Rattle.std.specs.Borrow.{Bor}
 use Rattle.vortex_model.specs.LogicalType.{LogicalType, boolean_type, integer_type, float, decimal, utf8, binary}
 use Rattle.vortex_model.specs.Path.{Names}
-use Rattle.vortex_model.specs.Command.{part_named}
-use Rattle.vortex_model.specs.Typing.{has_bounds}
+use Rattle.vortex_model_table.specs.Command.{part_named}
+use Rattle.vortex_model_table.specs.Typing.{has_bounds}
 use Rattle.vortex_dtype_ptype.specs.Numbers.{integral}
 use Rattle.vortex_dtype_ptype.specs.View.{number_kind_of}
 use Rattle.vortex_dtype_core.specs.View.{type_of}

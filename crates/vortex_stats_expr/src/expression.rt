@@ -3,7 +3,7 @@
 //! The functions here make them from the leaves up; `bind` tests one against a type before it is
 //! used on rows.
 ghost use Rattle.std.specs.Prelude.{◌≡◌, IfOk, IfSome, IfNone, None, []};
-ghost use Rattle.vortex_model.specs.Expression.{literal, column, compare, both, either, negation, is_null, is_not_null, is_nan, between, like, row_count, equal, not_equal, greater, at_least, less, at_most, statistic};
+ghost use Rattle.vortex_model_table.specs.Expression.{literal, column, compare, both, either, negation, is_null, is_not_null, is_nan, between, like, row_count, equal, not_equal, greater, at_least, less, at_most, statistic};
 ghost use Rattle.vortex_scalar_core.specs.Scalar.{scalar_type, scalar_content};
 ghost use Rattle.vortex_stats_expr.specs.Tree.{combined, comparison_of, is_strict, path_of, scalar_fn_of};
 ghost use Rattle.vortex_stats_stat.specs.Aggregate.{aggregate_of};
@@ -68,7 +68,7 @@ impl Drop for Node {
 }
 
 impl Model for Expression {
-    ghost use Rattle.vortex_model.specs.Expression.{Expression as Tree};
+    ghost use Rattle.vortex_model_table.specs.Expression.{Expression as Tree};
     ghost use Rattle.vortex_stats_expr.specs.TreeCode.{tree_code, size_of};
 
     ghost Value = { Tree };

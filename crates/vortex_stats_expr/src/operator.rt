@@ -1,6 +1,6 @@
 //! Operators between two expressions.
 ghost use Rattle.std.specs.Prelude.{◌≡◌};
-ghost use Rattle.vortex_model.specs.Truth.{test_of};
+ghost use Rattle.vortex_model_table.specs.Truth.{test_of};
 ghost use Rattle.vortex_stats_expr.specs.Tree.{comparison_of};
 
 use std::cmp::Ordering;

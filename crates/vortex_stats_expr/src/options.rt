@@ -1,6 +1,6 @@
 //! Options of BETWEEN and LIKE.
 ghost use Rattle.std.specs.Prelude.{◌≡◌};
-ghost use Rattle.vortex_model.specs.Truth.{end_of};
+ghost use Rattle.vortex_model_table.specs.Truth.{end_of};
 ghost use Rattle.vortex_stats_expr.specs.Tree.{comparison_of, is_strict};
 
 use crate::operator::Comparison;

@@ -3,7 +3,7 @@
 //! `stat` makes one for any aggregate function. Each is of a nullable type, and null where the
 //! statistic isn't known.
 ghost use Rattle.std.specs.Prelude.{◌≡◌, IfOk};
-ghost use Rattle.vortex_model.specs.Expression.{statistic, sum, null_count, nan_count, min_max, all_null, all_non_null, all_nan, all_non_nan};
+ghost use Rattle.vortex_model_table.specs.Expression.{statistic, sum, null_count, nan_count, min_max, all_null, all_non_null, all_nan, all_non_nan};
 
 use crate::expression::{Expression, stat};
 use std::alloc::{AllocError, Global};

@@ -1,7 +1,7 @@
 //! Classes of types: what predicates compare, and what has a least and a greatest value.
 ghost use Rattle.std.specs.Prelude.{◌≡◌, IfSome, IfNone, Some, None};
 ghost use Rattle.vortex_model.specs.Path.{position_in, part_at, type_of_column};
-ghost use Rattle.vortex_model.specs.Command.{part_named};
+ghost use Rattle.vortex_model_table.specs.Command.{part_named};
 ghost use Rattle.vortex_dtype_core.specs.View.{type_of};
 ghost use Rattle.vortex_stats_expr.specs.Types.{IsOfClass, IsClass, kind_at, along, step_along};
 

@@ -4,7 +4,7 @@ use Rattle.std.proofs.Math.IntN.{+ℤ_assoc, +ℤ_idl, +ℤ_idr}
 use Rattle.vortex_model.specs.LogicalType.{IntKind, u64, i64}
 use Rattle.vortex_model.specs.Content.{Content, Raw, raw_number}
 use Rattle.vortex_model.specs.Valid.{in_range, valid}
-use Rattle.vortex_model.specs.Statistics.{Precision, exact, inexact, absent, number_in, sum_of, IsHonestCount, IsHonestValue}
+use Rattle.vortex_model_table.specs.Statistics.{Precision, exact, inexact, absent, number_in, sum_of, IsHonestCount, IsHonestValue}
 use Rattle.vortex_stats_bound.specs.Typed.{is_precision_of}
 use Rattle.vortex_stats_stat.specs.Stats.{number_type}
 use Rattle.vortex_stats_set.specs.Merge.{within, added, merged_count, merged_sum}

@@ -6,13 +6,13 @@ use Rattle.std.specs.declared.cmp.Ordering.TheVariants.{Less, Equal, Greater}
 use Rattle.std.specs.Ordering.{is_le, is_lt, ordering_reverse}
 use Rattle.vortex_model.specs.Content.{Content, Raw, raw_boolean, content_of, is_null, equal_content}
 use Rattle.vortex_model.specs.Order.{content_cmp, is_known}
-use Rattle.vortex_model.specs.Statistics.{Precision, exact, inexact, absent, non_null, is_constant, is_at_most, is_below, in_turn, IsHonestValue}
-use Rattle.vortex_model.proofs.Chains.{tied, not_above_chain}
-use Rattle.vortex_model.proofs.ContentOrder.{reversed, true_left, true_right}
-use Rattle.vortex_model.proofs.Equality.{content_so, content_passes}
-use Rattle.vortex_model.proofs.Groups.{among_left, among_right}
-use Rattle.vortex_model.proofs.Honesty.{Among, all_among}
-use Rattle.vortex_model.proofs.Leasts.{at_most_both}
+use Rattle.vortex_model_table.specs.Statistics.{Precision, exact, inexact, absent, non_null, is_constant, is_at_most, is_below, in_turn, IsHonestValue}
+use Rattle.vortex_model_table.proofs.Chains.{tied, not_above_chain}
+use Rattle.vortex_model_table.proofs.ContentOrder.{reversed, true_left, true_right}
+use Rattle.vortex_model_table.proofs.Equality.{content_so, content_passes}
+use Rattle.vortex_model_laws.proofs.Groups.{among_left, among_right}
+use Rattle.vortex_model_laws.proofs.Honesty.{Among, all_among}
+use Rattle.vortex_model_laws.proofs.Leasts.{at_most_both}
 use Rattle.vortex_scalar_ops.specs.Equality.{eq_content}
 use Rattle.vortex_scalar_ops.proofs.EqualityLemmas.{eq_equiv}
 use Rattle.vortex_scalar_ops.proofs.Ordered.{alike}

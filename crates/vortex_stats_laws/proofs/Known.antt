@@ -2,7 +2,7 @@
 use Rattle.std.proofs.Common.{◌≡◌, ℕ, ◌==◌, ◌++◌, List, [], ◌∷◌, Some, None, Option, Bool, true, false, not, cond, if◌then◌else◌, map, refl, sym, ap, ◌∙◌, ◌||◌, inl, inr}
 use Rattle.std.proofs.lemmas.Bool.{cases_eq, eq-eqb, ne_eqb}
 use Rattle.vortex_model.specs.Content.{Raw}
-use Rattle.vortex_model.specs.Statistics.{Precision}
+use Rattle.vortex_model_table.specs.Statistics.{Precision}
 use Rattle.vortex_stats_stat.specs.declared.stat.Stat.{Stat}
 use Rattle.vortex_stats_stat.specs.declared.stat.Stat.TheVariants as stat
 use Rattle.vortex_stats_stat.specs.Stats.{number_of_stat}

@@ -4,8 +4,8 @@ use Rattle.std.specs.List.Sorted.{IsPermutation}
 use Rattle.std.proofs.Math.IntN.{+ℤ_assoc, +ℤ_comm}
 use Rattle.std.proofs.lemmas.List.Sorted.{IsPermutation-keeps}
 use Rattle.vortex_model.specs.Content.{Content, is_null}
-use Rattle.vortex_model.specs.Statistics.{non_null, number_in, sum_of}
-use Rattle.vortex_model.proofs.Honesty.{Among}
+use Rattle.vortex_model_table.specs.Statistics.{non_null, number_in, sum_of}
+use Rattle.vortex_model_laws.proofs.Honesty.{Among}
 
 -- A relation holds along each permutation if it is reflexive and transitive, and goes under a head
 -- and over an exchange of two heads.

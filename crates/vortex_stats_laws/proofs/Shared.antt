@@ -6,7 +6,7 @@ use Rattle.std.specs.declared.cmp.Ordering.{Ordering}
 use Rattle.std.specs.declared.cmp.Ordering.TheVariants.{Less, Equal, Greater}
 use Rattle.std.specs.Ordering.{is_eq, is_lt, flip_args}
 use Rattle.vortex_model.specs.Content.{Content, Raw, raw_number}
-use Rattle.vortex_model.specs.Statistics.{Precision, exact, inexact, absent, is_constant, is_sorted, is_strictly_sorted}
+use Rattle.vortex_model_table.specs.Statistics.{Precision, exact, inexact, absent, is_constant, is_sorted, is_strictly_sorted}
 use Rattle.vortex_stats_bound.specs.Order.{Comparison}
 use Rattle.vortex_stats_bound.specs.declared.intersection.IntersectionResult.{IntersectionResult}
 use Rattle.vortex_stats_bound.specs.declared.intersection.IntersectionResult.TheVariants.{Value, Empty}

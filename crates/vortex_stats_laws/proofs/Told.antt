@@ -5,8 +5,8 @@ use Rattle.std.specs.List.Sorted.{IsPermutation}
 use Rattle.std.proofs.lemmas.Bool.{eq-eqb}
 use Rattle.std.proofs.lemmas.List.Sorted.{IsPermutation-sym, sum_by-IsPermutation}
 use Rattle.vortex_model.specs.Content.{Content, Raw, raw_boolean, content_of, is_null}
-use Rattle.vortex_model.specs.Statistics.{Precision, inexact, absent, non_null, null_count_of, sum_of, is_constant, is_sorted, is_strictly_sorted, IsHonestValue}
-use Rattle.vortex_model.proofs.ContentOrder.{true_left, true_right}
+use Rattle.vortex_model_table.specs.Statistics.{Precision, inexact, absent, non_null, null_count_of, sum_of, is_constant, is_sorted, is_strictly_sorted, IsHonestValue}
+use Rattle.vortex_model_table.proofs.ContentOrder.{true_left, true_right}
 use Rattle.vortex_stats_bound.specs.Precision.{precision_map}
 use Rattle.vortex_stats_stat.specs.declared.stat.Stat.{Stat}
 use Rattle.vortex_stats_stat.specs.declared.stat.Stat.TheVariants as stat

@@ -9,7 +9,7 @@ use Rattle.std.proofs.lemmas.List.Elements.{filter-append}
 use Rattle.std.proofs.lemmas.List.Sums.{sum_by-append}
 use Rattle.vortex_model.specs.Content.{Content, content_of, is_null}
 use Rattle.vortex_model.specs.Order.{content_cmp, is_known}
-use Rattle.vortex_model.specs.Statistics.{non_null, null_count_of, sum_of, in_turn, is_at_most, is_below, IsHonestValue}
+use Rattle.vortex_model_table.specs.Statistics.{non_null, null_count_of, sum_of, in_turn, is_at_most, is_below, IsHonestValue}
 use Rattle.vortex_stats_bound.specs.Precision.{precision_map}
 use Rattle.vortex_stats_stat.specs.declared.stat.Stat.{Stat}
 use Rattle.vortex_stats_stat.specs.declared.stat.Stat.TheVariants as stat

@@ -2,9 +2,9 @@
 use Rattle.std.proofs.Common.{◌≡◌, refl, ap, Bool, true, false, ℕ, ℤ, List, [], ◌∷◌, map, replicate, length, Option, Some, None, ◌∙◌}
 use Rattle.std.specs.Ordering.{int_cmp, bool_cmp}
 use Rattle.vortex_model.specs.Content.{Content, null, boolean, integer, text, byte_string, tuple, tagged, scalar}
-use Rattle.vortex_model.specs.Expression.{Comparison}
+use Rattle.vortex_model_table.specs.Expression.{Comparison}
 use Rattle.vortex_model.specs.Order.{bytes_cmp}
-use Rattle.vortex_model.specs.Truth.{test_of, compared, is_true}
+use Rattle.vortex_model_table.specs.Truth.{test_of, compared, is_true}
 use Rattle.vortex_stats_bind.specs.OperandValue.{boolean_in}
 use Rattle.vortex_stats_mask.specs.Literals.{integer_in, text_in, bytes_in}
 

@@ -1,5 +1,7 @@
 pub mod Comparing
 pub mod Literals
+pub mod Orders
+pub mod RunLemmas
 pub mod SideBySide
 pub mod Shown
 pub mod Through

@@ -3,8 +3,8 @@ use Rattle.std.proofs.Common.{◌≡◌, refl, ap, Bool, true, false, ◌&&◌, 
 use Rattle.std.specs.List.{zip}
 use Rattle.std.specs.Borrow.{Bor}
 use Rattle.vortex_model.specs.Content.{Content, null}
-use Rattle.vortex_model.specs.Expression.{Comparison}
-use Rattle.vortex_model.specs.Truth.{compared, is_true}
+use Rattle.vortex_model_table.specs.Expression.{Comparison}
+use Rattle.vortex_model_table.specs.Truth.{compared, is_true}
 use Rattle.vortex_stats_mask.specs.Columns.{shown_at, shown, kept}
 
 tested_where_valid : (f : Content → Bool) → f null ≡ false → (vs : List Bool) (cs : List Content) → map f (map (λ p. shown_at p.0 p.1) (zip vs cs)) ≡ map (λ p. p.0 && p.1) (zip vs (map f cs))

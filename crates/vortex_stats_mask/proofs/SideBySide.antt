@@ -4,9 +4,9 @@ use Rattle.std.specs.List.{zip}
 use Rattle.std.specs.Borrow.{Bor}
 use Rattle.std.specs.Ordering.{int_cmp, bool_cmp}
 use Rattle.vortex_model.specs.Content.{Content, null, boolean, integer, text, byte_string}
-use Rattle.vortex_model.specs.Expression.{Comparison}
+use Rattle.vortex_model_table.specs.Expression.{Comparison}
 use Rattle.vortex_model.specs.Order.{bytes_cmp}
-use Rattle.vortex_model.specs.Truth.{test_of, compared, is_true}
+use Rattle.vortex_model_table.specs.Truth.{test_of, compared, is_true}
 use Rattle.std.proofs.lemmas.List.{length-map}
 use Rattle.std.proofs.lemmas.Slice.Zip.{length-zip}
 use Rattle.vortex_arrays_buffer.specs.PrimitiveBuffers.{integers_of}

@@ -5,9 +5,9 @@ use Rattle.std.specs.declared.cmp.Ordering.TheVariants.{Less, Equal, Greater}
 use Rattle.std.specs.Ordering.{ordering_reverse}
 use Rattle.vortex_model.specs.Content.{Content, null, boolean, integer, text, byte_string, tuple, tagged, scalar, is_null}
 use Rattle.vortex_model.specs.Order.{content_cmp}
-use Rattle.vortex_model.specs.Expression.{Comparison, equal, not_equal, greater, at_least, less, at_most}
-use Rattle.vortex_model.specs.Truth.{test_of, compared, kleene_and, kleene_or, kleene_not, is_true}
-use Rattle.vortex_model.proofs.ContentOrder.{reversed}
+use Rattle.vortex_model_table.specs.Expression.{Comparison, equal, not_equal, greater, at_least, less, at_most}
+use Rattle.vortex_model_table.specs.Truth.{test_of, compared, kleene_and, kleene_or, kleene_not, is_true}
+use Rattle.vortex_model_table.proofs.ContentOrder.{reversed}
 use Rattle.vortex_stats_mask.specs.Wanted.{is_wanted, joined_by, negated, swapped}
 
 -- ---- connectives

@@ -1,8 +1,8 @@
 -- Laws of wanted truths.
 use Rattle.std.specs.Prelude.{◌≡◌, Bool, false, not}
 use Rattle.vortex_model.specs.Content.{Content}
-use Rattle.vortex_model.specs.Expression.{Comparison}
-use Rattle.vortex_model.specs.Truth.{compared, kleene_and, kleene_or, kleene_not, is_true}
+use Rattle.vortex_model_table.specs.Expression.{Comparison}
+use Rattle.vortex_model_table.specs.Truth.{compared, kleene_and, kleene_or, kleene_not, is_true}
 use Rattle.vortex_stats_mask.specs.Wanted.{is_wanted, joined_by, negated, swapped}
 
 abbrev pub AndJoins : Type 0

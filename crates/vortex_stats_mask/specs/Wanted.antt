@@ -2,7 +2,7 @@
 use Rattle.std.specs.Prelude.{Bool, true, false, not, ◌&&◌, ◌||◌, List, map}
 use Rattle.std.specs.List.{zip}
 use Rattle.vortex_model.specs.Content.{Content, boolean}
-use Rattle.vortex_model.specs.Expression.{Comparison, equal, not_equal, greater, at_least, less, at_most}
+use Rattle.vortex_model_table.specs.Expression.{Comparison, equal, not_equal, greater, at_least, less, at_most}
 
 -- that truth, which neither null nor the other is
 abbrev pub is_wanted : Bool → Content → Bool

@@ -2,7 +2,7 @@
 ghost use Rattle.std.specs.Prelude.{◌≡◌, map, IfOk};
 ghost use Rattle.std.specs.Ordering.{bool_cmp};
 ghost use Rattle.vortex_model.specs.Content.{boolean, integer, text, byte_string};
-ghost use Rattle.vortex_model.specs.Truth.{compared, is_true, test_of};
+ghost use Rattle.vortex_model_table.specs.Truth.{compared, is_true, test_of};
 ghost use Rattle.vortex_arrays_buffer.specs.PrimitiveBuffers.{integers_of};
 ghost use Rattle.vortex_scalar_value.specs.View.{content_at};
 ghost use Rattle.vortex_stats_expr.specs.Tree.{comparison_of};

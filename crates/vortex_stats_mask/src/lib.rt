@@ -8,5 +8,6 @@ mod literal;
 pub mod masks;
 pub mod numbers;
 pub mod pairs;
+mod runs;
 pub mod strings;
 pub mod turned;

@@ -2,11 +2,12 @@
 ghost use Rattle.std.specs.Prelude.{◌≡◌, map, IfOk};
 ghost use Rattle.std.specs.Ordering.{int_cmp};
 ghost use Rattle.std.specs.List.{zip};
-ghost use Rattle.vortex_model.specs.Truth.{test_of};
+ghost use Rattle.vortex_model_table.specs.Truth.{test_of};
 ghost use Rattle.vortex_arrays_buffer.specs.PrimitiveBuffers.{integers_of};
 ghost use Rattle.vortex_scalar_value.specs.Numbers.{integer_of};
 ghost use Rattle.vortex_stats_expr.specs.Tree.{comparison_of};
 
+use crate::runs::test_rows;
 use std::alloc::{AllocError, Global};
 use vortex_arrays_buffer::primitive_buffer::PrimitiveBuffer;
 use vortex_dtype_native::native::NativePType;
@@ -31,6 +32,28 @@ pub fn compare_to<T: NativePType>(
         Comparison::Gte => xs.iter().map(|x| x.total_compare(k).is_ge()).collect(alloc),
         Comparison::Lt => xs.iter().map(|x| x.total_compare(k).is_lt()).collect(alloc),
         Comparison::Lte => xs.iter().map(|x| x.total_compare(k).is_le()).collect(alloc),
+    }
+}
+
+// Which numbers of eight bytes stand so to a number of their kind. A vector register has room for
+// two of them only, so that it is faster to compare each by itself.
+fn compare_long<T: NativePType>(
+    alloc: Global,
+    comparison: Comparison,
+    xs: &[T],
+    k: T,
+) -> Result<Vec<bool>, AllocError>
+    ensures { IfOk result (λ mask. mask.items
+        ≡ map (λ x. test_of (comparison_of comparison) (int_cmp (T.integer x) (T.integer k)))
+        xs.now) }
+{
+    match comparison {
+        Comparison::Eq => test_rows(alloc, xs.len(), |i| xs[i].total_compare(k).is_eq()),
+        Comparison::NotEq => test_rows(alloc, xs.len(), |i| xs[i].total_compare(k).is_ne()),
+        Comparison::Gt => test_rows(alloc, xs.len(), |i| xs[i].total_compare(k).is_gt()),
+        Comparison::Gte => test_rows(alloc, xs.len(), |i| xs[i].total_compare(k).is_ge()),
+        Comparison::Lt => test_rows(alloc, xs.len(), |i| xs[i].total_compare(k).is_lt()),
+        Comparison::Lte => test_rows(alloc, xs.len(), |i| xs[i].total_compare(k).is_le()),
     }
 }
 
@@ -84,6 +107,22 @@ fn compare_any<T: NativePType>(
     }
 }
 
+fn compare_any_long<T: NativePType>(
+    alloc: Global,
+    comparison: Comparison,
+    xs: &[T],
+    number: PValue,
+) -> Result<Vec<bool>, AllocError>
+    ensures { IfOk result (λ mask. mask.items
+        ≡ map (λ x. test_of (comparison_of comparison) (int_cmp (T.integer x) (integer_of number)))
+        xs.now) }
+{
+    match T::of(number.get()) {
+        Some(k) => compare_long(alloc, comparison, xs, k),
+        None => compare_wide(alloc, comparison, xs, number),
+    }
+}
+
 /// Which of the numbers stand so to a number. The kind is matched once.
 #[tactic(auto, using(crate::proofs::Through::numbers))]
 pub fn compare_numbers(
@@ -100,10 +139,10 @@ pub fn compare_numbers(
         PrimitiveBuffer::U8(xs) => compare_any(alloc, comparison, xs.as_slice(), number),
         PrimitiveBuffer::U16(xs) => compare_any(alloc, comparison, xs.as_slice(), number),
         PrimitiveBuffer::U32(xs) => compare_any(alloc, comparison, xs.as_slice(), number),
-        PrimitiveBuffer::U64(xs) => compare_any(alloc, comparison, xs.as_slice(), number),
+        PrimitiveBuffer::U64(xs) => compare_any_long(alloc, comparison, xs.as_slice(), number),
         PrimitiveBuffer::I8(xs) => compare_any(alloc, comparison, xs.as_slice(), number),
         PrimitiveBuffer::I16(xs) => compare_any(alloc, comparison, xs.as_slice(), number),
         PrimitiveBuffer::I32(xs) => compare_any(alloc, comparison, xs.as_slice(), number),
-        PrimitiveBuffer::I64(xs) => compare_any(alloc, comparison, xs.as_slice(), number),
+        PrimitiveBuffer::I64(xs) => compare_any_long(alloc, comparison, xs.as_slice(), number),
     }
 }

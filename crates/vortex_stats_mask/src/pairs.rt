@@ -4,7 +4,7 @@ ghost use Rattle.std.specs.List.{zip};
 ghost use Rattle.std.specs.Ordering.{int_cmp, bool_cmp};
 ghost use Rattle.vortex_model.specs.Content.{boolean, integer, text, byte_string};
 ghost use Rattle.vortex_model.specs.Order.{bytes_cmp};
-ghost use Rattle.vortex_model.specs.Truth.{compared, is_true, test_of};
+ghost use Rattle.vortex_model_table.specs.Truth.{compared, is_true, test_of};
 ghost use Rattle.vortex_arrays_buffer.specs.PrimitiveBuffers.{integers_of};
 ghost use Rattle.vortex_arrays_view.specs.Views.{value_of};
 ghost use Rattle.vortex_stats_expr.specs.Tree.{comparison_of};
@@ -13,7 +13,7 @@ ghost use Rattle.vortex_stats_mask.specs.Columns.{values_of, contents_of, column
 use crate::column::{Column, Items, Strings};
 use crate::masks::{keep_valid, no_rows};
 use crate::numbers::compare_each;
-use crate::strings::value_in;
+use crate::strings::{order, value_in};
 use bytes::Bytes;
 use std::alloc::{AllocError, Global};
 use vortex_arrays_buffer::element::Element;
@@ -131,7 +131,7 @@ fn pair_views(
 {
     xs.iter()
         .zip(ys.iter())
-        .map(|(x, y)| comparison.holds(value_in(x, x_buffers).cmp(value_in(y, y_buffers))))
+        .map(|(x, y)| comparison.holds(order(value_in(x, x_buffers), value_in(y, y_buffers))))
         .collect(alloc)
 }
 

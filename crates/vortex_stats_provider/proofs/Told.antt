@@ -3,10 +3,10 @@ use Rattle.std.proofs.Common.{◌≡◌, refl, sym, ap, subst, ◌∙◌, ℕ, p
 use Rattle.std.specs.Option.{ForSome, option_map_or}
 use Rattle.vortex_model.specs.LogicalType.{LogicalType, null_only, boolean_type, integer_type, float, decimal, utf8, binary, list, fixed_list, mapping, struct, union, variant, extension, u8, u16, u32, u64, i8, i16, i32, i64, f64, nullable, with_nullability, eq_int_kind}
 use Rattle.vortex_model.specs.Content.{Content, integer, Raw, raw_null, raw_boolean, raw_number, raw_text, raw_byte_string, raw_tuple, raw_tagged, raw_scalar, content_of}
-use Rattle.vortex_model.specs.Statistics.{Precision, exact, inexact, absent, shown, shown_number, shown_size}
-use Rattle.vortex_model.specs.Typing.{type_of_sum, type_of_bound, bounds_record, count_type, is_float}
+use Rattle.vortex_model_table.specs.Statistics.{Precision, exact, inexact, absent, shown, shown_number, shown_size}
+use Rattle.vortex_model_table.specs.Typing.{type_of_sum, type_of_bound, bounds_record, count_type, is_float}
 use Rattle.vortex_model.specs.Valid.{valid, in_range}
-use Rattle.vortex_model.proofs.ContentOrder.{true_right}
+use Rattle.vortex_model_table.proofs.ContentOrder.{true_right}
 use Rattle.vortex_scalar_convert.specs.Reading.{reads_number}
 use Rattle.vortex_scalar_ops.proofs.Nullable.{nullable_has, null_is_there}
 use Rattle.vortex_scalar_core.specs.Scalar.{scalar_type}

@@ -2,7 +2,7 @@
 use Rattle.std.specs.Prelude.{◌≡◌, ◌≢◌, Bool, true, false, Option, Some, None}
 use Rattle.std.specs.Option.{option_map_or}
 use Rattle.vortex_model.specs.LogicalType.{LogicalType}
-use Rattle.vortex_model.specs.Expression.{Aggregate, min, max, sum, null_count, nan_count, size, min_max, all_null, all_non_null, all_nan, all_non_nan}
+use Rattle.vortex_model_table.specs.Expression.{Aggregate, min, max, sum, null_count, nan_count, size, min_max, all_null, all_non_null, all_nan, all_non_nan}
 use Rattle.vortex_stats_stat.specs.declared.error.StatsError.{StatsError}
 use Rattle.vortex_stats_stat.specs.declared.error.StatsError.TheVariants.{UnsupportedAggregate, InvalidStat}
 use Rattle.vortex_stats_stat.specs.declared.stat.Stat.{Stat}

@@ -2,7 +2,6 @@
 //! statistics, and the values of placeholders.
 #![tactic(auto)]
 
-pub mod aggregate_dtype;
 pub mod markers;
 pub mod provider;
 pub mod provider_ext;

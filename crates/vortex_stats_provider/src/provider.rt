@@ -3,7 +3,7 @@ ghost use Rattle.std.specs.Prelude.{◌≡◌, ◌≢◌, ℕ, true, false, leng
 ghost use Rattle.std.specs.Option.{ForSome};
 ghost use Rattle.vortex_model.specs.LogicalType.{LogicalType};
 ghost use Rattle.vortex_model.specs.Content.{Raw};
-ghost use Rattle.vortex_model.specs.Statistics.{Precision as Known};
+ghost use Rattle.vortex_model_table.specs.Statistics.{Precision as Known};
 ghost use Rattle.vortex_dtype_core.specs.View.{type_of};
 ghost use Rattle.vortex_scalar_core.specs.Scalar.{scalar_raw};
 ghost use Rattle.vortex_stats_bound.specs.Precision.{precision_of, precision_map, is_absent};

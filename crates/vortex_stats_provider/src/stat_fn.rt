@@ -1,8 +1,12 @@
 //! The function of placeholders, and what it is asked for.
 ghost use Rattle.std.specs.Prelude.{◌≡◌, Some};
+ghost use Rattle.std.specs.Cmp.Rules.{hashing};
+ghost use Rattle.std.specs.Hash as fed;
+ghost use Rattle.std.proofs.Common.{rules};
 ghost use Rattle.vortex_stats_provider.specs.Names.{name_of_aggregate};
 
 use std::fmt;
+use std::hash::{Hash, Hasher};
 use vortex_stats_stat::aggregate::AggregateFn;
 
 /// The function of a placeholder for a statistic, `ScalarFnId::Stat`. It is a name alone: `stat`
@@ -59,5 +63,15 @@ impl fmt::Display for StatOptions {
 
     fn fmt<W: fmt::Write>(&self, f: &mut fmt::Formatter<W>) -> fmt::Result {
         f.write_str(name(self.aggregate))
+    }
+}
+
+impl Hash for StatOptions {
+    ghost hash_input = { λ options. fed.str (name_of_aggregate options.aggregate) };
+
+    ghost respects_eq = { Prim.search (hashing, rules) };
+
+    fn hash<H: Hasher>(&self, state: &mut H) {
+        name(self.aggregate).hash(state);
     }
 }

@@ -2,9 +2,9 @@
 ghost use Rattle.std.specs.Prelude.{◌≡◌, ◌≢◌, true, false, Some, IfOk, IfErr, IsTrue};
 ghost use Rattle.std.specs.Option.{ForSome};
 ghost use Rattle.vortex_model.specs.LogicalType.{integer_type, boolean_type, u64, nullable, with_nullability};
-ghost use Rattle.vortex_model.specs.Typing.{type_of_aggregate};
+ghost use Rattle.vortex_model_table.specs.Typing.{type_of_aggregate};
 ghost use Rattle.vortex_model.specs.Valid.{valid};
-ghost use Rattle.vortex_model.specs.Statistics.{shown, shown_count, all_counted, none_counted, placeholder_value};
+ghost use Rattle.vortex_model_table.specs.Statistics.{shown, shown_count, all_counted, none_counted, placeholder_value};
 ghost use Rattle.vortex_dtype_core.specs.View.{type_of};
 ghost use Rattle.vortex_scalar_value.specs.View.{raw_in, content_in};
 ghost use Rattle.vortex_scalar_core.specs.Scalar.{scalar_type, scalar_content};
@@ -19,7 +19,6 @@ ghost use Rattle.vortex_stats_set.specs.Valid.{is_known_of};
 ghost use Rattle.vortex_stats_provider.specs.Placeholders.{is_tellable, IsStatFault, IsCountOfRows};
 ghost use Rattle.vortex_stats_provider.specs.Reading.{said};
 
-use crate::aggregate_dtype::aggregate_dtype;
 use crate::provider::StatsProvider;
 use crate::provider_ext::StatsProviderExt;
 use std::alloc::Global;
@@ -31,6 +30,7 @@ use vortex_stats_bound::precision::Precision;
 use vortex_stats_set::stats_set::StatsSet;
 use vortex_stats_set::typed::TypedStatsSetRef;
 use vortex_stats_stat::aggregate::AggregateFn;
+use vortex_stats_stat::aggregate_dtype::aggregate_dtype;
 use vortex_stats_stat::error::StatsError;
 use vortex_stats_stat::stat::Stat;
 

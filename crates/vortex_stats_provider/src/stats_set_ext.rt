@@ -1,7 +1,7 @@
 //! Statistics of a set read as native values.
 ghost use Rattle.std.specs.Prelude.{◌≡◌, ◌≢◌, Some, true, false, IfOk, IfErr};
 ghost use Rattle.vortex_model.specs.Content.{Raw};
-ghost use Rattle.vortex_model.specs.Statistics.{Precision as Known};
+ghost use Rattle.vortex_model_table.specs.Statistics.{Precision as Known};
 ghost use Rattle.vortex_dtype_core.specs.View.{type_of};
 ghost use Rattle.vortex_stats_bound.specs.Precision.{precision_of, precision_map};
 ghost use Rattle.vortex_stats_stat.specs.declared.error.StatsError.TheVariants.{Memory, InvalidStat};

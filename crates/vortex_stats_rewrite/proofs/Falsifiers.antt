@@ -2,8 +2,8 @@
 use Rattle.std.proofs.Common.{◌≡◌, List, [], Bool, true, false, not, ◌&&◌, refl, if◌then◌else◌}
 use Rattle.vortex_model.specs.LogicalType.{LogicalType}
 use Rattle.vortex_model.specs.Content.{Content, boolean}
-use Rattle.vortex_model.specs.Expression.{Expression, literal, Comparison}
-use Rattle.vortex_model.specs.Rewrite.{as_list, is_comparable, is_float_placeholder, comparison_falsifier, comparison_falsifiers, falsifiers, satisfiers}
+use Rattle.vortex_model_table.specs.Expression.{Expression, literal, Comparison}
+use Rattle.vortex_model_table.specs.Rewrite.{as_list, is_comparable, is_float_placeholder, comparison_falsifier, comparison_falsifiers, falsifiers, satisfiers}
 use Rattle.vortex_stats_rewrite.specs.Literals.{literal_falsifier, literal_satisfier}
 use Rattle.vortex_stats_rewrite.specs.Guards.{kept_from_nan}
 

@@ -1,10 +1,10 @@
 -- Proofs that no value is a text, or begins so.
 use Rattle.std.proofs.Common.{◌≡◌, ℕ, List, Option, Some, None, option_map, sym, ap, ◌∙◌, chars, IsUtf8}
 use Rattle.std.proofs.lemmas.Str.{encodes-chars}
-use Rattle.vortex_model.specs.Bounds.{IsRaise, raise}
-use Rattle.vortex_model.specs.Expression.{Expression, greater, at_least}
-use Rattle.vortex_model.specs.Rewrite.{exact_text, beginning, shape_falsifier, outside}
-use Rattle.vortex_model.proofs.BoundFunctions.{raise_by_function}
+use Rattle.vortex_model_table.specs.Bounds.{IsRaise, raise}
+use Rattle.vortex_model_table.specs.Expression.{Expression, greater, at_least}
+use Rattle.vortex_model_table.specs.Rewrite.{exact_text, beginning, shape_falsifier, outside}
+use Rattle.vortex_model_laws.proofs.BoundFunctions.{raise_by_function}
 use Rattle.vortex_scalar_truncation.proofs.Raised.{raise_same}
 
 pub outside_text : (x : Expression) (t : List ℕ) → IsUtf8 t → Some (outside x t t greater) ≡ shape_falsifier x (exact_text (chars t))

@@ -1,7 +1,7 @@
 -- Proofs joined in rounds.
 use Rattle.std.proofs.Common.{◌≡◌, ℕ, zero, suc, ◌≤◌, ◌<◌, List, [], ◌∷◌, length, refl, sym, ap, ◌∙◌, arith}
-use Rattle.vortex_model.specs.Expression.{Expression}
-use Rattle.vortex_model.specs.Rewrite.{paired, rounds, first_of_list, joined_proofs}
+use Rattle.vortex_model_table.specs.Expression.{Expression}
+use Rattle.vortex_model_table.specs.Rewrite.{paired, rounds, first_of_list, joined_proofs}
 
 -- a round leaves no more, and fewer of two or more
 pub no_more : (es : List Expression) → length (paired es) ≤ length es

@@ -1,7 +1,7 @@
 -- Proofs from literals, by the truth values that they are.
 use Rattle.std.proofs.Common.{◌≡◌, refl, not, option_map}
 use Rattle.vortex_model.specs.Content.{content_of, Raw, raw_boolean}
-use Rattle.vortex_model.specs.Rewrite.{boolean_literal}
+use Rattle.vortex_model_table.specs.Rewrite.{boolean_literal}
 use Rattle.vortex_scalar_value.specs.Parts.{boolean_in}
 use Rattle.vortex_stats_rewrite.specs.Literals.{literal_falsifier, literal_satisfier}
 

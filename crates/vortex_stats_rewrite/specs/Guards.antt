@@ -1,7 +1,7 @@
 -- What keeps a proof from NaN.
 use Rattle.std.specs.Prelude.{List, [], ◌∷◌, Bool, ◌||◌, if◌then◌else◌}
-use Rattle.vortex_model.specs.Expression.{Expression}
-use Rattle.vortex_model.specs.Rewrite.{guarded, no_nan_by_count, no_nan_by_flag}
+use Rattle.vortex_model_table.specs.Expression.{Expression}
+use Rattle.vortex_model_table.specs.Rewrite.{guarded, no_nan_by_count, no_nan_by_flag}
 use Rattle.vortex_stats_rewrite.specs.declared.comparison.NanGuard.{NanGuard}
 use Rattle.vortex_stats_rewrite.specs.declared.comparison.NanGuard.TheVariants as guard
 

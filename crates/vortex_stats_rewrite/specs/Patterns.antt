@@ -1,6 +1,6 @@
 -- Signs and shapes of LIKE patterns, as the code has them.
 use Rattle.std.specs.Prelude.{◌≡◌, ◌⊎◌, ℕ, List, [], ◌∷◌, Option, Some, None, chars, string_bytes}
-use Rattle.vortex_model.specs.Rewrite.{Sign, letter, wildcard, signs_of, Shape, exact_text, beginning, no_shape}
+use Rattle.vortex_model_table.specs.Rewrite.{Sign, letter, wildcard, signs_of, Shape, exact_text, beginning, no_shape}
 use Rattle.vortex_stats_rewrite.specs.declared.like_variant.Sign as code
 use Rattle.vortex_stats_rewrite.specs.declared.like_variant.Sign.TheVariants as sign
 use Rattle.vortex_stats_rewrite.specs.declared.like_variant.LikeVariant as variants

@@ -6,9 +6,9 @@
 //! the flag, `BinaryAllNonNanStatsRewrite`.
 ghost use Rattle.std.specs.Prelude.{◌≡◌, IfOk, false, not, ◌||◌, ◌&&◌};
 ghost use Rattle.std.specs.Option.{option_map_or};
-ghost use Rattle.vortex_model.specs.Expression.{compare, both, between, equal, not_equal, min, max};
-ghost use Rattle.vortex_model.specs.Typing.{expression_type, has_bounds, is_of_floats};
-ghost use Rattle.vortex_model.specs.Rewrite.{bound_expression, is_comparable, is_float_placeholder, comparison_falsifier, comparison_falsifiers, guarded, no_nan_by_count, no_nan_by_flag, joined_proofs, falsifier};
+ghost use Rattle.vortex_model_table.specs.Expression.{compare, both, between, equal, not_equal, min, max};
+ghost use Rattle.vortex_model_table.specs.Typing.{expression_type, has_bounds, is_of_floats};
+ghost use Rattle.vortex_model_table.specs.Rewrite.{bound_expression, is_comparable, is_float_placeholder, comparison_falsifier, comparison_falsifiers, guarded, no_nan_by_count, no_nan_by_flag, joined_proofs, falsifier};
 ghost use Rattle.vortex_dtype_core.specs.View.{type_of};
 ghost use Rattle.vortex_stats_expr.specs.Tree.{comparison_of, is_strict};
 ghost use Rattle.vortex_stats_stat.specs.Aggregate.{aggregate_of};

@@ -1,6 +1,6 @@
 //! Several proofs in one.
 ghost use Rattle.std.specs.Prelude.{◌≡◌, [], ◌∷◌, ◌++◌, IfOk, OnOk};
-ghost use Rattle.vortex_model.specs.Rewrite.{as_list, paired, joined_proofs, either_there, both_there};
+ghost use Rattle.vortex_model_table.specs.Rewrite.{as_list, paired, joined_proofs, either_there, both_there};
 
 use std::alloc::{AllocError, Global};
 use vortex_stats_expr::expression::{Expression, and, or};

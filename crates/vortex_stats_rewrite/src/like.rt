@@ -1,7 +1,7 @@
 //! Proofs that a LIKE is true of no row.
 ghost use Rattle.std.specs.Prelude.{◌≡◌, Some, IfOk, chars, string_bytes};
-ghost use Rattle.vortex_model.specs.Expression.{at_least};
-ghost use Rattle.vortex_model.specs.Rewrite.{exact_text, beginning, shape_of, shape_falsifier, outside, like_falsifier};
+ghost use Rattle.vortex_model_table.specs.Expression.{at_least};
+ghost use Rattle.vortex_model_table.specs.Rewrite.{exact_text, beginning, shape_of, shape_falsifier, outside, like_falsifier};
 ghost use Rattle.vortex_stats_expr.specs.Tree.{comparison_of};
 
 use crate::like_variant::{LikeVariant, like_variant};

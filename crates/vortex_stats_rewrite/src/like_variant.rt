@@ -3,7 +3,7 @@
 //! A bare `%` or `_` is a wildcard. A backslash and the character behind it spell that character,
 //! `%`, `_` and the backslash too.
 ghost use Rattle.std.specs.Prelude.{◌≡◌, ◌∷◌, ◌++◌, [], map, chars, option_map, is_some, IsUtf8, string_bytes, length, ◌<◌, IfOk, IfSome, IfNone, MatchOption};
-ghost use Rattle.vortex_model.specs.Rewrite.{letter, sign_of, signs_of, shape_of};
+ghost use Rattle.vortex_model_table.specs.Rewrite.{letter, sign_of, signs_of, shape_of};
 ghost use Rattle.vortex_stats_rewrite.specs.Patterns.{sign_in, shape_in, IsUnsigned, StartsWithoutLetter};
 
 use std::alloc::{AllocError, Global};

@@ -1,8 +1,8 @@
 //! Proofs for IS NULL, IS NOT NULL and IS NAN. Each is made by the count and by the flag, since a
 //! binder may know only one of them.
 ghost use Rattle.std.specs.Prelude.{◌≡◌, IfOk};
-ghost use Rattle.vortex_model.specs.Expression.{compare, equal, is_nan, row_count};
-ghost use Rattle.vortex_model.specs.Rewrite.{count_literal, null_count_expression, nan_count_expression, no_nulls_proofs, only_nulls_proofs, falsifiers, satisfiers};
+ghost use Rattle.vortex_model_table.specs.Expression.{compare, equal, is_nan, row_count};
+ghost use Rattle.vortex_model_table.specs.Rewrite.{count_literal, null_count_expression, nan_count_expression, no_nulls_proofs, only_nulls_proofs, falsifiers, satisfiers};
 ghost use Rattle.vortex_dtype_core.specs.View.{type_of};
 
 use crate::joined::two;

@@ -28,7 +28,7 @@
 //! IS NAN has a proof of floats alone. A LIKE has one where its pattern is a literal, and where it
 //! is not negated and keeps case.
 ghost use Rattle.std.specs.Prelude.{◌≡◌, IfOk};
-ghost use Rattle.vortex_model.specs.Rewrite.{falsifier, satisfier, falsifiers, satisfiers, joined_proofs};
+ghost use Rattle.vortex_model_table.specs.Rewrite.{falsifier, satisfier, falsifiers, satisfiers, joined_proofs};
 ghost use Rattle.vortex_dtype_core.specs.View.{type_of};
 ghost use Rattle.vortex_scalar_core.specs.Scalar.{scalar_content};
 ghost use Rattle.vortex_stats_rewrite.specs.Literals.{literal_falsifier, literal_satisfier};

@@ -1,8 +1,8 @@
 //! Statistics of expressions, as proofs ask for them. Those of a literal are known; placeholders
 //! stand for all others.
 ghost use Rattle.std.specs.Prelude.{◌≡◌, IfOk};
-ghost use Rattle.vortex_model.specs.Expression.{statistic};
-ghost use Rattle.vortex_model.specs.Rewrite.{boolean_literal, count_literal, text_literal, bound_expression, null_count_expression, nan_count_expression};
+ghost use Rattle.vortex_model_table.specs.Expression.{statistic};
+ghost use Rattle.vortex_model_table.specs.Rewrite.{boolean_literal, count_literal, text_literal, bound_expression, null_count_expression, nan_count_expression};
 ghost use Rattle.vortex_stats_stat.specs.Aggregate.{aggregate_of};
 
 use std::alloc::{AllocError, Global};

@@ -1,7 +1,7 @@
 -- How many nodes of a tree of comparisons are handed to the rules.
 use Rattle.std.proofs.Common.{◌≡◌, refl, length, arith}
 use Rattle.std.proofs.lemmas.List.{length-append}
-use Rattle.vortex_model.specs.Expression.{Expression, compare, both, either}
+use Rattle.vortex_model_table.specs.Expression.{Expression, compare, both, either}
 use Rattle.vortex_model_rules.specs.Rules.{handed_over}
 use Rattle.vortex_stats_rules.specs.Visits.{IsOfComparisons, node_count}
 

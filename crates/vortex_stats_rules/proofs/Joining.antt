@@ -3,8 +3,8 @@ use Rattle.std.proofs.Common.{◌≡◌, ◌+◌, ◌<◌, ◌≤◌, ℕ, suc, 
 use Rattle.std.proofs.lemmas.List.{drop_all}
 use Rattle.std.specs.List.{list_any}
 use Rattle.vortex_model.specs.LogicalType.{LogicalType}
-use Rattle.vortex_model.specs.Expression.{Expression}
-use Rattle.vortex_model.specs.Rewrite.{as_list, joined_proofs}
+use Rattle.vortex_model_table.specs.Expression.{Expression}
+use Rattle.vortex_model_table.specs.Rewrite.{as_list, joined_proofs}
 use Rattle.vortex_model_rules.specs.Rules.{Answer, no_proof, proof, fault, is_fault, proofs_in, answer_of, joined_answers}
 use Rattle.vortex_stats_stat.specs.declared.error.StatsError.{StatsError}
 use Rattle.vortex_stats_stat.specs.declared.error.StatsError.TheVariants as error

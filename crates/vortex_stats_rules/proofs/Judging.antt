@@ -1,7 +1,7 @@
 -- Proofs that may be used, and those that are faults.
 use Rattle.std.proofs.Common.{◌≡◌, ◌≢◌, Option, Some, None, Err, refl, ap}
 use Rattle.vortex_model.specs.LogicalType.{LogicalType}
-use Rattle.vortex_model.specs.Expression.{Expression}
+use Rattle.vortex_model_table.specs.Expression.{Expression}
 use Rattle.vortex_model_rules.specs.Faults.{ProofFault, proof_fault}
 use Rattle.vortex_model_rules.specs.Rules.{Answer, proof, fault, judged}
 use Rattle.vortex_stats_stat.specs.declared.error.StatsError.{StatsError}

@@ -2,10 +2,10 @@
 use Rattle.std.proofs.Common.{◌≡◌, ℕ, ◌+◌, List, ◌∷◌, ◌++◌, length, map, Option, Some, None, Result, Bool, true, false, refl, sym, ap, ◌∙◌, subst, arith}
 use Rattle.std.proofs.lemmas.List.{length-append}
 use Rattle.vortex_model.specs.LogicalType.{LogicalType}
-use Rattle.vortex_model.specs.Expression.{Expression, compare, both, either, between}
-use Rattle.vortex_model.specs.Truth.{end_of}
-use Rattle.vortex_model.specs.Rewrite.{falsifiers, satisfiers, either_there, both_there}
-use Rattle.vortex_model.specs.Scan.{saturated}
+use Rattle.vortex_model_table.specs.Expression.{Expression, compare, both, either, between}
+use Rattle.vortex_model_table.specs.Truth.{end_of}
+use Rattle.vortex_model_table.specs.Rewrite.{falsifiers, satisfiers, either_there, both_there}
+use Rattle.vortex_model_table.specs.Scan.{saturated}
 use Rattle.vortex_model_rules.specs.Rules.{Rule, Answer, no_proof, proof, fault, answer_of, joined_answers, either_answer, both_answers, falsifier_alone, falsifier_of_and, fals, sat, handed_over}
 use Rattle.vortex_stats_stat.specs.declared.error.StatsError.{StatsError}
 use Rattle.vortex_stats_stat.specs.declared.error.StatsError.TheVariants as error

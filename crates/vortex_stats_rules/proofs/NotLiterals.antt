@@ -2,8 +2,8 @@
 use Rattle.std.proofs.Common.{◌≡◌, Bool, not, Option, Some, None, refl}
 use Rattle.vortex_model.specs.LogicalType.{LogicalType}
 use Rattle.vortex_model.specs.Content.{boolean, Raw, raw_boolean, content_of}
-use Rattle.vortex_model.specs.Expression.{Expression, literal, negation}
-use Rattle.vortex_model.specs.Rewrite.{boolean_literal}
+use Rattle.vortex_model_table.specs.Expression.{Expression, literal, negation}
+use Rattle.vortex_model_table.specs.Rewrite.{boolean_literal}
 use Rattle.vortex_model_rules.specs.Rules.{Answer, proof, no_proof}
 use Rattle.vortex_scalar_value.specs.Parts.{boolean_in}
 use Rattle.vortex_dtype_core.proofs.Views.{one_level as of_types}

@@ -1,7 +1,7 @@
 -- Which nodes are handed to a rule.
 use Rattle.std.proofs.Common.{◌≡◌, ◌≢◌, Bool, true, false, if◌then◌else◌, refl, sym, ap, ◌∙◌}
 use Rattle.vortex_model.specs.LogicalType.{LogicalType}
-use Rattle.vortex_model.specs.Expression.{Expression, literal, column, compare, both, either, negation, is_null, is_not_null, is_nan, between, like, row_count, statistic}
+use Rattle.vortex_model_table.specs.Expression.{Expression, literal, column, compare, both, either, negation, is_null, is_not_null, is_nan, between, like, row_count, statistic}
 use Rattle.vortex_model_rules.specs.Rules.{Rule, Root, Meaning, root_of, eq_root, no_proof, judged, asked}
 use Rattle.vortex_stats_expr.specs.Tree.{scalar_fn_of}
 use Rattle.vortex_stats_expr.specs.declared.scalar_fn.ScalarFnId.{ScalarFnId}

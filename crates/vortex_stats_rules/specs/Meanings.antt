@@ -1,7 +1,7 @@
 -- What callers' rules mean, and what their calls answer.
 use Rattle.std.specs.Prelude.{◌≡◌, List, map, Option, Some, None, Result, Ok, Err}
 use Rattle.vortex_model.specs.LogicalType.{LogicalType}
-use Rattle.vortex_model.specs.Expression.{Expression}
+use Rattle.vortex_model_table.specs.Expression.{Expression}
 use Rattle.vortex_model_rules.specs.Rules.{Rule, Root, of_literal, of_column, of_binary, of_between, of_not, of_is_null, of_is_not_null, of_is_nan, of_like, of_row_count, of_statistic, Answer, no_proof, proof, fault, answer_of, asked}
 use Rattle.vortex_model_rules.specs.Laws.{KeepsItsLaw}
 use Rattle.vortex_stats_expr.specs.declared.scalar_fn.ScalarFnId.{ScalarFnId}

@@ -3,10 +3,10 @@ use Rattle.std.proofs.Common.{◌≡◌, List, [], ◌∷◌, Bool, true, false,
 use Rattle.std.specs.List.{AllByRecursion}
 use Rattle.vortex_model.specs.LogicalType.{LogicalType}
 use Rattle.vortex_model.specs.Content.{Content, boolean}
-use Rattle.vortex_model.specs.Expression.{Expression, literal, negation}
-use Rattle.vortex_model.specs.Truth.{evaluate, Satisfies}
-use Rattle.vortex_model.specs.Rewrite.{boolean_literal}
-use Rattle.vortex_model.specs.Sound.{Placeholders, of_proof, IsSoundFalsifier, IsSoundSatisfier}
+use Rattle.vortex_model_table.specs.Expression.{Expression, literal, negation}
+use Rattle.vortex_model_table.specs.Truth.{evaluate, Satisfies}
+use Rattle.vortex_model_table.specs.Rewrite.{boolean_literal}
+use Rattle.vortex_model_table.specs.Sound.{Placeholders, of_proof, IsSoundFalsifier, IsSoundSatisfier}
 use Rattle.vortex_model_rules.specs.Rules.{Rule, Meaning, of_not, proof, no_proof, asked}
 use Rattle.vortex_stats_rules.specs.Meanings.{SoundRule}
 

@@ -1,7 +1,7 @@
 -- NOTs of truth literals.
 use Rattle.std.specs.Prelude.{Bool, Option, Some, None}
 use Rattle.vortex_model.specs.Content.{Content, boolean}
-use Rattle.vortex_model.specs.Expression.{Expression, literal, negation}
+use Rattle.vortex_model_table.specs.Expression.{Expression, literal, negation}
 
 abbrev pub truth_in : Content → Option Bool
 truth_in (boolean b) = Some b

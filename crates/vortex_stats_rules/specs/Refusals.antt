@@ -1,9 +1,9 @@
 -- Why a rewrite is refused.
 use Rattle.std.specs.Prelude.{◌≡◌, true, false}
 use Rattle.vortex_model.specs.LogicalType.{LogicalType}
-use Rattle.vortex_model.specs.Expression.{Expression}
-use Rattle.vortex_model.specs.Typing.{expression_type}
-use Rattle.vortex_model.specs.Command.{is_boolean}
+use Rattle.vortex_model_table.specs.Expression.{Expression}
+use Rattle.vortex_model_table.specs.Typing.{expression_type}
+use Rattle.vortex_model_table.specs.Command.{is_boolean}
 use Rattle.vortex_model_rules.specs.Rules.{Answer, fault}
 use Rattle.vortex_stats_stat.specs.declared.error.StatsError.{StatsError}
 use Rattle.vortex_stats_stat.specs.declared.error.StatsError.TheVariants as error

@@ -1,7 +1,7 @@
 -- What a meter counts of rewrites.
 use Rattle.std.specs.Prelude.{ℕ, ◌+◌, ⊤}
-use Rattle.vortex_model.specs.Expression.{Expression, compare, both, either}
-use Rattle.vortex_model.specs.Scan.{saturated}
+use Rattle.vortex_model_table.specs.Expression.{Expression, compare, both, either}
+use Rattle.vortex_model_table.specs.Scan.{saturated}
 use Rattle.vortex_stats_rules.specs.declared.meter.Meter.{Meter}
 
 abbrev pub unused : Meter

@@ -1,6 +1,6 @@
 //! What rules answer at a node, joined with the built-in proofs.
 ghost use Rattle.std.specs.Prelude.{◌≡◌, ◌∷◌, ◌++◌, List, map, IfOk, OnOk, IfErr};
-ghost use Rattle.vortex_model.specs.Rewrite.{joined_proofs};
+ghost use Rattle.vortex_model_table.specs.Rewrite.{joined_proofs};
 ghost use Rattle.vortex_model_rules.specs.Rules.{Answer, proof, joined_answers, answer_of, judged};
 ghost use Rattle.vortex_dtype_core.specs.View.{type_of};
 ghost use Rattle.vortex_stats_rules.specs.Meanings.{rules_of, IsAnswer, IsFault, IsJudged, asked_of, answers_to};

@@ -1,9 +1,9 @@
 //! Why proofs that are made with callers' rules may be believed. Each function's clause is a law.
 ghost use Rattle.std.specs.Prelude.{◌≡◌, length};
 ghost use Rattle.vortex_model.specs.LogicalType.{LogicalType};
-ghost use Rattle.vortex_model.specs.Expression.{Expression, HasFormedLiterals};
-ghost use Rattle.vortex_model.specs.Sound.{IsSoundFalsifier, IsSoundSatisfier};
-ghost use Rattle.vortex_model.specs.Truth.{HasTruth};
+ghost use Rattle.vortex_model_table.specs.Expression.{Expression, HasFormedLiterals};
+ghost use Rattle.vortex_model_table.specs.Sound.{IsSoundFalsifier, IsSoundSatisfier};
+ghost use Rattle.vortex_model_table.specs.Truth.{HasTruth};
 ghost use Rattle.vortex_model_rules.specs.Rules.{proof, fals, sat, handed_over};
 ghost use Rattle.vortex_stats_rules.specs.Meanings.{rules_of};
 ghost use Rattle.vortex_stats_rules.specs.Visits.{IsOfComparisons, node_count};

@@ -1,6 +1,6 @@
 //! Two rules for NOT, which has no built-in proofs: examples of rules that keep their law.
 ghost use Rattle.std.specs.Prelude.{◌≡◌};
-ghost use Rattle.vortex_model.specs.Rewrite.{boolean_literal};
+ghost use Rattle.vortex_model_table.specs.Rewrite.{boolean_literal};
 ghost use Rattle.vortex_scalar_core.specs.Scalar.{scalar_content};
 ghost use Rattle.vortex_stats_rules.specs.NotLiterals.{literal_truth, negated_truth, truth_in};
 

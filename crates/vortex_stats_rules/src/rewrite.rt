@@ -6,8 +6,8 @@
 //! and OR among the nodes that are handed over, and of each BETWEEN its AND with both comparisons;
 //! for `satisfy` the predicate alone.
 ghost use Rattle.std.specs.Prelude.{◌≡◌, length, IfOk, IfErr, OnOk};
-ghost use Rattle.vortex_model.specs.Expression.{compare};
-ghost use Rattle.vortex_model.specs.Truth.{end_of};
+ghost use Rattle.vortex_model_table.specs.Expression.{compare};
+ghost use Rattle.vortex_model_table.specs.Truth.{end_of};
 ghost use Rattle.vortex_model_rules.specs.Rules.{answer_of, falsifier_alone, falsifier_of_and, fals, sat, handed_over};
 ghost use Rattle.vortex_dtype_core.specs.View.{type_of};
 ghost use Rattle.vortex_stats_expr.specs.Tree.{is_strict};

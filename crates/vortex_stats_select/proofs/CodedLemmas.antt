@@ -5,8 +5,8 @@ use Rattle.std.specs.Prelude.{◌<ℤ◌, ◌≤ℤ◌}
 use Rattle.std.proofs.lemmas.Int.{ints}
 use Rattle.std.proofs.lemmas.List.{get_or_past}
 use Rattle.vortex_model.specs.Content.{Content, null, boolean, integer, text, byte_string, tuple, tagged, scalar}
-use Rattle.vortex_model.specs.Expression.{Comparison}
-use Rattle.vortex_model.specs.Truth.{compared, is_true, liked}
+use Rattle.vortex_model_table.specs.Expression.{Comparison}
+use Rattle.vortex_model_table.specs.Truth.{compared, is_true, liked}
 use Rattle.vortex_arrays_model.specs.Layout.{Layout, dictionary, len_of, content_at, rows_of, pick, IsCode}
 use Rattle.vortex_arrays_model.specs.Parts.{AreWithin}
 use Rattle.vortex_arrays_model.proofs.RowsLemmas.{row_at_position}

@@ -1,4 +1,6 @@
+pub mod AskedLemmas
 pub mod CodedLemmas
+pub mod KeptLemmas
 pub mod LeafLemmas
 pub mod LikeLemmas
 pub mod NullLemmas

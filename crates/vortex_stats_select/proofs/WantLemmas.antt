@@ -1,41 +1,19 @@
 -- The wanted truths of predicates by those of their parts.
-use Rattle.std.proofs.Common.{◌≡◌, refl, sym, ap, ◌∙◌, ℕ, Bool, true, false, not, List, length, map, replicate, Option, Some, None, option_map}
-use Rattle.std.specs.Prelude.{IfSome, Vec}
+use Rattle.std.proofs.Common.{◌≡◌, refl, sym, ap, ◌∙◌, ℕ, Bool, true, false, not, List, length, map, replicate}
 use Rattle.std.specs.List.{zip}
-use Rattle.std.specs.declared.alloc.Global.{Global}
 use Rattle.vortex_model.specs.Content.{Content, boolean, is_null}
 use Rattle.std.proofs.lemmas.List.{length-map}
 use Rattle.vortex_model.specs.Path.{Positions, at}
-use Rattle.vortex_model.specs.ZoneMap.{values_at}
-use Rattle.vortex_model.specs.Expression.{Comparison, equal}
-use Rattle.vortex_model.specs.Truth.{compared, kleene_and, kleene_or, is_true}
-use Rattle.vortex_stats_bind.specs.Bound.{Bound, each, some, opposite, value_test, bound_value}
-use Rattle.vortex_stats_mask.specs.Wanted.{is_wanted, joined_by}
-use Rattle.vortex_stats_mask.proofs.Truths.{wanted_of_and, wanted_of_or, wanted_of_not}
-use Rattle.vortex_stats_select.specs.Wants.{wanted_rows, joined_masks}
+use Rattle.vortex_model_table.specs.ZoneMap.{values_at}
+use Rattle.vortex_model_table.specs.Expression.{Comparison, equal}
+use Rattle.vortex_model_table.specs.Truth.{compared, is_true}
+use Rattle.vortex_stats_bind.specs.Bound.{Bound, opposite, value_test, bound_value}
+use Rattle.vortex_stats_mask.specs.Wanted.{is_wanted}
+use Rattle.vortex_stats_mask.proofs.Truths.{wanted_of_not}
+use Rattle.vortex_stats_select.specs.Wants.{wanted_rows}
 use Rattle.vortex_stats_select.proofs.PairLemmas.{paired, beside, through}
 
 -- ---- connectives
-
-joined : (want j : Bool) (op : Content → Content → Content) → ((c d : Content) → is_wanted want (op c d) ≡ joined_by j (is_wanted want c) (is_wanted want d)) →
-    (f g : Content → Content) (rows : List Content) (left right found : Option (Vec Bool Global)) →
-    IfSome left (λ m. m.items ≡ map (λ row. is_wanted want (f row)) rows) → IfSome right (λ m. m.items ≡ map (λ row. is_wanted want (g row)) rows) →
-    option_map (λ m. m.items) found ≡ joined_masks j left right → IfSome found (λ m. m.items ≡ map (λ row. is_wanted want (op (f row) (g row))) rows)
-joined want j op law f g rows left right None l r e = tt
-joined want j op law f g rows None right (Some m) l r e = absurd (cc (e))
-joined want j op law f g rows (Some x) None (Some m) l r e = absurd (cc (e))
-joined want j op law f g rows (Some x) (Some y) (Some m) l r e =
-    let same : m.items ≡ map (λ p. joined_by j p.0 p.1) (zip x.items y.items) = cc (e) in
-    same ∙ (λ i. map (λ p. joined_by j p.0 p.1) (zip (l i) (r i)))
-    ∙ paired (joined_by j) (λ row. is_wanted want (f row)) (λ row. is_wanted want (g row)) rows
-    ∙ (λ i. map (λ row. sym (law (f row) (g row)) i) rows)
-
-module _ (want : Bool) (x y : Bound) (rows : List Content) (left right found : Option (Vec Bool Global)) (l : IfSome left (λ m. m.items ≡ wanted_rows want x rows)) (r : IfSome right (λ m. m.items ≡ wanted_rows want y rows)) where
-  pub and_joined : option_map (λ m. m.items) found ≡ joined_masks want left right → IfSome found (λ m. m.items ≡ wanted_rows want (each x y) rows)
-  and_joined e = joined want want kleene_and (wanted_of_and want) (bound_value x) (bound_value y) rows left right found l r e
-
-  pub or_joined : option_map (λ m. m.items) found ≡ joined_masks (not want) left right → IfSome found (λ m. m.items ≡ wanted_rows want (some x y) rows)
-  or_joined e = joined want (not want) kleene_or (wanted_of_or want) (bound_value x) (bound_value y) rows left right found l r e
 
 pub not_turned : (want : Bool) (x : Bound) (rows : List Content) → wanted_rows (not want) x rows ≡ wanted_rows want (opposite x) rows
 not_turned want x rows = λ i. map (λ row. sym (wanted_of_not want (bound_value x row)) i) rows

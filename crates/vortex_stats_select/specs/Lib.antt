@@ -1,3 +1,4 @@
+pub mod Asked
 pub mod Coded
 pub mod Leaves
 pub mod Operands

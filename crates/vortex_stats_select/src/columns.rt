@@ -1,11 +1,12 @@
 //! Rows that are read by their columns.
 ghost use Rattle.std.specs.Prelude.{◌≡◌, List, length, IfOk, IfSome};
 ghost use Rattle.vortex_model.specs.Content.{Content};
-ghost use Rattle.vortex_model.specs.ZoneMap.{values_at};
+ghost use Rattle.vortex_model_table.specs.ZoneMap.{values_at};
 ghost use Rattle.vortex_arrays_model.specs.Layout.{rows_of};
 
 use std::alloc::{AllocError, Global};
 use vortex_arrays_core::array::ArrayRef;
+use vortex_arrays_struct::part::part_at_positions;
 
 /// Rows whose columns can be told.
 pub trait Columns {
@@ -20,4 +21,26 @@ pub trait Columns {
     fn column(&self, alloc: Global, path: &[usize]) -> Result<Option<ArrayRef>, AllocError>
         ensures { IfOk result (λ found. IfSome found
             (λ column. rows_of column ≡ values_at path.now (rows self.now))) };
+}
+
+/// The rows of an array.
+#[derive(Clone, Copy)]
+pub struct ArrayColumns<'a> {
+    pub array: &'a ArrayRef,
+}
+
+impl Columns for ArrayColumns<'_> {
+    ghost use Rattle.vortex_arrays_model.specs.Layout.{rows_of};
+
+    ghost rows = { λ columns. rows_of columns.array.now };
+
+    #[tactic(auto, using(vortex_arrays_model::proofs::RowsLemmas::rows_said))]
+    fn len(&self) -> usize {
+        self.array.len()
+    }
+
+    #[tactic(auto, using(vortex_arrays_struct::proofs::Parts::part_rows))]
+    fn column(&self, alloc: Global, path: &[usize]) -> Result<Option<ArrayRef>, AllocError> {
+        part_at_positions(alloc, self.array, path)
+    }
 }

@@ -1,7 +1,7 @@
 //! Comparisons of operands, row by row.
 ghost use Rattle.std.specs.Prelude.{◌≡◌, Bool, List, length, map, replicate, IfOk, IfSome};
 ghost use Rattle.std.specs.List.{zip};
-ghost use Rattle.vortex_model.specs.Truth.{compared, is_true};
+ghost use Rattle.vortex_model_table.specs.Truth.{compared, is_true};
 ghost use Rattle.vortex_scalar_value.specs.View.{content_at};
 ghost use Rattle.vortex_stats_expr.specs.Tree.{comparison_of};
 ghost use Rattle.vortex_stats_mask.specs.Wanted.{is_wanted, joined_by, negated, swapped};

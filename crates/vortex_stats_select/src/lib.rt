@@ -1,10 +1,12 @@
 //! Which rows have the wanted truth of a predicate, found by whole columns.
 #![tactic(auto)]
 
+mod asked;
 pub mod columns;
 mod compare;
 mod leaf;
 mod like;
+mod matches;
 mod nulls;
 mod operand;
 pub mod select;

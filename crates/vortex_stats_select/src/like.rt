@@ -1,60 +1,31 @@
 //! LIKE of a column of texts.
-ghost use Rattle.std.specs.Prelude.{◌≡◌, ℕ, map, not, false, IfOk, IfSome};
+ghost use Rattle.std.specs.Prelude.{◌≡◌, Bool, map, false, IfOk, IfSome};
 ghost use Rattle.vortex_model.specs.Content.{text};
-ghost use Rattle.vortex_model.specs.Like.{has_backslash, is_like};
-ghost use Rattle.vortex_model.specs.Truth.{liked};
-ghost use Rattle.vortex_arrays_view.specs.Views.{value_of};
+ghost use Rattle.vortex_model_table.specs.Like.{has_backslash};
+ghost use Rattle.vortex_model_table.specs.Truth.{liked};
+ghost use Rattle.vortex_arrays_core.specs.LayoutOf.{valid_of};
+ghost use Rattle.vortex_arrays_model.specs.Layout.{dictionary, len_of, rows_of, strings, texts, IsSound};
+ghost use Rattle.vortex_arrays_model.specs.Parts.{AreWithin};
 ghost use Rattle.vortex_scalar_value.specs.View.{content_in};
 ghost use Rattle.vortex_stats_bind.specs.Bound.{fixed, bound_value};
-ghost use Rattle.vortex_stats_mask.specs.Columns.{column_of};
 ghost use Rattle.vortex_stats_mask.specs.Wanted.{is_wanted};
-ghost use Rattle.vortex_stats_select.specs.Coded.{value_of_code};
-ghost use Rattle.vortex_stats_select.specs.Leaves.{leaf_rows};
-ghost use Rattle.vortex_stats_select.specs.Operands.{operand_rows};
+ghost use Rattle.vortex_stats_select.specs.Asked.{seen};
 ghost use Rattle.vortex_stats_select.specs.Wants.{wanted_match};
 
+use crate::asked::Asked;
 use crate::columns::Columns;
-use crate::leaf::Leaf;
-use crate::operand::{Operand, array_operand};
+use crate::leaf::leaf_of;
+use crate::matches::match_seen;
 use crate::spread::spread;
+use crate::validity::valid_rows_of;
 use bytes::Bytes;
 use std::alloc::{AllocError, Global};
+use vortex_arrays_core::array::{ArrayLayout, ArrayRef, StringKind, Validity};
 use vortex_arrays_view::view::BinaryView;
 use vortex_scalar_value::scalar_value::ScalarValue;
-use vortex_stats_bind::bound::{BoundExpression, BoundNode};
-use vortex_stats_like::matching::{has_backslash, is_like};
-use vortex_stats_mask::column::Column;
-use vortex_stats_mask::masks::{keep_valid, opposite};
-
-// The text of a view. `None` where it has none, as a null row may have it.
-fn text_in<'a>(view: &'a BinaryView, buffers: &'a [Bytes]) -> Option<&'a str>
-    ensures { IfSome result (λ t. t.now ≡ value_of view.now buffers.now) }
-{
-    if !view.has_value(buffers) {
-        return None;
-    }
-    str::from_utf8(view.bytes(buffers)).ok()
-}
-
-// Which of the texts match. `None` where one of the views has no text.
-fn match_views(
-    alloc: Global,
-    pattern: &str,
-    views: &[BinaryView],
-    buffers: &[Bytes],
-) -> Result<Option<Vec<bool>>, AllocError>
-    ensures { IfOk result (λ found. IfSome found (λ mask. mask.items
-        ≡ map (λ v. is_like pattern.now (value_of v buffers.now)) views.now)) }
-{
-    let mut mask = Vec::with_capacity(alloc, views.len())?;
-    for view in views {
-        let Some(text) = text_in(view, buffers) else {
-            return Ok(None);
-        };
-        mask.push(is_like(pattern, text))?;
-    }
-    Ok(Some(mask))
-}
+use vortex_stats_bind::bound::{BoundNode, BoundTree};
+use vortex_stats_like::matching::has_backslash;
+use vortex_stats_mask::masks::{both, opposite};
 
 // Of the texts that match: for which of them LIKE has the wanted truth.
 #[tactic(auto, using(crate::proofs::LikeLemmas::unturned))]
@@ -74,27 +45,60 @@ fn turned(
     }
 }
 
-// For which rows of texts LIKE has the wanted truth: where it matches, unless negated.
+// For which rows of texts LIKE has the wanted truth: where it matches, unless negated. A row that
+// is not null has a text, so no byte of it is looked at for its being one.
+fn like_texts(
+    alloc: Global,
+    want: bool,
+    negated: bool,
+    pattern: &str,
+    views: &[BinaryView],
+    buffers: &[Bytes],
+    validity: &Validity,
+    asked: Option<Asked<'_>>,
+) -> Result<Vec<bool>, AllocError>
+    requires literal { has_backslash pattern.now ≡ false }
+    requires sound { IsSound (strings texts views.now buffers.now (valid_of validity.now)) }
+    ensures { IfOk result (λ mask. seen asked.entry mask.items
+        ≡ seen asked.entry (map (λ c. is_wanted want (liked c (text pattern.now) negated))
+        (rows_of (strings texts views.now buffers.now (valid_of validity.now))))) }
+{
+    let mask = match_seen(alloc, pattern.as_bytes(), views, buffers, asked)?;
+    let mask = turned(alloc, want, negated, mask)?;
+    let valid = valid_rows_of(alloc, validity, views.len())?;
+    match valid {
+        None => Ok(mask),
+        Some(rows) => both(alloc, &rows, &mask),
+    }
+}
+
+// `None` of a column that isn't one of texts, or isn't laid out plain.
 fn like_column(
     alloc: Global,
     want: bool,
     negated: bool,
     pattern: &str,
-    column: &Column<'_>,
+    column: &ArrayRef,
+    asked: Option<Asked<'_>>,
 ) -> Result<Option<Vec<bool>>, AllocError>
     requires { has_backslash pattern.now ≡ false }
-    ensures { IfOk result (λ found. IfSome found (λ mask. mask.items
-        ≡ map (λ c. is_wanted want (liked c (text pattern.now) negated)) (column_of column.now))) }
+    ensures { IfOk result (λ found. IfSome found (λ mask. seen asked.entry mask.items
+        ≡ seen asked.entry (map (λ c. is_wanted want (liked c (text pattern.now) negated))
+        (rows_of column.now)))) }
 {
-    let Some(strings) = column.items.as_texts() else {
-        return Ok(None);
-    };
-    let Some(mask) = match_views(alloc, pattern, strings.views, strings.buffers)? else {
-        return Ok(None);
-    };
-    let mask = turned(alloc, want, negated, mask)?;
-    let mask = keep_valid(alloc, mask, column.validity)?;
-    Ok(Some(mask))
+    match column.layout() {
+        ArrayLayout::VarBinView(kind, views, buffers, validity) => match kind {
+            StringKind::Utf8 => {
+                let (views, buffers) = (views.as_slice(), buffers.as_slice());
+                let mask = like_texts(
+                    alloc, want, negated, pattern, views, buffers, validity, asked,
+                )?;
+                Ok(Some(mask))
+            }
+            StringKind::Binary => Ok(None),
+        },
+        _ => Ok(None),
+    }
 }
 
 // For which rows of a dictionary of texts LIKE has the wanted truth: each value is looked at once.
@@ -103,39 +107,43 @@ fn like_coded(
     want: bool,
     negated: bool,
     pattern: &str,
-    codes: &Leaf,
-    values: &Leaf,
+    codes: &ArrayRef,
+    values: &ArrayRef,
 ) -> Result<Option<Vec<bool>>, AllocError>
-    requires { has_backslash pattern.now ≡ false }
-    ensures { IfOk result (λ found. IfSome found (λ mask. mask.items
+    requires literal { has_backslash pattern.now ≡ false }
+    requires within { AreWithin codes.now (len_of values.now) }
+    ensures { (f : Bool) → IfOk result (λ found. IfSome found (λ mask. mask.items
         ≡ map (λ c. is_wanted want (liked c (text pattern.now) negated))
-        (map (value_of_code (leaf_rows values.now)) (leaf_rows codes.now)))) }
+        (rows_of (dictionary codes.now values.now f)))) }
 {
-    let Some(mask) = like_column(alloc, want, negated, pattern, &values.as_column())? else {
+    let Some(mask) = like_column(alloc, want, negated, pattern, values, None)? else {
+        return Ok(None);
+    };
+    let Some(codes) = leaf_of(alloc, codes)? else {
         return Ok(None);
     };
     let mask = spread(alloc, &mask, &codes.as_column())?;
     Ok(Some(mask))
 }
 
-fn like_operand(
+fn like_array(
     alloc: Global,
     want: bool,
     negated: bool,
     pattern: &str,
-    operand: &Operand,
+    column: &ArrayRef,
+    asked: Option<Asked<'_>>,
 ) -> Result<Option<Vec<bool>>, AllocError>
     requires { has_backslash pattern.now ≡ false }
-    ensures { (n : ℕ) → IfOk result (λ found. IfSome found (λ mask. mask.items
-        ≡ map (λ c. is_wanted want (liked c (text pattern.now) negated))
-        (operand_rows operand.now n))) }
+    ensures { IfOk result (λ found. IfSome found (λ mask. seen asked.entry mask.items
+        ≡ seen asked.entry (map (λ c. is_wanted want (liked c (text pattern.now) negated))
+        (rows_of column.now)))) }
 {
-    match operand {
-        Operand::Column(leaf) => like_column(alloc, want, negated, pattern, &leaf.as_column()),
-        Operand::Dictionary(codes, values) => {
+    match column.layout() {
+        ArrayLayout::Dict(codes, values, _) => {
             like_coded(alloc, want, negated, pattern, codes, values)
         }
-        Operand::Value(_) => Ok(None),
+        _ => like_column(alloc, want, negated, pattern, column, asked),
     }
 }
 
@@ -147,7 +155,7 @@ fn text_of(value: &Option<ScalarValue>) -> Option<&str>
 }
 
 // The text of a literal text.
-fn literal_text(e: &BoundExpression) -> Option<&str>
+fn literal_text(e: &BoundTree) -> Option<&str>
     ensures { IfSome result (λ t. e.now ≡ fixed (text t.now)) }
 {
     match &e.node {
@@ -171,14 +179,15 @@ fn literal_text(e: &BoundExpression) -> Option<&str>
 pub(crate) fn like_test<S: Columns>(
     alloc: Global,
     want: bool,
-    value: &BoundExpression,
-    pattern: &BoundExpression,
+    value: &BoundTree,
+    pattern: &BoundTree,
     negated: bool,
+    asked: Option<Asked<'_>>,
     columns: &S,
 ) -> Result<Option<Vec<bool>>, AllocError>
-    ensures { IfOk result (λ found. IfSome found (λ mask. mask.items
-        ≡ map (λ row. is_wanted want (liked (bound_value value.now row)
-        (bound_value pattern.now row) negated)) (S.rows columns.now))) }
+    ensures { IfOk result (λ found. IfSome found (λ mask. seen asked.entry mask.items
+        ≡ seen asked.entry (map (λ row. is_wanted want (liked (bound_value value.now row)
+        (bound_value pattern.now row) negated)) (S.rows columns.now)))) }
 {
     let Some(pattern) = literal_text(pattern) else {
         return Ok(None);
@@ -192,8 +201,5 @@ pub(crate) fn like_test<S: Columns>(
     let Some(column) = columns.column(alloc, path)? else {
         return Ok(None);
     };
-    let Some(operand) = array_operand(alloc, &column)? else {
-        return Ok(None);
-    };
-    like_operand(alloc, want, negated, pattern, &operand)
+    like_array(alloc, want, negated, pattern, &column, asked)
 }

@@ -14,7 +14,7 @@ use crate::spread::spread;
 use crate::validity::valid_rows_of;
 use std::alloc::{AllocError, Global};
 use vortex_arrays_core::array::{ArrayLayout, ArrayRef, Validity};
-use vortex_stats_bind::bound::BoundExpression;
+use vortex_stats_bind::bound::BoundTree;
 use vortex_stats_mask::masks::opposite;
 
 // Each row of so many.
@@ -103,7 +103,7 @@ fn test_nulls(alloc: Global, want: bool, column: &ArrayRef) -> Result<Vec<bool>,
 pub(crate) fn null_test<S: Columns>(
     alloc: Global,
     want: bool,
-    input: &BoundExpression,
+    input: &BoundTree,
     columns: &S,
 ) -> Result<Option<Vec<bool>>, AllocError>
     ensures { IfOk result (λ found. IfSome found (λ mask. mask.items

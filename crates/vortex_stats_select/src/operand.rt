@@ -2,7 +2,7 @@
 ghost use Rattle.std.specs.Prelude.{◌≡◌, Bool, length, map, IfOk, IfSome};
 ghost use Rattle.vortex_arrays_model.specs.Layout.{dictionary, len_of, rows_of};
 ghost use Rattle.vortex_arrays_model.specs.Parts.{AreWithin};
-ghost use Rattle.vortex_model.specs.ZoneMap.{values_at};
+ghost use Rattle.vortex_model_table.specs.ZoneMap.{values_at};
 ghost use Rattle.vortex_stats_bind.specs.Bound.{bound_value};
 ghost use Rattle.vortex_stats_select.specs.Operands.{operand_rows};
 
@@ -13,7 +13,7 @@ use vortex_arrays_core::array::{ArrayLayout, ArrayRef};
 use vortex_scalar_core::scalar::Scalar;
 use vortex_scalar_value::clone::clone_value;
 use vortex_scalar_value::scalar_value::ScalarValue;
-use vortex_stats_bind::bound::{BoundExpression, BoundNode};
+use vortex_stats_bind::bound::{BoundNode, BoundTree};
 
 // A value that each row has, where `None` is null, a leaf column, or the codes and the values of a
 // dictionary.
@@ -37,7 +37,7 @@ impl Drop for Operand {
 // whole.
 pub(crate) fn operand_of<S: Columns>(
     alloc: Global,
-    e: &BoundExpression,
+    e: &BoundTree,
     columns: &S,
 ) -> Result<Option<Operand>, AllocError>
     ensures { IfOk result (λ found. IfSome found (λ operand.

@@ -1,11 +1,14 @@
 //! The rows that have the wanted truth of a predicate, with no truth of three values for any row.
 ghost use Rattle.std.specs.Prelude.{◌≡◌, map, option_map, IfOk, IfSome};
-ghost use Rattle.vortex_model.specs.Truth.{compared, kleene_and, end_of};
+ghost use Rattle.std.specs.List.{zip};
+ghost use Rattle.vortex_model_table.specs.Truth.{compared, kleene_and, end_of};
 ghost use Rattle.vortex_stats_bind.specs.Bound.{bound_value};
 ghost use Rattle.vortex_stats_expr.specs.Tree.{comparison_of, is_strict};
-ghost use Rattle.vortex_stats_mask.specs.Wanted.{is_wanted};
+ghost use Rattle.vortex_stats_mask.specs.Wanted.{is_wanted, joined_by};
+ghost use Rattle.vortex_stats_select.specs.Asked.{seen};
 ghost use Rattle.vortex_stats_select.specs.Wants.{wanted_rows, joined_masks};
 
+use crate::asked::{Asked, is_late, open_behind};
 use crate::columns::Columns;
 use crate::compare::{compare_wanted, join};
 use crate::like::like_test;
@@ -13,7 +16,7 @@ use crate::nulls::null_test;
 use crate::operand::{Operand, operand_of};
 use std::alloc::{AllocError, Global};
 use vortex_scalar_value::scalar_value::ScalarValue;
-use vortex_stats_bind::bound::{BoundExpression, BoundNode};
+use vortex_stats_bind::bound::{BoundNode, BoundTree};
 use vortex_stats_expr::operator::Comparison;
 use vortex_stats_expr::options::BetweenOptions;
 
@@ -21,8 +24,8 @@ fn comparison<S: Columns>(
     alloc: Global,
     comparison: Comparison,
     want: bool,
-    left: &BoundExpression,
-    right: &BoundExpression,
+    left: &BoundTree,
+    right: &BoundTree,
     columns: &S,
 ) -> Result<Option<Vec<bool>>, AllocError>
     ensures { IfOk result (λ found. IfSome found (λ mask. mask.items
@@ -43,7 +46,7 @@ fn comparison<S: Columns>(
 fn truth<S: Columns>(
     alloc: Global,
     want: bool,
-    e: &BoundExpression,
+    e: &BoundTree,
     columns: &S,
 ) -> Result<Option<Vec<bool>>, AllocError>
     ensures { IfOk result (λ found. IfSome found
@@ -62,9 +65,9 @@ fn truth<S: Columns>(
 fn range_test<S: Columns>(
     alloc: Global,
     want: bool,
-    value: &BoundExpression,
-    lower: &BoundExpression,
-    upper: &BoundExpression,
+    value: &BoundTree,
+    lower: &BoundTree,
+    upper: &BoundTree,
     options: BetweenOptions,
     columns: &S,
 ) -> Result<Option<Vec<bool>>, AllocError>
@@ -107,11 +110,10 @@ fn join_found(
     Ok(Some(mask))
 }
 
-/// For each row, whether the predicate has the wanted truth there: is true, or is false. Null is
-/// neither. `None` where some part of it isn't told by whole columns.
-pub fn select<S: Columns>(
+// The truths of a test that is no connective and no LIKE, whatever rows are open.
+fn plain_test<S: Columns>(
     alloc: Global,
-    predicate: &BoundExpression,
+    predicate: &BoundTree,
     want: bool,
     columns: &S,
 ) -> Result<Option<Vec<bool>>, AllocError>
@@ -122,26 +124,87 @@ pub fn select<S: Columns>(
         BoundNode::Literal(_) => truth(alloc, want, predicate, columns),
         BoundNode::Column(_) => truth(alloc, want, predicate, columns),
         BoundNode::Compare(operator, x, y) => comparison(alloc, *operator, want, x, y, columns),
-        BoundNode::And(x, y) => {
-            let left = select(alloc, x, want, columns)?;
-            let right = select(alloc, y, want, columns)?;
-            join_found(alloc, want, left, right)
-        }
-        BoundNode::Or(x, y) => {
-            let left = select(alloc, x, want, columns)?;
-            let right = select(alloc, y, want, columns)?;
-            join_found(alloc, !want, left, right)
-        }
-        BoundNode::Not(x) => select(alloc, x, !want, columns),
+        BoundNode::And(_, _) => Ok(None),
+        BoundNode::Or(_, _) => Ok(None),
+        BoundNode::Not(_) => Ok(None),
         BoundNode::IsNull(x) => null_test(alloc, want, x, columns),
         BoundNode::IsNotNull(x) => null_test(alloc, !want, x, columns),
         BoundNode::Between(x, lower, upper, options) => {
             range_test(alloc, want, x, lower, upper, *options, columns)
         }
-        BoundNode::Like(x, pattern, negated) => {
-            like_test(alloc, want, x, pattern, *negated, columns)
-        }
+        BoundNode::Like(_, _, _) => Ok(None),
         BoundNode::RowCount => Ok(None),
         BoundNode::Stat(_, _) => Ok(None),
     }
+}
+
+// AND of two parts, of which the second is told only of the rows that the first leaves open. OR is
+// AND of the other truths.
+#[cycle(asked)]
+fn both_parts<S: Columns>(
+    alloc: Global,
+    join: bool,
+    want: bool,
+    first: &BoundTree,
+    last: &BoundTree,
+    asked: Option<Asked<'_>>,
+    columns: &S,
+) -> Result<Option<Vec<bool>>, AllocError>
+    ensures { IfOk result (λ found. IfSome found (λ mask. seen asked.entry mask.items
+        ≡ seen asked.entry (map (λ p. joined_by join p.0 p.1)
+        (zip (wanted_rows want first.now (S.rows columns.now))
+        (wanted_rows want last.now (S.rows columns.now)))))) }
+{
+    let left = select_asked(alloc, first, want, asked, columns)?;
+    let right = select_asked(alloc, last, want, open_behind(join, &left), columns)?;
+    join_found(alloc, join, left, right)
+}
+
+// As `select`, of the rows that are open. What it tells of the others means nothing.
+#[cycle(asked)]
+fn select_asked<S: Columns>(
+    alloc: Global,
+    predicate: &BoundTree,
+    want: bool,
+    asked: Option<Asked<'_>>,
+    columns: &S,
+) -> Result<Option<Vec<bool>>, AllocError>
+    ensures { IfOk result (λ found. IfSome found (λ mask. seen asked.entry mask.items
+        ≡ seen asked.entry (wanted_rows want predicate.now (S.rows columns.now)))) }
+{
+    match &predicate.node {
+        BoundNode::And(x, y) => {
+            if is_late(x) {
+                both_parts(alloc, want, want, y, x, asked, columns)
+            } else {
+                both_parts(alloc, want, want, x, y, asked, columns)
+            }
+        }
+        BoundNode::Or(x, y) => {
+            if is_late(x) {
+                both_parts(alloc, !want, want, y, x, asked, columns)
+            } else {
+                both_parts(alloc, !want, want, x, y, asked, columns)
+            }
+        }
+        BoundNode::Not(x) => select_asked(alloc, x, !want, asked, columns),
+        BoundNode::Like(x, pattern, negated) => {
+            like_test(alloc, want, x, pattern, *negated, asked, columns)
+        }
+        _ => plain_test(alloc, predicate, want, columns),
+    }
+}
+
+/// For each row, whether the predicate has the wanted truth there: is true, or is false. Null is
+/// neither. `None` where some part of it isn't told by whole columns.
+pub fn select<S: Columns>(
+    alloc: Global,
+    predicate: &BoundTree,
+    want: bool,
+    columns: &S,
+) -> Result<Option<Vec<bool>>, AllocError>
+    ensures { IfOk result (λ found. IfSome found
+        (λ mask. mask.items ≡ wanted_rows want predicate.now (S.rows columns.now))) }
+{
+    select_asked(alloc, predicate, want, None, columns)
 }

@@ -3,7 +3,7 @@ use Rattle.std.proofs.Common.{◌≡◌, refl, Option, Some, None, option_map, i
 use Rattle.std.specs.declared.cmp.Ordering.{Ordering}
 use Rattle.std.specs.declared.cmp.Ordering.TheVariants.{Less, Equal, Greater}
 use Rattle.std.specs.Ordering.{is_eq, is_lt, is_gt}
-use Rattle.vortex_model.specs.Statistics.{Precision, exact, inexact, absent}
+use Rattle.vortex_model_table.specs.Statistics.{Precision, exact, inexact, absent}
 use Rattle.vortex_stats_bound.specs.Order.{Comparison}
 use Rattle.vortex_stats_bound.specs.Precision.{precision_map}
 use Rattle.vortex_stats_bound.specs.declared.intersection.IntersectionResult.{IntersectionResult}

@@ -4,7 +4,7 @@ use Rattle.vortex_scalar_value.specs.declared.scalar_value.ScalarValue.{ScalarVa
 use Rattle.vortex_stats_bound.specs.declared.precision.Precision.{Precision}
 use Rattle.vortex_stats_stat.specs.declared.stat.Stat.{Stat}
 use Rattle.std.specs.List.{position}
-use Rattle.vortex_model.specs.Statistics.{absent}
+use Rattle.vortex_model_table.specs.Statistics.{absent}
 use Rattle.vortex_stats_set.specs.Sets.{is_of, is_set, value_in, set_in, without}
 use Rattle.vortex_stats_set.proofs.Lists.{found_value, no_value}
 use Rattle.vortex_stats_set.specs.Known.{raw_precision, or_absent, known_in, raw_pairs}

@@ -1,6 +1,6 @@
 -- Unions and intersections of what is known of values, as raw values.
 use Rattle.std.proofs.Common.{◌≡◌, Some, option_map, option_and_then, sym, ap, ◌∙◌}
-use Rattle.vortex_model.specs.Statistics.{Precision}
+use Rattle.vortex_model_table.specs.Statistics.{Precision}
 use Rattle.vortex_scalar_value.specs.View.{raw_of}
 use Rattle.vortex_scalar_value.specs.declared.scalar_value.ScalarValue.{ScalarValue}
 use Rattle.vortex_stats_bound.specs.Precision.{precision_map}

@@ -2,7 +2,7 @@
 use Rattle.std.specs.Prelude.{List, map, Option, Some, None}
 use Rattle.std.specs.Borrow.{Bor}
 use Rattle.vortex_model.specs.Content.{Raw}
-use Rattle.vortex_model.specs.Statistics.{Precision, absent}
+use Rattle.vortex_model_table.specs.Statistics.{Precision, absent}
 use Rattle.vortex_scalar_value.specs.View.{raw_of}
 use Rattle.vortex_scalar_value.specs.declared.scalar_value.ScalarValue.{ScalarValue}
 use Rattle.vortex_stats_bound.specs.Precision.{precision_of, precision_map}

@@ -8,7 +8,7 @@ use Rattle.vortex_model.specs.LogicalType.{IntKind, u64, i64}
 use Rattle.vortex_model.specs.Content.{Raw, raw_boolean, raw_number, content_of}
 use Rattle.vortex_model.specs.Order.{content_cmp, is_known}
 use Rattle.vortex_model.specs.Valid.{in_range}
-use Rattle.vortex_model.specs.Statistics.{Precision, exact, inexact, absent}
+use Rattle.vortex_model_table.specs.Statistics.{Precision, exact, inexact, absent}
 use Rattle.vortex_scalar_value.specs.Parts.{boolean_in}
 use Rattle.vortex_scalar_ops.specs.Equality.{eq_content}
 use Rattle.vortex_stats_bound.specs.Order.{Comparison}

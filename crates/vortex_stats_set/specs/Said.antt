@@ -1,7 +1,7 @@
 -- What a set of statistics says of rows.
 use Rattle.std.specs.Prelude.{ℕ, ℤ, pos, Bool}
 use Rattle.vortex_model.specs.Content.{Raw, raw_boolean, raw_number, content_of}
-use Rattle.vortex_model.specs.Statistics.{Precision, exact, inexact, absent, Statistics}
+use Rattle.vortex_model_table.specs.Statistics.{Precision, exact, inexact, absent, Statistics}
 use Rattle.vortex_stats_bound.specs.Precision.{precision_map}
 use Rattle.vortex_stats_stat.specs.declared.stat.Stat.TheVariants as stat
 use Rattle.vortex_stats_set.specs.Pairs.{Pairs, known}

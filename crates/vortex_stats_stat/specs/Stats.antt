@@ -1,7 +1,7 @@
 -- Statistics: their numbers, names, types and kinds.
 use Rattle.std.specs.Prelude.{ℕ, List, [], ◌∷◌, Bool, true, false, Option, Some, None, codes, if◌then◌else◌}
 use Rattle.vortex_model.specs.LogicalType.{LogicalType, null_only, boolean_type, integer_type, non_nullable, u64}
-use Rattle.vortex_model.specs.Typing.{type_of_sum, is_float}
+use Rattle.vortex_model_table.specs.Typing.{type_of_sum, is_float}
 use Rattle.vortex_stats_stat.specs.declared.aggregate.AggregateFn.{AggregateFn}
 use Rattle.vortex_stats_stat.specs.declared.aggregate.AggregateFn.TheVariants as aggregate
 use Rattle.vortex_stats_stat.specs.declared.stat.Stat.{Stat}

@@ -2,6 +2,7 @@
 #![tactic(auto)]
 
 pub mod aggregate;
+pub mod aggregate_dtype;
 pub mod bitset;
 pub mod error;
 pub mod stat;

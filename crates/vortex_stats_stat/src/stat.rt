@@ -2,7 +2,7 @@
 ghost use Rattle.std.specs.Prelude.{◌≡◌, ◌≢◌, ◌<◌, IfOk, IfErr, IfSome, IfNone, Some, option_map};
 ghost use Rattle.std.specs.Ordering.{nat_cmp, on, as_partial_cmp};
 ghost use Rattle.vortex_model.specs.LogicalType.{integer_type, u64, nullable, non_nullable};
-ghost use Rattle.vortex_model.specs.Typing.{type_of_sum};
+ghost use Rattle.vortex_model_table.specs.Typing.{type_of_sum};
 ghost use Rattle.vortex_dtype_ptype.specs.Numbers.{type_of_numbers};
 ghost use Rattle.vortex_dtype_ptype.specs.View.{number_kind_of};
 ghost use Rattle.vortex_dtype_core.specs.View.{type_of};

@@ -3,7 +3,7 @@ use Rattle.std.proofs.Common.{◌≡◌, ◌+◌, ◌<◌, ◌≤◌, ℕ, suc, 
 use Rattle.std.proofs.lemmas.List.{drop_all}
 use Rattle.vortex_model.specs.LogicalType.{LogicalType, null_only, boolean_type, integer_type, float, decimal, utf8, binary, list, fixed_list, mapping, struct, union, variant, extension, Nullability, non_nullable, nullable, nullability_of, either_nullable, with_nullability, nullable_inside}
 use Rattle.vortex_model.specs.Path.{Names, Positions, positions, position_in, part_at, type_at, type_of_column}
-use Rattle.vortex_model.specs.Command.{part_named}
+use Rattle.vortex_model_table.specs.Command.{part_named}
 
 -- where the parts of a name lead
 abbrev behind : LogicalType → Names → Option ℕ → Option Positions

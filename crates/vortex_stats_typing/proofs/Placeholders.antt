@@ -2,8 +2,8 @@
 use Rattle.std.proofs.Common.{◌≡◌, Option, Some, None, option_map, option_and_then, Bool, true, false, if◌then◌else◌, refl, sym, subst}
 use Rattle.std.specs.Option.{option_map_or}
 use Rattle.vortex_model.specs.LogicalType.{LogicalType, boolean_type, integer_type, float, decimal, utf8, binary, Nullability, nullable, with_nullability, IntKind, u8, u16, u32, u64, i8, i16, i32, i64}
-use Rattle.vortex_model.specs.Command.{is_boolean}
-use Rattle.vortex_model.specs.Typing.{type_of_aggregate, type_of_sum, type_of_bound, bounds_record, count_type, has_bounds, is_float}
+use Rattle.vortex_model_table.specs.Command.{is_boolean}
+use Rattle.vortex_model_table.specs.Typing.{type_of_aggregate, type_of_sum, type_of_bound, bounds_record, count_type, has_bounds, is_float}
 use Rattle.vortex_dtype_ptype.specs.Numbers.{integral}
 use Rattle.vortex_dtype_ptype.specs.View.{number_kind_of}
 use Rattle.vortex_dtype_ptype.specs.declared.ptype.PType.{PType}

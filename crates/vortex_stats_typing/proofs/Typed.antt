@@ -3,10 +3,10 @@ use Rattle.std.proofs.Common.{◌≡◌, Option, Some, None, Result, Ok, Err, Bo
 use Rattle.std.specs.Prelude.{option_and_then}
 use Rattle.std.specs.Option.{option_map_or}
 use Rattle.vortex_model.specs.LogicalType.{LogicalType, boolean_type, utf8, nullable, equal_ignoring_nullability}
-use Rattle.vortex_model.specs.Expression.{Expression, compare, both, either, negation, is_null, is_not_null, is_nan, between, like, statistic, Comparison, Aggregate, reads_columns}
-use Rattle.vortex_model.specs.Command.{is_boolean, is_utf8_type, eq_optional_type}
-use Rattle.vortex_model.specs.Typing.{expression_type, is_of_floats, is_float, type_of_aggregate}
-use Rattle.vortex_model.specs.Truth.{has_truth, is_free_of_backslash}
+use Rattle.vortex_model_table.specs.Expression.{Expression, compare, both, either, negation, is_null, is_not_null, is_nan, between, like, statistic, Comparison, Aggregate, reads_columns}
+use Rattle.vortex_model_table.specs.Command.{is_boolean, is_utf8_type, eq_optional_type}
+use Rattle.vortex_model_table.specs.Typing.{expression_type, is_of_floats, is_float, type_of_aggregate}
+use Rattle.vortex_model_table.specs.Truth.{has_truth, is_free_of_backslash}
 use Rattle.vortex_model_rules.specs.Faults.{ProofFault, unequal_types, not_boolean, not_evaluable, reads_a_column, unsupported_aggregate, or_fault, unless, binding_fault, proof_fault}
 use Rattle.vortex_dtype_core.specs.Parts.{is_boolean_type, is_utf8_type as is_text_type}
 use Rattle.vortex_dtype_core.specs.View.{type_of}

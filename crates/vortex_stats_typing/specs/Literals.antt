@@ -1,7 +1,7 @@
 -- Literals: what they are.
 use Rattle.std.specs.Prelude.{ℕ, List, Option, Some, None, Bool, true, false}
 use Rattle.vortex_model.specs.Content.{text}
-use Rattle.vortex_model.specs.Expression.{Expression, literal}
+use Rattle.vortex_model_table.specs.Expression.{Expression, literal}
 
 abbrev pub is_literal : Expression → Bool
 is_literal (literal k c) = true

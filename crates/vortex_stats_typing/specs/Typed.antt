@@ -1,9 +1,9 @@
 -- What is found of expressions: their types, or the faults by which they have none.
 use Rattle.std.specs.Prelude.{◌≡◌, Bool, true, false, Option, Some, None, Result, Ok, Err}
 use Rattle.vortex_model.specs.LogicalType.{LogicalType, boolean_type, nullable, equal_ignoring_nullability}
-use Rattle.vortex_model.specs.Expression.{Expression, Aggregate}
-use Rattle.vortex_model.specs.Typing.{expression_type, type_of_aggregate}
-use Rattle.vortex_model.specs.Truth.{has_truth}
+use Rattle.vortex_model_table.specs.Expression.{Expression, Aggregate}
+use Rattle.vortex_model_table.specs.Typing.{expression_type, type_of_aggregate}
+use Rattle.vortex_model_table.specs.Truth.{has_truth}
 use Rattle.vortex_model_rules.specs.Faults.{ProofFault, unknown_column, unequal_types, not_boolean, unsupported_aggregate, not_evaluable, reads_a_column, or_fault, binding_fault}
 use Rattle.vortex_dtype_core.specs.Parts.{is_boolean_type, is_utf8_type}
 use Rattle.vortex_dtype_core.specs.View.{type_of}

@@ -5,16 +5,15 @@
 //! and that it reads a column outside placeholders.
 ghost use Rattle.std.specs.Prelude.{◌≡◌, None, IfErr, OnOk, not, ◌&&◌, ◌||◌, false};
 ghost use Rattle.vortex_model.specs.LogicalType.{LogicalType, boolean_type, nullable};
-ghost use Rattle.vortex_model.specs.Expression.{literal, column, reads_columns};
-ghost use Rattle.vortex_model.specs.Typing.{is_float};
-ghost use Rattle.vortex_model.specs.Truth.{is_free_of_backslash};
+ghost use Rattle.vortex_model_table.specs.Expression.{literal, column, reads_columns};
+ghost use Rattle.vortex_model_table.specs.Typing.{is_float};
+ghost use Rattle.vortex_model_table.specs.Truth.{is_free_of_backslash};
 ghost use Rattle.vortex_model_rules.specs.Faults.{unequal_types, not_boolean, proof_fault};
 ghost use Rattle.vortex_dtype_core.specs.View.{type_of};
 ghost use Rattle.vortex_scalar_core.specs.Scalar.{scalar_type, scalar_content};
 ghost use Rattle.vortex_stats_stat.specs.Aggregate.{aggregate_of};
 ghost use Rattle.vortex_stats_typing.specs.Typed.{IsReason, IsTyped, AreTyped, IsTruthIf, IsPlaceholder, are_alike, is_truth, is_text};
 
-use crate::aggregate::aggregate_dtype;
 use crate::column::column_dtype;
 use crate::pattern::is_free_of_backslash;
 use std::alloc::Global;
@@ -25,6 +24,7 @@ use vortex_scalar_core::scalar::Scalar;
 use vortex_stats_expr::expression::{Expression, Node};
 use vortex_stats_expr::options::LikeOptions;
 use vortex_stats_stat::aggregate::AggregateFn;
+use vortex_stats_stat::aggregate_dtype::aggregate_dtype;
 use vortex_stats_stat::error::StatsError;
 use vortex_stats_stat::stat::count_dtype;
 
@@ -272,8 +272,8 @@ fn type_placeholder(
     }
 }
 
-// A column inside a placeholder doesn't count.
-fn reads_columns(e: &Expression) -> bool
+/// Whether the expression reads a column. One inside a placeholder doesn't count.
+pub fn reads_columns(e: &Expression) -> bool
     ensures { result ≡ reads_columns e.now }
 {
     match &e.node {

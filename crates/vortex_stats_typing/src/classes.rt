@@ -3,8 +3,8 @@
 //! A class takes no memory. An expression with a fault inside has one where its root has a type.
 ghost use Rattle.std.specs.Prelude.{◌≡◌, false};
 ghost use Rattle.std.specs.Option.{option_map_or};
-ghost use Rattle.vortex_model.specs.Command.{is_boolean};
-ghost use Rattle.vortex_model.specs.Typing.{expression_type, has_bounds, is_of_floats};
+ghost use Rattle.vortex_model_table.specs.Command.{is_boolean};
+ghost use Rattle.vortex_model_table.specs.Typing.{expression_type, has_bounds, is_of_floats};
 ghost use Rattle.vortex_dtype_core.specs.View.{type_of};
 ghost use Rattle.vortex_stats_expr.specs.Types.{IsClass};
 ghost use Rattle.vortex_stats_typing.specs.Classes.{bound_class, bounds_class, sum_ptype, sum_class, of_floats, aggregate_class};

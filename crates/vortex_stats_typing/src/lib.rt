@@ -1,7 +1,6 @@
 //! Types of expressions, and the faults by which a proof may not be used.
 #![tactic(auto)]
 
-mod aggregate;
 pub mod check;
 pub mod classes;
 mod column;

@@ -1,6 +1,6 @@
 //! Expressions that are literals.
 ghost use Rattle.std.specs.Prelude.{◌≡◌, IfSome, is_some, option_copied};
-ghost use Rattle.vortex_model.specs.Expression.{literal};
+ghost use Rattle.vortex_model_table.specs.Expression.{literal};
 ghost use Rattle.vortex_scalar_core.specs.Scalar.{scalar_type, scalar_content};
 ghost use Rattle.vortex_stats_typing.specs.Literals.{is_literal, text_of_literal};
 

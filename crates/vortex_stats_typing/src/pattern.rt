@@ -1,6 +1,6 @@
 //! Patterns of LIKE.
 ghost use Rattle.std.specs.Prelude.{◌≡◌};
-ghost use Rattle.vortex_model.specs.Truth.{is_free_of_backslash};
+ghost use Rattle.vortex_model_table.specs.Truth.{is_free_of_backslash};
 
 use crate::literal::literal_text;
 use vortex_stats_expr::expression::Expression;

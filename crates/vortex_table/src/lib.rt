@@ -21,15 +21,16 @@ pub mod dtype {
     pub use vortex_dtype_fields::dtype_ext::DTypeExt;
     pub use vortex_dtype_fields::field_dtype::{FieldDType, FieldDTypesIter, FieldTypesIter};
     pub use vortex_dtype_fields::map_dtype_ext::MapDTypeExt;
+    pub use vortex_dtype_fields::native_dtype::NativeDType;
     pub use vortex_dtype_fields::struct_fields_ext::StructFieldsExt;
     pub use vortex_dtype_fields::union_variants_ext::UnionVariantsExt;
     pub use vortex_dtype_fields::variants_iter::VariantsIter;
     pub use vortex_dtype_native::downcast::{PTypeDowncast, PTypeDowncastExt, PTypeUpcast};
     pub use vortex_dtype_native::little_endian::{ToBytes, TryFromBytes};
     pub use vortex_dtype_native::native::{
-        IntegerPType, NativePType, OffsetBuilderPType, PhysicalPType, UnsignedPType,
+        IntegerPType, NativePType, OffsetBuilderPType, PhysicalPType, UnsignedPType, offsets,
     };
-    pub use vortex_dtype_native::native_dtype::NativeDType;
+    pub use vortex_dtype_native::private::Sealed;
     pub use vortex_dtype_native::{
         match_each_integer_ptype, match_each_native_ptype, match_each_signed_integer_ptype,
         match_each_unsigned_integer_ptype,
@@ -78,18 +79,9 @@ pub mod scalar {
     pub use vortex_scalar_nested::map_scalar::MapScalar;
     pub use vortex_scalar_nested::nested_views::NestedScalarViews;
     pub use vortex_scalar_nested::struct_scalar::StructScalar;
-    pub use vortex_scalar_ops::cast::cast_value;
-    pub use vortex_scalar_ops::compare::compare_values;
-    pub use vortex_scalar_ops::eq::eq_values;
-    pub use vortex_scalar_ops::hash::hash_value;
-    pub use vortex_scalar_ops::native_value::NativeValue;
-    pub use vortex_scalar_ops::validate::validate;
-    pub use vortex_scalar_truncation::byte_bounds::{lower_bytes, upper_bytes};
-    pub use vortex_scalar_truncation::characters::next_character;
+    pub use vortex_scalar_truncation::private::Sealed;
     pub use vortex_scalar_truncation::string_like::StringLike;
-    pub use vortex_scalar_truncation::text_bounds::{lower_text, upper_text};
     pub use vortex_scalar_truncation::truncation::{ScalarTruncation, lower_bound, upper_bound};
-    pub use vortex_scalar_value::clone::clone_value;
     pub use vortex_scalar_value::error::ScalarError;
     pub use vortex_scalar_value::match_each_pvalue;
     pub use vortex_scalar_value::natives::CoercePValue;
@@ -107,11 +99,31 @@ pub mod scalar {
     pub use vortex_scalar_views::variant_scalar::VariantScalar;
 }
 
-/// Predicates over rows, and the proofs over statistics that are made of them.
+/// What is known of statistics, predicates over rows, and the proofs over statistics that are made
+/// of them.
 pub mod expr {
+    /// Placeholders over inputs that are bound already.
+    pub mod bound {
+        pub use vortex_stats_evaluate::bound::{
+            all_nan, all_non_nan, all_non_null, all_null, min_max, nan_count, null_count, stat, sum,
+        };
+    }
+
+    pub use vortex_stats_array::array_stats::ArrayStats;
+    pub use vortex_stats_array::of_array::array_stats;
     pub use vortex_stats_bind::bind::bind_proof;
-    pub use vortex_stats_bind::bound::{BoundExpression as BoundTree, Operands, bound_literal};
+    pub use vortex_stats_bind::bound::{BoundTree, Operands, bound_literal};
+    pub use vortex_stats_bind::stats::StatBinder;
     pub use vortex_stats_bind::value::Value;
+    pub use vortex_stats_bound::bound::{LowerBound, UpperBound};
+    pub use vortex_stats_bound::bound_ord::BoundOrd;
+    pub use vortex_stats_bound::intersection::IntersectionResult;
+    pub use vortex_stats_bound::precision::Precision;
+    pub use vortex_stats_bound::stat_bound::{StatBound, StatType};
+    pub use vortex_stats_evaluate::bind::{BoundExpression, bind};
+    pub use vortex_stats_evaluate::evaluate::{evaluate, prove};
+    pub use vortex_stats_evaluate::scope::Scope;
+    pub use vortex_stats_evaluate::stats::bind_stats;
     pub use vortex_stats_expr::expression::{
         Expression, and, between, binary, col, eq, gt, gt_eq, is_nan, is_not_null, is_null, like,
         lit, lt, lt_eq, not, not_eq, or, root, row_count, stat,
@@ -122,15 +134,42 @@ pub mod expr {
         all_nan, all_non_nan, all_non_null, all_null, min_max, nan_count, null_count, sum,
     };
     pub use vortex_stats_expr::scalar_fn::ScalarFnId;
-    pub use vortex_stats_rewrite::rewrite::{falsify, satisfy};
+    pub use vortex_stats_like::matching::{has_backslash, is_like};
+    pub use vortex_stats_mask::column::{Column, Items, Strings};
+    pub use vortex_stats_mask::compare::compare_literal;
+    pub use vortex_stats_mask::pairs::compare_columns;
+    pub use vortex_stats_provider::markers::{
+        IsConstant, IsSorted, IsStrictSorted, Max, Min, NaNCount, NullCount, Sum,
+        UncompressedSizeInBytes,
+    };
+    pub use vortex_stats_provider::provider::StatsProvider;
+    pub use vortex_stats_provider::provider_ext::StatsProviderExt;
+    pub use vortex_stats_provider::stat_fn::{StatFn, StatOptions};
+    pub use vortex_stats_provider::stat_scalar::stat_scalar;
+    pub use vortex_stats_provider::stats_set_ext::StatsSetExt;
+    pub use vortex_stats_rules::laws::{
+        comparisons_are_visited_once, falsifiers_are_sound, satisfiers_are_sound,
+    };
+    pub use vortex_stats_rules::meter::Meter;
+    pub use vortex_stats_rules::negation::{Never, NotLiteral};
+    pub use vortex_stats_rules::rewrite::{falsify, satisfy};
+    pub use vortex_stats_rules::rule::{StatsRewriteRule, StatsRewriteRuleRef};
+    pub use vortex_stats_set::stats_set::{StatsArray, StatsSet, StatsSetIntoIter};
+    pub use vortex_stats_set::typed::{MutTypedStatsSetRef, TypedStatsSetRef};
     pub use vortex_stats_stat::aggregate::AggregateFn;
+    pub use vortex_stats_stat::bitset::{
+        PRUNING_STATS, as_stat_bitset_bytes, stats_from_bitset_bytes, written_statistics_are_read,
+    };
+    pub use vortex_stats_stat::error::StatsError;
+    pub use vortex_stats_stat::stat::Stat;
+    pub use vortex_stats_stat::stat_iter::StatIter;
 }
 
 /// The table of chunks, its refusals, what a scan finds, and what is known of a column.
 pub mod table {
     pub use vortex_stats_bound::precision::Precision;
     pub use vortex_table_check::error::TableError;
-    pub use vortex_table_core::table::Table;
+    pub use vortex_table_run::Table;
     pub use vortex_table_schema::answer::ScanAnswer;
     pub use vortex_table_schema::description::Description;
     pub use vortex_table_schema::layout::Layout;

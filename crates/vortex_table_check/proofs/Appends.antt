@@ -6,7 +6,7 @@ use Rattle.vortex_model.specs.Content.{Content, content_of, Raw}
 use Rattle.vortex_model.specs.Valid.{valid}
 use Rattle.vortex_model.specs.Convert.{converts}
 use Rattle.vortex_model.specs.Refusal.{Refusal, invalid_value, not_convertible, or_else}
-use Rattle.vortex_model.specs.Command.{unless, first_invalid, first_unconvertible}
+use Rattle.vortex_model_table.specs.Command.{unless, first_invalid, first_unconvertible}
 use Rattle.vortex_scalar_value.specs.View.{raw_in, content_in}
 use Rattle.vortex_scalar_value.specs.declared.scalar_value.ScalarValue.{ScalarValue}
 use Rattle.vortex_table_schema.specs.Rows.{row_content}

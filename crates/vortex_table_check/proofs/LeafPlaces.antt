@@ -2,11 +2,11 @@
 use Rattle.std.proofs.Common.{◌≡◌, refl, sym, ap, ◌∙◌, subst, ℕ, List, [], ◌∷◌, true, false, Option, Some, None, option_map, option_and_then, if◌then◌else◌, ◌<◌, length, arith}
 use Rattle.std.specs.Prelude.{is_some}
 use Rattle.vortex_model.specs.LogicalType.{LogicalType, boolean_type, integer_type, float, decimal, utf8, binary}
-use Rattle.vortex_model.specs.Typing.{has_bounds}
+use Rattle.vortex_model_table.specs.Typing.{has_bounds}
 use Rattle.vortex_model.specs.Kept.{is_leaf, is_leaf_at}
 use Rattle.vortex_model.specs.Path.{Names, Positions, Step, name, element, positions, position_in, part_at, type_at, type_of_column}
 use Rattle.vortex_model.specs.Refusal.{Refusal, not_a_leaf, unknown_path, or_else}
-use Rattle.vortex_model.specs.Command.{names_of, positions_of, part_named, path_fault, leaf_fault}
+use Rattle.vortex_model_table.specs.Command.{names_of, positions_of, part_named, path_fault, leaf_fault}
 use Rattle.vortex_stats_expr.specs.Types.{IsOfLeaf, IsOfClass, IsClass}
 use Rattle.vortex_stats_expr.specs.declared.types.Leaf.{Leaf}
 use Rattle.vortex_stats_expr.specs.declared.types.Leaf.TheVariants as leaf

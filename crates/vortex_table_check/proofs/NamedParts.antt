@@ -1,7 +1,7 @@
 -- The parts of records by their names.
 use Rattle.std.proofs.Common.{◌≡◌, refl, List, ℕ, option_and_then}
 use Rattle.vortex_model.specs.LogicalType.{LogicalType, struct}
-use Rattle.vortex_model.specs.Command.{part_named}
+use Rattle.vortex_model_table.specs.Command.{part_named}
 use Rattle.vortex_dtype_core.specs.Parts.{fields_in_type}
 use Rattle.vortex_dtype_fields.specs.Records.{type_named}
 use Rattle.vortex_dtype_core.proofs.Views.{one_level}

@@ -9,9 +9,9 @@ use Rattle.vortex_model.specs.Convert.{converts, all_convert, fields_convert}
 use Rattle.vortex_model.specs.Kept.{names_distinct, part_fault, fields_fault, type_fault}
 use Rattle.vortex_model.specs.Refusal.{Refusal, repeated_name, invalid_value, not_convertible}
 use Rattle.vortex_model.specs.Valid.{valid, all_have, fields_have, in_range}
-use Rattle.vortex_model.specs.Command.{first_invalid, first_unconvertible}
-use Rattle.vortex_model.proofs.ContentOrder.{true_left, true_right}
-use Rattle.vortex_model.proofs.Held.{first_none, second_none}
+use Rattle.vortex_model_table.specs.Command.{first_invalid, first_unconvertible}
+use Rattle.vortex_model_table.proofs.ContentOrder.{true_left, true_right}
+use Rattle.vortex_model_laws.proofs.Held.{first_none, second_none}
 use Rattle.vortex_scalar_value.specs.View.{raw_of, raw_in}
 use Rattle.vortex_scalar_value.specs.declared.scalar_value.ScalarValue.{ScalarValue}
 use Rattle.vortex_table_schema.specs.Rows.{row_content}

@@ -1,7 +1,7 @@
 -- Bound lengths by the positions of leaves.
 use Rattle.std.specs.Prelude.{ℕ, List, map}
 use Rattle.vortex_model.specs.Path.{Step, Positions}
-use Rattle.vortex_model.specs.Table.{length_for}
+use Rattle.vortex_model_table.specs.Table.{length_for}
 use Rattle.vortex_dtype_path.specs.View.{steps_of}
 use Rattle.vortex_dtype_path.specs.declared.path.FieldPath.{FieldPath}
 use Rattle.vortex_table_check.specs.declared.lengths.BoundLengths.{BoundLengths}

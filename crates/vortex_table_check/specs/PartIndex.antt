@@ -3,7 +3,7 @@ use Rattle.std.specs.Prelude.{◌≡◌, ℕ, List, option_map}
 use Rattle.std.specs.Borrow.{Bor}
 use Rattle.std.specs.BTreeMap.{BTreeMap, get}
 use Rattle.vortex_model.specs.LogicalType.{LogicalType, Fields}
-use Rattle.vortex_model.specs.Command.{part_named}
+use Rattle.vortex_model_table.specs.Command.{part_named}
 use Rattle.vortex_dtype_core.specs.View.{type_of}
 use Rattle.vortex_dtype_core.specs.declared.dtype.DType.{DType}
 use Rattle.vortex_dtype_fields.specs.Records.{type_named}

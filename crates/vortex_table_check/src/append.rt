@@ -7,7 +7,7 @@ ghost use Rattle.vortex_model.specs.Valid.{valid};
 ghost use Rattle.vortex_model.specs.Convert.{converts};
 ghost use Rattle.vortex_model.specs.Kept.{type_fault};
 ghost use Rattle.vortex_model.specs.Refusal.{invalid_value, not_convertible, or_else};
-ghost use Rattle.vortex_model.specs.Command.{unless, first_invalid, first_unconvertible};
+ghost use Rattle.vortex_model_table.specs.Command.{unless, first_invalid, first_unconvertible};
 ghost use Rattle.vortex_dtype_core.specs.View.{type_of};
 ghost use Rattle.vortex_scalar_value.specs.View.{raw_of, raw_in, raw_at, content_at};
 ghost use Rattle.vortex_table_schema.specs.Rows.{row_content};

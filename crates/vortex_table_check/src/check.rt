@@ -1,7 +1,7 @@
 //! Tests of types and paths before a command does anything.
 ghost use Rattle.std.specs.Prelude.{◌≡◌, Some, None, OnOk, IfErr, map, option_map};
 ghost use Rattle.vortex_model.specs.Kept.{type_fault};
-ghost use Rattle.vortex_model.specs.Command.{part_named, path_fault, paths_fault};
+ghost use Rattle.vortex_model_table.specs.Command.{part_named, path_fault, paths_fault};
 ghost use Rattle.vortex_dtype_core.specs.View.{type_of};
 ghost use Rattle.vortex_dtype_path.specs.View.{step_of, steps_of};
 ghost use Rattle.vortex_table_schema.specs.Fault.{refusal_of_fault};

@@ -3,7 +3,7 @@ ghost use Rattle.std.specs.Prelude.{◌≡◌, None, Some, true, false, map, IfO
 ghost use Rattle.vortex_model.specs.Refusal.{or_else};
 ghost use Rattle.vortex_model.specs.Path.{Positions, positions};
 ghost use Rattle.vortex_model.specs.Kept.{is_leaf_at};
-ghost use Rattle.vortex_model.specs.Command.{names_of, positions_of, path_fault, leaf_fault};
+ghost use Rattle.vortex_model_table.specs.Command.{names_of, positions_of, path_fault, leaf_fault};
 ghost use Rattle.vortex_dtype_core.specs.View.{type_of};
 ghost use Rattle.vortex_dtype_path.specs.View.{steps_of};
 ghost use Rattle.vortex_table_check.specs.Error.{Explains};

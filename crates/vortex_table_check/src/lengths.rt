@@ -3,7 +3,7 @@
 ghost use Rattle.std.specs.Prelude.{◌≡◌, ◌++◌, ◌∷◌, [], None, map, IfOk, OnOk, IfErr};
 ghost use Rattle.std.specs.List.{list_any};
 ghost use Rattle.vortex_model.specs.Path.{eq_positions};
-ghost use Rattle.vortex_model.specs.Command.{positions_of, entry_fault, entries_fault};
+ghost use Rattle.vortex_model_table.specs.Command.{positions_of, entry_fault, entries_fault};
 ghost use Rattle.vortex_dtype_core.specs.View.{type_of};
 ghost use Rattle.vortex_dtype_path.specs.View.{steps_of};
 ghost use Rattle.vortex_table_check.specs.Error.{Explains};

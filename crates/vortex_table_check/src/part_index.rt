@@ -1,6 +1,6 @@
 //! The fields of a record by their names, for many paths at once.
 ghost use Rattle.std.specs.Prelude.{◌≡◌, None, OnOk, IfOk, IfErr, map};
-ghost use Rattle.vortex_model.specs.Command.{path_fault, paths_fault};
+ghost use Rattle.vortex_model_table.specs.Command.{path_fault, paths_fault};
 ghost use Rattle.vortex_dtype_core.specs.View.{type_of, fields_of};
 ghost use Rattle.vortex_dtype_path.specs.View.{steps_of};
 ghost use Rattle.vortex_table_check.specs.Error.{Explains};

@@ -4,13 +4,13 @@ use Rattle.std.specs.Prelude.{chars, encode_utf8_all, option_map}
 use Rattle.vortex_model.specs.LogicalType.{LogicalType}
 use Rattle.vortex_model.specs.Content.{boolean, text, null as null_content, is_null as is_null_content}
 use Rattle.vortex_model.specs.Refusal.{Refusal, unequal_types, not_boolean, unsupported_like, unsupported_predicate, or_else}
-use Rattle.vortex_model.specs.Expression.{Expression, literal, column, compare, both, either, negation, is_null, is_not_null, is_nan, between, like, row_count, statistic, Comparison, equal, not_equal, greater, at_least, less, at_most, Aggregate, min, max, null_count, nan_count, all_null, all_non_null, all_non_nan}
-use Rattle.vortex_model.specs.Truth.{Given, evaluate, compared, kleene_and, kleene_or, kleene_not, end_of, liked}
-use Rattle.vortex_model.specs.Typing.{expression_type}
-use Rattle.vortex_model.specs.Rewrite.{bound_expression, null_count_expression, comparison_falsifier, comparison_falsifiers, guarded, no_nan_by_count, no_nan_by_flag, is_comparable, is_float_placeholder, joined_proofs, either_there, both_there, as_list, outside, Shape, exact_text, beginning, no_shape, shape_of, shape_falsifier, like_falsifier, falsifier, satisfier}
-use Rattle.vortex_model.specs.Bounds.{raise}
-use Rattle.vortex_model.specs.Sound.{Placeholders}
-use Rattle.vortex_model.specs.Command.{expression_fault, unless, eq_optional_type, is_boolean, is_utf8_type, is_supported_like}
+use Rattle.vortex_model_table.specs.Expression.{Expression, literal, column, compare, both, either, negation, is_null, is_not_null, is_nan, between, like, row_count, statistic, Comparison, equal, not_equal, greater, at_least, less, at_most, Aggregate, min, max, null_count, nan_count, all_null, all_non_null, all_non_nan}
+use Rattle.vortex_model_table.specs.Truth.{Given, evaluate, compared, kleene_and, kleene_or, kleene_not, end_of, liked}
+use Rattle.vortex_model_table.specs.Typing.{expression_type}
+use Rattle.vortex_model_table.specs.Rewrite.{bound_expression, null_count_expression, comparison_falsifier, comparison_falsifiers, guarded, no_nan_by_count, no_nan_by_flag, is_comparable, is_float_placeholder, joined_proofs, either_there, both_there, as_list, outside, Shape, exact_text, beginning, no_shape, shape_of, shape_falsifier, like_falsifier, falsifier, satisfier}
+use Rattle.vortex_model_table.specs.Bounds.{raise}
+use Rattle.vortex_model_table.specs.Sound.{Placeholders}
+use Rattle.vortex_model_table.specs.Command.{expression_fault, unless, eq_optional_type, is_boolean, is_utf8_type, is_supported_like}
 
 -- the answers agree on each placeholder of the proof
 abbrev pub AgreeOn : Placeholders → Placeholders → Expression → Type 0

@@ -1,7 +1,7 @@
 -- Equal leaves.
 use Rattle.std.proofs.Common.{◌≡◌, refl, sym, ◌∙◌, ap, List, [], ◌∷◌, Bool, true, ◌&&◌}
 use Rattle.vortex_model.specs.Path.{Positions, eq_positions}
-use Rattle.vortex_model.proofs.ContentOrder.{true_left, true_right}
+use Rattle.vortex_model_table.proofs.ContentOrder.{true_left, true_right}
 use Rattle.vortex_table_schema.proofs.Places.{positions_so, positions_itself}
 use Rattle.vortex_table_chunk.specs.Formed.{eq_leaves}
 

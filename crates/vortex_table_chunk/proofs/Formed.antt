@@ -4,8 +4,8 @@ use Rattle.std.proofs.lemmas.Bool.Decides.{nat_tests}
 use Rattle.vortex_model.specs.Content.{null, scalar, equal_content}
 use Rattle.vortex_model.specs.LogicalType.{LogicalType, eq_type}
 use Rattle.vortex_model.specs.Path.{Positions, eq_positions}
-use Rattle.vortex_model.proofs.ContentOrder.{true_left, true_right}
-use Rattle.vortex_model.proofs.Equality.{content_passes}
+use Rattle.vortex_model_table.proofs.ContentOrder.{true_left, true_right}
+use Rattle.vortex_model_table.proofs.Equality.{content_passes}
 use Rattle.vortex_model.proofs.Tests.{kind_so}
 use Rattle.vortex_arrays_model.specs.Layout.{len_of, array_type_of}
 use Rattle.vortex_table_schema.specs.Leaves.{leaf_positions}

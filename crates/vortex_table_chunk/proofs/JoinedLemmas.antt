@@ -10,12 +10,12 @@ use Rattle.vortex_model.specs.LogicalType.{LogicalType, IntKind, u8, u16, u32, u
 use Rattle.vortex_model.specs.Content.{Content, is_null}
 use Rattle.vortex_model.specs.Valid.{IsContent}
 use Rattle.vortex_model.specs.Path.{Positions, type_at, at}
-use Rattle.vortex_model.specs.Scan.{kind_at}
-use Rattle.vortex_model.specs.Typing.{sum_kind}
-use Rattle.vortex_model.specs.Statistics.{sum_of}
-use Rattle.vortex_model.specs.ZoneMap.{zone_of, values_at, value_in, sum_in, alone, together, joined}
-use Rattle.vortex_model.proofs.ContentOrder.{true_left, true_right}
-use Rattle.vortex_model.proofs.LeafOrder.{bounds_of_column}
+use Rattle.vortex_model_table.specs.Scan.{kind_at}
+use Rattle.vortex_model_table.specs.Typing.{sum_kind}
+use Rattle.vortex_model_table.specs.Statistics.{sum_of}
+use Rattle.vortex_model_table.specs.ZoneMap.{zone_of, values_at, value_in, sum_in, alone, together, joined}
+use Rattle.vortex_model_table.proofs.ContentOrder.{true_left, true_right}
+use Rattle.vortex_model_laws.proofs.LeafOrder.{bounds_of_column}
 use Rattle.vortex_table_chunk.specs.declared.zones.bounds.ColumnBounds.{ColumnBounds}
 use Rattle.vortex_table_chunk.specs.zones.Bounds.{bound_in, IsBoundsOf}
 use Rattle.vortex_table_chunk.specs.zones.Sums.{int_kind_of, eq_sum_kind}

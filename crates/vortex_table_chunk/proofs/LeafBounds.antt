@@ -4,10 +4,10 @@ use Rattle.std.proofs.lemmas.List.{take_more}
 use Rattle.vortex_model.specs.LogicalType.{LogicalType, IntKind, u8, u16, u32, u64, i8, i16, i32, i64, eq_int_kind}
 use Rattle.vortex_model.specs.Path.{Positions, eq_positions}
 use Rattle.vortex_model.specs.Content.{Content}
-use Rattle.vortex_model.specs.Scan.{kind_at}
-use Rattle.vortex_model.specs.Typing.{sum_kind}
-use Rattle.vortex_model.specs.ZoneMap.{values_at}
-use Rattle.vortex_model.proofs.ContentOrder.{true_left, true_right}
+use Rattle.vortex_model_table.specs.Scan.{kind_at}
+use Rattle.vortex_model_table.specs.Typing.{sum_kind}
+use Rattle.vortex_model_table.specs.ZoneMap.{values_at}
+use Rattle.vortex_model_table.proofs.ContentOrder.{true_left, true_right}
 use Rattle.vortex_table_schema.proofs.Places.{positions_so, is_among}
 use Rattle.vortex_table_chunk.specs.zones.Bounds.{IsBoundsOf}
 use Rattle.vortex_table_chunk.specs.zones.Sums.{int_kind_of, eq_sum_kind}

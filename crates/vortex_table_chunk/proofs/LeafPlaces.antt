@@ -4,7 +4,7 @@ use Rattle.std.specs.List.{AllByRecursion}
 use Rattle.vortex_model.specs.LogicalType.{LogicalType, struct, Fields, no_fields, field, Nullability, nullable_inside}
 use Rattle.vortex_model.specs.Kept.{is_leaf, is_leaf_at}
 use Rattle.vortex_model.specs.Path.{Positions, field_at, type_at}
-use Rattle.vortex_model.proofs.Columns.{leaf_within}
+use Rattle.vortex_model_laws.proofs.Columns.{leaf_within}
 use Rattle.vortex_table_schema.specs.Leaves.{leaves_in, leaves_among, leaf_positions}
 
 abbrev is_leaf_there : Option LogicalType → Bool

@@ -5,5 +5,6 @@ pub mod JoinLists
 pub mod JoinedLemmas
 pub mod LeafBounds
 pub mod LeafPlaces
+pub mod LeafSums
 pub mod ProvenAlike
 pub mod TypedRows

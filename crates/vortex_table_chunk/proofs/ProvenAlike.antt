@@ -7,15 +7,15 @@ use Rattle.vortex_model.specs.Valid.{IsContent}
 use Rattle.vortex_model.specs.Refusal.{Refusal, not_a_leaf}
 use Rattle.vortex_model.specs.Kept.{is_leaf}
 use Rattle.vortex_model.specs.Path.{Names, Positions, positions, type_at, eq_positions}
-use Rattle.vortex_model.specs.Rewrite.{falsifier, satisfier}
-use Rattle.vortex_model.specs.ZoneMap.{ZoneMap, zone_of, values_at, group_bounds}
-use Rattle.vortex_model.specs.Expression.{Expression, column, like, Aggregate}
-use Rattle.vortex_model.specs.Truth.{Given, evaluate, is_true}
-use Rattle.vortex_model.specs.Table.{Table, bound_length}
-use Rattle.vortex_model.specs.Scan.{known, proves, chunk_zone, chunk_zone_at, leaf_at as leaf_of, if_leaf, group_zone}
-use Rattle.vortex_model.specs.Sound.{Placeholders}
-use Rattle.vortex_model.specs.Command.{expression_fault, column_fault, unless}
-use Rattle.vortex_model.proofs.Columns.{all_at_type}
+use Rattle.vortex_model_table.specs.Rewrite.{falsifier, satisfier}
+use Rattle.vortex_model_table.specs.ZoneMap.{ZoneMap, zone_of, values_at, group_bounds}
+use Rattle.vortex_model_table.specs.Expression.{Expression, column, like, Aggregate}
+use Rattle.vortex_model_table.specs.Truth.{Given, evaluate, is_true}
+use Rattle.vortex_model_table.specs.Table.{Table, bound_length}
+use Rattle.vortex_model_table.specs.Scan.{known, proves, chunk_zone, chunk_zone_at, leaf_at as leaf_of, if_leaf, group_zone}
+use Rattle.vortex_model_table.specs.Sound.{Placeholders}
+use Rattle.vortex_model_table.specs.Command.{expression_fault, column_fault, unless}
+use Rattle.vortex_model_laws.proofs.Columns.{all_at_type}
 use Rattle.vortex_arrays_model.specs.Layout.{len_of}
 use Rattle.vortex_arrays_model.proofs.RowsLemmas.{row_count}
 use Rattle.vortex_table_schema.specs.Leaves.{leaf_positions}
@@ -32,8 +32,8 @@ use Rattle.vortex_table_chunk.proofs.Agreement.{AgreeIn, eq_value, falsifiers_ag
 use Rattle.vortex_table_chunk.proofs.LeafBounds.{Found, found_among}
 use Rattle.std.specs.Coded.{Coded-set}
 use Rattle.std.proofs.Math.Logic.{∥∥₁_elim}
-use Rattle.vortex_model.proofs.Groups.{map_twice}
-use Rattle.vortex_model.proofs.LeafOrder.{bounds_of_column}
+use Rattle.vortex_model_laws.proofs.Groups.{map_twice}
+use Rattle.vortex_model_laws.proofs.LeafOrder.{bounds_of_column}
 use Rattle.vortex_table_chunk.specs.BoundCode.{coded_content}
 use Rattle.vortex_table_chunk.specs.Joined.{IsJoined, AreJoined, rows_in}
 

@@ -6,9 +6,9 @@ use Rattle.vortex_model.specs.LogicalType.{LogicalType, stored}
 use Rattle.vortex_model.specs.Path.{Positions}
 use Rattle.vortex_model.specs.Valid.{valid, IsContent}
 use Rattle.vortex_model.specs.Laws.{TestsOfValidityAreRight}
-use Rattle.vortex_model.proofs.ContentOrder.{true_left, true_right}
+use Rattle.vortex_model_table.proofs.ContentOrder.{true_left, true_right}
 use Rattle.vortex_model.proofs.Contents.{said}
-use Rattle.vortex_model.proofs.Outcomes.{sum_first}
+use Rattle.vortex_model_laws.proofs.Outcomes.{sum_first}
 use Rattle.vortex_model.proofs.Tests.{has_so}
 use Rattle.vortex_arrays_model.specs.Layout.{Layout, len_of, array_type_of, content_at, IsSound}
 use Rattle.vortex_arrays_model.proofs.RowsLemmas.{row_count as rows_counted}

@@ -3,7 +3,7 @@ use Rattle.std.specs.Prelude.{◌≡◌, Option, Some, None, Bool, true, false}
 use Rattle.std.specs.Coded.{Coded, code_by, coded_option, coded×, coded_bool}
 use Rattle.std.proofs.Common.{refl}
 use Rattle.vortex_model.specs.Content.{Content}
-use Rattle.vortex_model.specs.Statistics.{Precision, exact, inexact, absent}
+use Rattle.vortex_model_table.specs.Statistics.{Precision, exact, inexact, absent}
 use Rattle.vortex_stats_expr.specs.ContentCode.{content_code, content_inj}
 
 abbrev pub coded_content : Coded Content

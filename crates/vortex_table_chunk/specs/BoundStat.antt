@@ -2,7 +2,7 @@
 use Rattle.std.specs.Prelude.{ℕ, List, ◌∷◌, Option, Some, None, if◌then◌else◌}
 use Rattle.vortex_model.specs.Content.{Content, null}
 use Rattle.vortex_model.specs.Path.{Positions, eq_positions}
-use Rattle.vortex_model.specs.Expression.{Aggregate}
+use Rattle.vortex_model_table.specs.Expression.{Aggregate}
 use Rattle.vortex_stats_bind.specs.Bound.{Bound, Provided, place}
 use Rattle.vortex_table_chunk.specs.zones.StatValue.{stat_value}
 use Rattle.vortex_table_chunk.specs.declared.zones.bounds.ColumnBounds.{ColumnBounds}

@@ -4,9 +4,9 @@ use Rattle.std.specs.Coded.{Coded-set, coded_ℕ, coded_ℤ, coded_bool}
 use Rattle.vortex_model.specs.Content.{Content}
 use Rattle.vortex_model.specs.Path.{Positions}
 use Rattle.vortex_model.specs.LogicalType.{LogicalType}
-use Rattle.vortex_model.specs.Scan.{kind_at}
-use Rattle.vortex_model.specs.Typing.{sum_kind}
-use Rattle.vortex_model.specs.ZoneMap.{values_at}
+use Rattle.vortex_model_table.specs.Scan.{kind_at}
+use Rattle.vortex_model_table.specs.Typing.{sum_kind}
+use Rattle.vortex_model_table.specs.ZoneMap.{values_at}
 use Rattle.vortex_table_chunk.specs.zones.Bounds.{IsBoundsOf}
 use Rattle.vortex_table_chunk.specs.declared.zones.bounds.ColumnBounds.{ColumnBounds}
 use Rattle.vortex_table_chunk.specs.BoundCode.{coded_bound, coded_precision}

@@ -1,8 +1,8 @@
 -- Whether a proof is true of what is provided.
 use Rattle.std.specs.Prelude.{◌≡◌, Option, Some, None, Bool, false}
 use Rattle.vortex_model.specs.LogicalType.{LogicalType}
-use Rattle.vortex_model.specs.Expression.{Expression}
-use Rattle.vortex_model.specs.Truth.{evaluate, is_true}
+use Rattle.vortex_model_table.specs.Expression.{Expression}
+use Rattle.vortex_model_table.specs.Truth.{evaluate, is_true}
 use Rattle.vortex_arrays_model.specs.Layout.{len_of}
 use Rattle.vortex_stats_bind.specs.Bound.{Bound, Provided, evaluate_bound, by_names}
 use Rattle.vortex_table_chunk.specs.BoundStat.{zone_provided}

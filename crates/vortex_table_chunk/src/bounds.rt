@@ -1,9 +1,9 @@
 //! Statistics of all leaf columns of the rows of a chunk.
 ghost use Rattle.std.specs.Prelude.{◌≡◌, length, true, IfOk, IsTrue};
 ghost use Rattle.vortex_model.specs.Kept.{is_leaf, is_leaf_at};
-ghost use Rattle.vortex_model.specs.Scan.{kind_at};
-ghost use Rattle.vortex_model.specs.Typing.{sum_kind};
-ghost use Rattle.vortex_model.specs.ZoneMap.{values_at, zone_of};
+ghost use Rattle.vortex_model_table.specs.Scan.{kind_at};
+ghost use Rattle.vortex_model_table.specs.Typing.{sum_kind};
+ghost use Rattle.vortex_model_table.specs.ZoneMap.{values_at, zone_of};
 ghost use Rattle.vortex_arrays_model.specs.Layout.{array_type_of, rows_of};
 ghost use Rattle.vortex_arrays_model.specs.Column.{IsPart};
 ghost use Rattle.vortex_stats_array.specs.Zones.{zone_in};

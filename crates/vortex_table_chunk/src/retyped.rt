@@ -1,10 +1,12 @@
 //! Chunks whose rows are converted to another type, with the statistics that stay.
-ghost use Rattle.std.specs.Prelude.{◌≡◌, length, true, IfOk, IfSome, IsTrue};
+ghost use Rattle.std.specs.Prelude.{◌≡◌, length, true, Some, IfOk, IfSome, IsTrue};
 ghost use Rattle.vortex_model.specs.Kept.{is_leaf, is_leaf_at};
-ghost use Rattle.vortex_model.specs.Scan.{kind_at};
-ghost use Rattle.vortex_model.specs.Statistics.{sum_of};
-ghost use Rattle.vortex_model.specs.Typing.{sum_kind};
-ghost use Rattle.vortex_model.specs.ZoneMap.{sum_in, values_at};
+ghost use Rattle.vortex_model.specs.Path.{part_at};
+ghost use Rattle.vortex_model_table.specs.Scan.{kind_at};
+ghost use Rattle.vortex_model_table.specs.Statistics.{sum_of};
+ghost use Rattle.vortex_model_table.specs.Typing.{sum_kind};
+ghost use Rattle.vortex_model_table.specs.ZoneMap.{sum_in, values_at};
+ghost use Rattle.vortex_dtype_core.specs.View.{type_of};
 ghost use Rattle.vortex_arrays_model.specs.Layout.{array_type_of, rows_of};
 ghost use Rattle.vortex_table_schema.specs.Leaves.{leaf_positions};
 ghost use Rattle.vortex_table_chunk.specs.Bounds.{AreBoundsOf, are_sums_of};
@@ -18,6 +20,7 @@ use crate::zones::bounds::ColumnBounds;
 use std::alloc::{AllocError, Global};
 use std::rc::Rc;
 use vortex_arrays_core::array::ArrayRef;
+use vortex_dtype_core::dtype::DType;
 use vortex_scalar_value::pvalue::PValue;
 use vortex_table_schema::leaves::LeafPath;
 
@@ -41,8 +44,39 @@ fn carried_sum(
     Ok(stats.sum)
 }
 
-// The statistics of a leaf column that had these before.
-fn carried_bounds(
+// The type of the field at this position, where there is one.
+#[tactic(auto, using(vortex_stats_expr::proofs::Classes::by_fields))]
+fn field_type<'a>(dtype: &'a DType, position: usize) -> Option<&'a DType>
+    ensures { IfSome result
+        (λ field. part_at (type_of dtype.now) position ≡ Some (type_of field.now)) }
+{
+    let Some(fields) = dtype.as_struct_fields_opt() else {
+        return None;
+    };
+    match fields.field_by_index(position) {
+        Some(field) => Some(field),
+        None => None,
+    }
+}
+
+// The type of the leaf at these positions, as it is in its record.
+#[tactic(auto, using(crate::proofs::LeafSums::sums))]
+fn leaf_type<'a>(dtype: &'a DType, leaf: &[usize]) -> Option<&'a DType>
+    ensures { IfSome result (λ found. sum_kind (type_of found.now)
+        ≡ sum_kind (kind_at (type_of dtype.now) leaf.now)) }
+{
+    let mut part = dtype;
+    for position in leaf {
+        let Some(field) = field_type(part, *position) else {
+            return None;
+        };
+        part = field;
+    }
+    Some(part)
+}
+
+// The statistics of a leaf column that had these before, and a sum of another type.
+fn summed_bounds(
     alloc: Global,
     old: &ColumnBounds,
     array: &ArrayRef,
@@ -60,6 +94,32 @@ fn carried_bounds(
     let sum = carried_sum(alloc, old, &column, max_length)?;
     let bounds = old.carried_to(column.dtype(), sum)?;
     Ok(bounds)
+}
+
+// The statistics of a leaf column that had these before. Only where the type of its sum changes is
+// the column itself looked up.
+#[inline(never)]
+fn carried_bounds(
+    alloc: Global,
+    old: &ColumnBounds,
+    array: &ArrayRef,
+    leaf: &[usize],
+    max_length: usize,
+) -> Result<ColumnBounds, AllocError>
+    requires leaf { is_leaf_at (array_type_of array.now) leaf.now ≡ true }
+    requires old { IsBoundsOf max_length old.now (values_at leaf.now (rows_of array.now)) }
+    ensures statistics { IfOk result (λ bounds.
+        IsBoundsOf max_length bounds (values_at leaf.now (rows_of array.now))) }
+    ensures sums { IfOk result (λ bounds.
+        int_kind_of bounds.sum_type ≡ sum_kind (kind_at (array_type_of array.now) leaf.now)) }
+{
+    if let Some(dtype) = leaf_type(array.dtype(), leaf) {
+        if old.has_sum_of(dtype) {
+            let bounds = old.carried_to(dtype, old.sum)?;
+            return Ok(bounds);
+        }
+    }
+    summed_bounds(alloc, old, array, leaf, max_length)
 }
 
 // The chunk's statistics of its leaf column with this index, if it stands at these positions.
@@ -156,6 +216,7 @@ fn retyped_bounds(
 /// A chunk of the same rows in an array of another type, which has these leaf columns with these
 /// bound lengths. A leaf column that was one at its positions keeps its bounds and its null count,
 /// and its sum where the type of sums stays. All other statistics are taken from the rows.
+#[inline(never)]
 pub fn retyped_chunk(
     alloc: Global,
     chunk: &Chunk,

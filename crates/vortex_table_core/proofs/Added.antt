@@ -2,7 +2,7 @@
 use Rattle.std.proofs.Common.{◌≡◌, ◌+◌, ◌-◌, ◌^◌, ◌++◌, ℕ, min, List, is_some, arith}
 use Rattle.std.proofs.lemmas.Bool.Decides.{nat_tests}
 use Rattle.vortex_model.specs.Content.{Content}
-use Rattle.vortex_model.specs.Scan.{Outcome, is_skipped, is_whole, saturated, ScanAnswer}
+use Rattle.vortex_model_table.specs.Scan.{Outcome, is_skipped, is_whole, saturated, ScanAnswer}
 use Rattle.vortex_table_core.specs.Progress.{Question, found_rows, push_if, tested_rows, proofs_at, with_chunk}
 
 -- a sum that stops at the greatest number of 64 bits

@@ -9,8 +9,8 @@ use Rattle.vortex_model.specs.Valid.{valid}
 use Rattle.vortex_scalar_value.specs.View.{raw_in, content_in}
 use Rattle.vortex_scalar_value.specs.declared.scalar_value.ScalarValue.{ScalarValue}
 use Rattle.vortex_model.specs.Kept.{type_fault}
-use Rattle.vortex_model.specs.Table as model
-use Rattle.vortex_model.specs.Command.{append, append_array, refusal, after, appended, first_invalid, first_unconvertible}
+use Rattle.vortex_model_table.specs.Table as model
+use Rattle.vortex_model_table.specs.Command.{append, append_array, refusal, after, appended, first_invalid, first_unconvertible}
 use Rattle.vortex_arrays_model.specs.Layout.{Layout, len_of, rows_of}
 use Rattle.vortex_arrays_model.proofs.RowsLemmas.{row_count}
 use Rattle.vortex_table_check.specs.Error.{Explains}

@@ -2,14 +2,14 @@
 use Rattle.std.proofs.Common.{◌≡◌, refl, sym, ◌∙◌, ap, List, map, false, ◌||◌, Option, Some, None}
 use Rattle.vortex_model.specs.LogicalType.{LogicalType}
 use Rattle.vortex_model.specs.Path.{Names}
-use Rattle.vortex_model.specs.Expression.{Expression}
-use Rattle.vortex_model.specs.Cut.{cut_row, cut_type}
-use Rattle.vortex_model.specs.Rewrite.{falsifier, satisfier}
-use Rattle.vortex_model.specs.Table.{Table, IsTable}
-use Rattle.vortex_model.specs.Scan.{ScanAnswer, scanned, skipped_chunks, whole_chunks, rows_tested, proofs}
-use Rattle.vortex_model.specs.Pruning.{IsAsked}
-use Rattle.vortex_model.proofs.GroupSkipping.{none_lost}
-use Rattle.vortex_model.proofs.Skipping.{asked_sound}
+use Rattle.vortex_model_table.specs.Expression.{Expression}
+use Rattle.vortex_model_table.specs.Cut.{cut_row, cut_type}
+use Rattle.vortex_model_table.specs.Rewrite.{falsifier, satisfier}
+use Rattle.vortex_model_table.specs.Table.{Table, IsTable}
+use Rattle.vortex_model_table.specs.Scan.{ScanAnswer, scanned, skipped_chunks, whole_chunks, rows_tested, proofs}
+use Rattle.vortex_model_table.specs.Pruning.{IsAsked}
+use Rattle.vortex_model_laws.proofs.GroupSkipping.{none_lost}
+use Rattle.vortex_model_laws.proofs.Skipping.{asked_sound}
 use Rattle.vortex_model_rules.specs.Rules.{is_fault, answer_of, Rule, fals, sat}
 use Rattle.vortex_model_rules.specs.Scanned.{scanned_by, by_answers, scanned_with}
 use Rattle.vortex_table_plan.specs.Rules.{have_fault}

@@ -1,15 +1,16 @@
 -- What a scan takes of a chunk.
-use Rattle.std.proofs.Common.{◌≡◌, sym, ◌∙◌, ap, subst, refl, ℕ, zero, suc, ◌+◌, List, [], map, filter, true, false, None, IsTrue}
+use Rattle.std.proofs.Common.{◌≡◌, sym, ◌∙◌, ap, subst, refl, ℕ, zero, suc, ◌+◌, List, [], map, filter, true, false, None, IsTrue, All}
 use Rattle.std.specs.List.{AllByRecursion, list_all, range_with_len}
 use Rattle.vortex_model.specs.LogicalType.{LogicalType, struct, non_nullable}
 use Rattle.vortex_model.specs.Content.{Content, raw_null}
 use Rattle.vortex_model.specs.Kept.{type_fault}
 use Rattle.vortex_model.specs.Path.{Names}
+use Rattle.vortex_model_table.specs.Expression.{Expression}
 use Rattle.vortex_model.specs.Valid.{valid}
-use Rattle.vortex_model.specs.Table.{bound_length}
-use Rattle.vortex_model.specs.Truth.{selects, is_true}
-use Rattle.vortex_model.specs.Scan.{whole, tested}
-use Rattle.vortex_model.proofs.ContentOrder.{true_left, true_right}
+use Rattle.vortex_model_table.specs.Table.{bound_length}
+use Rattle.vortex_model_table.specs.Truth.{selects, is_true}
+use Rattle.vortex_model_table.specs.Scan.{whole, tested}
+use Rattle.vortex_model_table.proofs.ContentOrder.{true_left, true_right}
 use Rattle.vortex_arrays_model.specs.Layout.{Layout, len_of, array_type_of, content_at, rows_of}
 use Rattle.vortex_arrays_core.specs.RawRows.{raw_row}
 use Rattle.vortex_arrays_core.proofs.RawRowsLemmas.{says}
@@ -18,7 +19,10 @@ use Rattle.vortex_table_chunk.specs.Rows.{are_rows_valid}
 use Rattle.vortex_table_schema.specs.Cut.{content_cut, kept_by, raw_cut}
 use Rattle.vortex_table_core.specs.Plan.{IsPlan, table_in, question_in}
 use Rattle.vortex_table_core.specs.Progress.{Question, found_rows}
-use Rattle.vortex_table_select.specs.Selected.{is_selected, cut_rows, selected_rows, CanBeCut}
+use Rattle.vortex_table_plan.specs.Prepared.{IsPreparedFor}
+use Rattle.vortex_table_plan.specs.declared.plan.ScanPlan.{ScanPlan}
+use Rattle.vortex_table_select.specs.Selected.{is_selected, cut_rows, selected_rows, AreOfType, CanBeCut}
+use Rattle.vortex_table_select.specs.declared.selection.Selection.{Selection}
 use Rattle.vortex_table_chunk.specs.Formed.{is_formed}
 use Rattle.vortex_table_chunk.specs.declared.chunk.Chunk.{Chunk}
 use Rattle.vortex_table_core.specs.declared.plan.Scan.{Scan}
@@ -45,6 +49,13 @@ module _ (k : LogicalType) (paths : List Names) (a : Layout) (same : array_type_
   pub rows_cut : are_rows_valid a ≡ true → AllByRecursion (IsCut k paths) (rows_of a)
   rows_cut h = each_cut 0 (len_of a) h
 
+-- the rows of a table can be cut as its scans ask
+pub can_be_cut : (k : LogicalType) (paths : List Names) (e : Expression) (prepared : ScanPlan) → IsPreparedFor k paths e prepared → (selections : List Selection) → AreOfType k selections →
+    All (λ s. CanBeCut prepared.cut (array_type_of s.array)) selections
+can_be_cut k paths e prepared is selections typed i d l r h =
+    (λ j. valid (is.cut_kind j) (raw_cut (is.cut_values j) r))
+    ∙ cut_is_valid paths k r (ap (λ t. valid t r) (sym (typed i d l)) ∙ h)
+
 module _ (plan : Scan) (is : IsPlan plan) (chunk : Chunk) (formed : IsTrue (is_formed (bound_length (table_in plan)) (table_in plan).kind chunk)) where
   abbrev k : LogicalType
   k = (table_in plan).kind
@@ -55,13 +66,8 @@ module _ (plan : Scan) (is : IsPlan plan) (chunk : Chunk) (formed : IsTrue (is_f
   abbrev q : Question
   q = question_in plan
 
-  same_type : array_type_of chunk.array ≡ k
+  pub same_type : array_type_of chunk.array ≡ k
   same_type = of_type (bound_length (table_in plan)) k chunk formed
-
-  pub can_be_cut : CanBeCut plan.prepared.now.cut (array_type_of chunk.array)
-  can_be_cut r h =
-      (λ j. valid (is.prepared.cut_kind j) (raw_cut (is.prepared.cut_values j) r))
-      ∙ cut_is_valid paths k r (ap (λ t. valid t r) (sym same_type) ∙ h)
 
   -- the rows are records, and so never null
   pub never_null : valid (array_type_of chunk.array) raw_null ≡ false

@@ -7,11 +7,11 @@ use Rattle.std.proofs.lemmas.List.{length-map, length-drop, length-take}
 use Rattle.vortex_model.specs.LogicalType.{LogicalType}
 use Rattle.vortex_model.specs.Content.{Content}
 use Rattle.vortex_model.specs.Path.{Positions}
-use Rattle.vortex_model.specs.Table.{Table, bound_length}
-use Rattle.vortex_model.specs.Cut.{cut_row}
-use Rattle.vortex_model.proofs.Outcomes.{sum_first}
-use Rattle.vortex_model.specs.Scan.{Outcome, ScanAnswer, skipped_in_group, grouped, is_many, is_skipped, is_whole, is_in_group, one_if, numbers, tested_lengths, saturated}
-use Rattle.vortex_model.proofs.ContentOrder.{true_left, true_right}
+use Rattle.vortex_model_table.specs.Table.{Table, bound_length}
+use Rattle.vortex_model_table.specs.Cut.{cut_row}
+use Rattle.vortex_model_laws.proofs.Outcomes.{sum_first}
+use Rattle.vortex_model_table.specs.Scan.{Outcome, ScanAnswer, skipped_in_group, grouped, is_many, is_skipped, is_whole, is_in_group, one_if, numbers, tested_lengths, saturated}
+use Rattle.vortex_model_table.proofs.ContentOrder.{true_left, true_right}
 use Rattle.vortex_table_chunk.specs.Chunk.{chunk_rows}
 use Rattle.vortex_table_chunk.specs.declared.chunk.Chunk.{Chunk}
 use Rattle.vortex_table_core.specs.Group.{IsGroup, AreGroups, chunks_of}

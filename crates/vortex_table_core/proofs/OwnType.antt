@@ -7,8 +7,8 @@ use Rattle.vortex_model.specs.Kept.{type_fault}
 use Rattle.vortex_model.specs.Path.{Positions}
 use Rattle.vortex_model.specs.Refusal.{not_convertible, or_else}
 use Rattle.vortex_model.specs.Valid.{valid}
-use Rattle.vortex_model.specs.Command.{first_unconvertible}
-use Rattle.vortex_model.proofs.ContentOrder.{true_left, true_right}
+use Rattle.vortex_model_table.specs.Command.{first_unconvertible}
+use Rattle.vortex_model_table.proofs.ContentOrder.{true_left, true_right}
 use Rattle.vortex_arrays_model.specs.Layout.{Layout, len_of, array_type_of, content_at, rows_of}
 use Rattle.vortex_arrays_core.specs.RawRows.{raw_row}
 use Rattle.vortex_arrays_core.proofs.RawRowsLemmas.{says}

@@ -5,12 +5,12 @@ use Rattle.std.proofs.lemmas.List.Sums.{length-filter, sum_by-append}
 use Rattle.std.proofs.lemmas.List.{map-append, length-map, length-take-le, length-drop, take-append-drop}
 use Rattle.std.proofs.lemmas.Bool.Decides.{nat_tests}
 use Rattle.vortex_model.specs.Content.{Content}
-use Rattle.vortex_model.specs.Truth.{selects}
-use Rattle.vortex_model.specs.Cut.{cut_row}
-use Rattle.vortex_model.specs.Scan.{Outcome, skipped_in_group, skipped, whole, tested, is_skipped, is_whole, is_tested, is_in_group, saturated, one_if, ScanAnswer, grouped, is_many, numbers, tested_lengths}
-use Rattle.vortex_model.specs.Pruning.{found_in}
-use Rattle.vortex_model.specs.Table.{Table}
-use Rattle.vortex_model.proofs.Outcomes.{tested_first as length_first, sum_first}
+use Rattle.vortex_model_table.specs.Truth.{selects}
+use Rattle.vortex_model_table.specs.Cut.{cut_row}
+use Rattle.vortex_model_table.specs.Scan.{Outcome, skipped_in_group, skipped, whole, tested, is_skipped, is_whole, is_tested, is_in_group, saturated, one_if, ScanAnswer, grouped, is_many, numbers, tested_lengths}
+use Rattle.vortex_model_table.specs.Pruning.{found_in}
+use Rattle.vortex_model_table.specs.Table.{Table}
+use Rattle.vortex_model_laws.proofs.Outcomes.{tested_first as length_first, sum_first}
 use Rattle.vortex_model_rules.specs.Scanned.{group_outcomes_by}
 use Rattle.vortex_table_core.specs.Progress.{Question, answer_to, outcome_to, found_rows, push_if, tested_rows, proofs_at, with_chunk, with_chunks, is_group_skipped, outcome_in, group_proofs, looked_at, with_group, with_groups, no_answer}
 

@@ -5,8 +5,8 @@ use Rattle.std.specs.List.{list_all}
 use Rattle.std.proofs.lemmas.Bool.Decides.{nat_tests}
 use Rattle.std.proofs.lemmas.List.{length-map}
 use Rattle.vortex_model.specs.Content.{Content}
-use Rattle.vortex_model.specs.Table.{Table, bound_length}
-use Rattle.vortex_model.specs.Scan.{proves, is_many, chunk_zone, group_zone, skipped, whole, tested}
+use Rattle.vortex_model_table.specs.Table.{Table, bound_length}
+use Rattle.vortex_model_table.specs.Scan.{proves, is_many, chunk_zone, group_zone, skipped, whole, tested}
 use Rattle.vortex_arrays_model.specs.Layout.{len_of}
 use Rattle.vortex_table_schema.specs.Leaves.{leaf_positions}
 use Rattle.vortex_table_chunk.specs.Chunk.{chunk_rows}

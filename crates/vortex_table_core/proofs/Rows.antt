@@ -4,7 +4,7 @@ use Rattle.std.specs.List.{AllByRecursion}
 use Rattle.vortex_model.specs.LogicalType.{LogicalType}
 use Rattle.vortex_model.specs.Content.{Content}
 use Rattle.vortex_model.specs.Path.{Names}
-use Rattle.vortex_model.specs.Cut.{cut_row}
+use Rattle.vortex_model_table.specs.Cut.{cut_row}
 use Rattle.vortex_table_schema.specs.Cut.{content_cut, kept_by}
 
 module _ (k : LogicalType) (paths : List Names) where

@@ -4,8 +4,8 @@ use Rattle.std.specs.Prelude.{is_some, option_map}
 use Rattle.std.specs.List.{list_all}
 use Rattle.std.proofs.lemmas.List.{length-drop, length-take, length-map, get_or-map}
 use Rattle.vortex_model.specs.Content.{Content}
-use Rattle.vortex_model.specs.Table.{Table, bound_length}
-use Rattle.vortex_model.specs.Scan.{ScanAnswer, is_many, is_skipped, is_in_group, one_if, saturated}
+use Rattle.vortex_model_table.specs.Table.{Table, bound_length}
+use Rattle.vortex_model_table.specs.Scan.{ScanAnswer, is_many, is_skipped, is_in_group, one_if, saturated}
 use Rattle.vortex_table_chunk.specs.Chunk.{chunk_rows}
 use Rattle.vortex_table_chunk.specs.Formed.{is_formed}
 use Rattle.vortex_table_chunk.specs.declared.chunk.Chunk.{Chunk}

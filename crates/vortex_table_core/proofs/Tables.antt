@@ -4,8 +4,8 @@ use Rattle.std.specs.List.{AllByRecursion, list_all}
 use Rattle.std.proofs.lemmas.List.{length-map}
 use Rattle.vortex_model.specs.LogicalType.{LogicalType}
 use Rattle.vortex_model.specs.Path.{Positions}
-use Rattle.vortex_model.specs.Table.{IsTable, bound_length}
-use Rattle.vortex_model.proofs.ContentOrder.{true_left, true_right}
+use Rattle.vortex_model_table.specs.Table.{IsTable, bound_length}
+use Rattle.vortex_model_table.proofs.ContentOrder.{true_left, true_right}
 use Rattle.vortex_dtype_core.specs.View.{type_of}
 use Rattle.vortex_table_check.proofs.Explained.{none_so}
 use Rattle.vortex_table_chunk.specs.Chunk.{chunk_rows}

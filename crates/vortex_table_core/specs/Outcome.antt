@@ -1,6 +1,6 @@
 -- What becomes of a chunk in a scan.
-use Rattle.vortex_model.specs.Scan as model
-use Rattle.vortex_model.specs.Scan.{skipped, whole, tested}
+use Rattle.vortex_model_table.specs.Scan as model
+use Rattle.vortex_model_table.specs.Scan.{skipped, whole, tested}
 use Rattle.vortex_table_core.specs.declared.plan.Pruning.{Pruning}
 use Rattle.vortex_table_core.specs.declared.plan.Pruning.TheVariants as outcome
 

@@ -1,10 +1,13 @@
 -- A scan of a table, with what is made of it before its chunks.
 use Rattle.std.specs.Prelude.{◌≡◌, ℕ, List, Bool, map, take, drop}
-use Rattle.vortex_model.specs.Table as model
+use Rattle.vortex_model_table.specs.Table as model
+use Rattle.vortex_model_table.specs.Scan.{ScanAnswer}
 use Rattle.vortex_table_chunk.specs.declared.chunk.Chunk.{Chunk}
 use Rattle.vortex_table_schema.specs.Leaves.{leaf_positions}
 use Rattle.vortex_table_schema.specs.Cut.{paths_of}
 use Rattle.vortex_table_plan.specs.Prepared.{IsPreparedFor}
+use Rattle.vortex_table_select.specs.Selected.{answer_cut}
+use Rattle.vortex_table_select.specs.declared.selection.ScanSelection.{ScanSelection}
 use Rattle.vortex_table_zonemaps.specs.Stretch.{proved_at}
 use Rattle.vortex_table_zonemaps.specs.Zones.{zone_of}
 use Rattle.vortex_table_zones.specs.Zone.{IsResolved}
@@ -24,6 +27,10 @@ question_in plan = record {
   falsifier = plan.prepared.now.trees.falsifier;
   satisfier = plan.prepared.now.trees.satisfier;
 }
+
+-- the answer whose rows a scan found, cut as it asks
+abbrev pub answer_by : Scan → ScanSelection → ScanAnswer
+answer_by plan found = answer_cut plan.prepared.now.cut found
 
 -- the plan has what is prepared for its scan, with its proofs resolved to the table's leaves
 pub record IsPlan (plan : Scan) : Type 0 where

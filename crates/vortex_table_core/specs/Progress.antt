@@ -2,12 +2,12 @@
 use Rattle.std.specs.Prelude.{ℕ, zero, suc, ◌+◌, ◌*◌, List, [], ◌∷◌, ◌++◌, length, map, sum, Option, is_some, Bool, true, false, not, ◌&&◌, if◌then◌else◌}
 use Rattle.vortex_model.specs.Content.{Content}
 use Rattle.vortex_model.specs.Path.{Names}
-use Rattle.vortex_model.specs.Expression.{Expression}
-use Rattle.vortex_model.specs.Truth.{selects}
-use Rattle.vortex_model.specs.Cut.{cut_row, cut_type}
-use Rattle.vortex_model.specs.Table.{Table}
-use Rattle.vortex_model.specs.Scan.{Outcome, skipped_in_group, tested, group_zone, proves, is_many, is_skipped, is_whole, is_in_group, saturated, one_if, ScanAnswer}
-use Rattle.vortex_model.specs.Pruning.{found_in}
+use Rattle.vortex_model_table.specs.Expression.{Expression}
+use Rattle.vortex_model_table.specs.Truth.{selects}
+use Rattle.vortex_model_table.specs.Cut.{cut_row, cut_type}
+use Rattle.vortex_model_table.specs.Table.{Table}
+use Rattle.vortex_model_table.specs.Scan.{Outcome, skipped_in_group, tested, group_zone, proves, is_many, is_skipped, is_whole, is_in_group, saturated, one_if, ScanAnswer}
+use Rattle.vortex_model_table.specs.Pruning.{found_in}
 use Rattle.vortex_model_rules.specs.Scanned.{chunk_outcome_by, scanned_by}
 
 -- What a scan is asked: of which table, along which paths, and by which predicate. A proof that no

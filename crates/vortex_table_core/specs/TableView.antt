@@ -1,6 +1,6 @@
 -- What tables and answers stand for.
 use Rattle.std.specs.Prelude.{map}
-use Rattle.vortex_model.specs.Table as model
+use Rattle.vortex_model_table.specs.Table as model
 use Rattle.vortex_dtype_core.specs.View.{type_of}
 use Rattle.vortex_table_chunk.specs.Chunk.{chunk_rows}
 use Rattle.vortex_table_core.specs.declared.table.Table.{Table}

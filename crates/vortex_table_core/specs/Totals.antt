@@ -1,8 +1,8 @@
 -- Which commands pass a total.
 use Rattle.std.specs.Prelude.{◌≡◌, ◌⊎◌, List, [], ◌∷◌, map, Some}
 use Rattle.vortex_model.specs.Content.{Content, content_of}
-use Rattle.vortex_model.specs.Command.{append, append_array, retype, compact}
-use Rattle.vortex_model.specs.Reply.{Totals, RowsPass}
+use Rattle.vortex_model_table.specs.Command.{append, append_array, retype, compact}
+use Rattle.vortex_model_table.specs.Reply.{Totals, RowsPass}
 use Rattle.vortex_arrays_model.specs.Layout.{Layout, rows_of}
 use Rattle.vortex_table_layout.specs.Compacted.{HasTooManyItems}
 use Rattle.vortex_table_layout.specs.TooLarge.{AreTooLarge}

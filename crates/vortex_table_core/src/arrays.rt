@@ -9,8 +9,8 @@ ghost use Rattle.vortex_table_core.specs.WithArrays.{IsWithArray, AreWithArrays}
 use crate::table::Table;
 use std::alloc::Global;
 use std::borrow::CowSlice;
-use vortex_arrays_buffer::error::ArrayError;
 use vortex_arrays_core::array::ArrayRef;
+use vortex_arrays_view::error::ArrayError;
 use vortex_model::laws::tests_of_validity_are_right;
 use vortex_table_check::append::convert_rows;
 use vortex_table_check::check::check_type;
@@ -22,7 +22,7 @@ use vortex_table_layout::rows::row_values;
 
 impl Table {
     ghost use Rattle.std.specs.Prelude.{◌≡◌, None, Some, map, option_map, slice_get, IfOk, OnOk, IfErr, OnErr, IsErrOf};
-    ghost use Rattle.vortex_model.specs.Command.{compact, refusal, after, first_unconvertible};
+    ghost use Rattle.vortex_model_table.specs.Command.{compact, refusal, after, first_unconvertible};
     ghost use Rattle.vortex_dtype_core.specs.View.{type_of};
     ghost use Rattle.vortex_arrays_model.specs.Layout.{array_type_of, rows_of};
     ghost use Rattle.vortex_table_layout.specs.TooLarge.{AreTooLarge};

@@ -13,9 +13,9 @@ use vortex_table_schema::description::Description;
 
 impl Table {
     ghost use Rattle.std.specs.Prelude.{◌≡◌, ◌<◌, None, true, length, map, slice_index_or, IfOk, OnOk, IfErr};
-    ghost use Rattle.vortex_model.specs.ZoneMap.{ZoneMap};
-    ghost use Rattle.vortex_model.specs.Reply.{Describes};
-    ghost use Rattle.vortex_model.specs.Command.{describe, positions_of, refusal};
+    ghost use Rattle.vortex_model_table.specs.ZoneMap.{ZoneMap};
+    ghost use Rattle.vortex_model_table.specs.Reply.{Describes};
+    ghost use Rattle.vortex_model_table.specs.Command.{describe, positions_of, refusal};
     ghost use Rattle.vortex_dtype_path.specs.View.{steps_of};
     ghost use Rattle.vortex_model.specs.Kept.{is_leaf_at};
     ghost use Rattle.vortex_dtype_core.specs.View.{type_of};

@@ -9,7 +9,7 @@ use vortex_table_chunk::zones::bounds::ColumnBounds;
 
 impl Table {
     ghost use Rattle.std.specs.Prelude.{◌≡◌, ◌<◌, ◌+◌, None, length, map, slice_index_or, IfOk, OnOk, IfErr, OnErr};
-    ghost use Rattle.vortex_model.specs.Command.{join, refusal, after};
+    ghost use Rattle.vortex_model_table.specs.Command.{join, refusal, after};
     ghost use Rattle.vortex_dtype_core.specs.View.{type_of};
     ghost use Rattle.vortex_table_chunk.specs.Chunk.{chunk_rows};
     ghost use Rattle.vortex_table_chunk.specs.Joined.{AreJoined};

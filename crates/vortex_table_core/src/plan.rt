@@ -7,13 +7,12 @@ ghost use Rattle.vortex_table_core.specs.Outcome.{outcome_of};
 use crate::table::Table;
 use std::alloc::{AllocError, Global};
 use vortex_dtype_path::path::FieldPath;
-use vortex_scalar_core::scalar::Scalar;
 use vortex_stats_expr::expression::Expression;
 use vortex_table_chunk::chunk::Chunk;
 use vortex_table_chunk::zones::bounds::ColumnBounds;
 use vortex_table_plan::plan::ScanPlan;
-use vortex_table_schema::answer::ScanAnswer;
 use vortex_table_select::select::{select_rows, take_rows};
+use vortex_table_select::selection::{ScanSelection, Selection};
 use vortex_table_zones::operands::ZoneOperands;
 use vortex_table_zones::proof::{ZoneProof, is_proved};
 
@@ -34,22 +33,20 @@ pub struct Scan<'a> {
     pub table: &'a Table,
     pub paths: &'a [FieldPath],
     pub predicate: &'a Expression,
-    pub prepared: &'a ScanPlan,
+    pub prepared: &'a ScanPlan<'a>,
     pub falsifier: Option<ZoneProof<'a>>,
     pub satisfier: Option<ZoneProof<'a>>,
 }
 
 impl Scan<'_> {
-    ghost use Rattle.std.specs.Prelude.{◌≡◌, ◌++◌, All, IfOk, OnOk, IsTrue, is_some, map};
-    ghost use Rattle.vortex_model.specs.Table.{bound_length};
-    ghost use Rattle.vortex_dtype_core.specs.View.{type_of};
-    ghost use Rattle.vortex_scalar_core.specs.Scalar.{scalar_type, scalar_content};
-    ghost use Rattle.vortex_table_schema.specs.Answer.{answer_of};
+    ghost use Rattle.std.specs.Prelude.{◌≡◌, ◌++◌, OnOk, IsTrue, is_some};
+    ghost use Rattle.vortex_model_table.specs.Table.{bound_length};
     ghost use Rattle.vortex_table_schema.specs.Leaves.{leaf_positions};
     ghost use Rattle.vortex_table_chunk.specs.Chunk.{chunk_rows};
+    ghost use Rattle.vortex_table_select.specs.Selected.{rows_in, cut_rows, AreOfType};
     ghost use Rattle.vortex_table_zones.specs.Zone.{zone_proved};
     ghost use Rattle.vortex_table_core.specs.Outcome.{outcome_of};
-    ghost use Rattle.vortex_table_core.specs.Plan.{IsPlan, table_in, question_in, falsified_by};
+    ghost use Rattle.vortex_table_core.specs.Plan.{IsPlan, table_in, question_in, answer_by, falsified_by};
     ghost use Rattle.vortex_table_core.specs.Progress.{outcome_to, with_chunk, found_rows, proofs_at};
     ghost use Rattle.vortex_table_chunk.specs.Formed.{is_formed};
 
@@ -104,34 +101,25 @@ impl Scan<'_> {
         alloc: Global,
         chunk: &Chunk,
         outcome: Pruning,
-        found: &mut Vec<Scalar>,
+        found: &mut Vec<Selection>,
     ) -> Result<(), AllocError>
         requires plan { IsPlan self.now }
         requires formed { IsTrue
             (is_formed (bound_length (table_in self.now)) (table_in self.now).kind chunk.now) }
-        requires typed { All (λ row. scalar_type row ≡ type_of self.now.prepared.now.cut.dtype)
-            found.old.items }
-        ensures rows { OnOk result (map scalar_content found.new.items
-            ≡ map scalar_content found.old.items ++ found_rows (question_in self.now)
-            (outcome_of outcome) (chunk_rows chunk.now)) }
-        ensures typed { OnOk result
-            (All (λ row. scalar_type row ≡ type_of self.now.prepared.now.cut.dtype)
-            found.new.items) }
+        requires typed { AreOfType (table_in self.now).kind found.old.items }
+        ensures rows { OnOk result (cut_rows self.now.prepared.now.cut (rows_in found.new.items)
+            ≡ cut_rows self.now.prepared.now.cut (rows_in found.old.items)
+            ++ found_rows (question_in self.now) (outcome_of outcome) (chunk_rows chunk.now)) }
+        ensures typed { OnOk result (AreOfType (table_in self.now).kind found.new.items) }
     {
         match outcome {
             Pruning::Skip => Ok(()),
             Pruning::TakeAll => {
-                take_rows(alloc, &self.prepared.cut, &chunk.array, found)?;
+                take_rows(alloc, &chunk.array, found)?;
                 Ok(())
             }
             Pruning::Filter => {
-                select_rows(
-                    alloc,
-                    &self.prepared.cut,
-                    &self.prepared.bound,
-                    &chunk.array,
-                    found,
-                )?;
+                select_rows(alloc, &self.prepared.bound, &chunk.array, found)?;
                 Ok(())
             }
         }
@@ -145,23 +133,22 @@ impl Scan<'_> {
         number: usize,
         chunk: &Chunk,
         falsified: bool,
-        answer: &mut ScanAnswer,
+        answer: &mut ScanSelection,
     ) -> Result<(), AllocError>
         requires plan { IsPlan self.now }
         requires formed { IsTrue
             (is_formed (bound_length (table_in self.now)) (table_in self.now).kind chunk.now) }
         requires falsified { falsified ≡ falsified_by self.now chunk.now }
-        requires typed { All (λ row. scalar_type row ≡ type_of self.now.prepared.now.cut.dtype)
-            answer.old.rows.items }
-        ensures found { OnOk result (answer_of answer.new ≡ with_chunk (question_in self.now)
-            number (chunk_rows chunk.now) (outcome_to (question_in self.now) (chunk_rows chunk.now))
-            (answer_of answer.old)) }
+        requires typed { AreOfType (table_in self.now).kind answer.old.selections.items }
+        ensures found { OnOk result (answer_by self.now answer.new
+            ≡ with_chunk (question_in self.now) number (chunk_rows chunk.now)
+            (outcome_to (question_in self.now) (chunk_rows chunk.now))
+            (answer_by self.now answer.old)) }
         ensures typed { OnOk result
-            (All (λ row. scalar_type row ≡ type_of self.now.prepared.now.cut.dtype)
-            answer.new.rows.items) }
+            (AreOfType (table_in self.now).kind answer.new.selections.items) }
     {
         let outcome = self.outcome(chunk, falsified);
-        self.find_rows(alloc, chunk, outcome, &mut answer.rows)?;
+        self.find_rows(alloc, chunk, outcome, &mut answer.selections)?;
         push_if(outcome.is_skipped(), number, &mut answer.skipped)?;
         push_if(outcome.is_whole(), number, &mut answer.whole)?;
         answer.rows_tested = answer
@@ -193,7 +180,7 @@ fn tested_rows(outcome: Pruning, chunk: &Chunk) -> u64
 
 impl Pruning {
     ghost use Rattle.std.specs.Prelude.{◌≡◌};
-    ghost use Rattle.vortex_model.specs.Scan.{is_skipped, is_whole};
+    ghost use Rattle.vortex_model_table.specs.Scan.{is_skipped, is_whole};
     ghost use Rattle.vortex_table_core.specs.Outcome.{outcome_of};
 
     fn is_skipped(self) -> bool

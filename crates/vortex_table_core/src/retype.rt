@@ -21,6 +21,12 @@ use vortex_table_retype::retyping::Retyping;
 use vortex_table_schema::leaves::{LeafPath, leaf_positions};
 use vortex_table_zonemaps::zone_maps::ZoneMaps;
 
+// Of u64: 512 bytes.
+const KEPT_PER_ROW: usize = 64;
+
+// Of u64: 16 megabytes.
+const MOST_KEPT: usize = 1 << 21;
+
 // The statistics of the group's converted chunks, which are among these. One chunk has its own.
 fn joined_again(
     alloc: Global,
@@ -68,12 +74,21 @@ fn regroup(
     })
 }
 
+// Asks for a block that the columns of so many rows would fit in, and lets it go unused. An
+// allocator that gave out and took back such a block keeps as much of what is given back to it, as
+// glibc's does up to 32 megabytes: the memory of the old chunks then serves the next conversion,
+// and is not asked of the system anew, page by page. If the block is refused, nothing is lost.
+fn keep_memory(alloc: Global, rows: usize) {
+    let count = rows.saturating_mul(KEPT_PER_ROW).min(MOST_KEPT);
+    let _: Result<Vec<u64>, AllocError> = Vec::with_capacity(alloc, count);
+}
+
 impl Table {
     ghost use Rattle.std.specs.Prelude.{◌≡◌, Some, None, map, IfOk, OnOk, IfErr, OnErr, IsErrOf, IsTrue};
     ghost use Rattle.std.specs.List.{list_all};
     ghost use Rattle.vortex_model.specs.Kept.{type_fault};
-    ghost use Rattle.vortex_model.specs.Table.{rows_of};
-    ghost use Rattle.vortex_model.specs.Command.{retype, refusal, after, first_unconvertible};
+    ghost use Rattle.vortex_model_table.specs.Table.{rows_of};
+    ghost use Rattle.vortex_model_table.specs.Command.{retype, refusal, after, first_unconvertible};
     ghost use Rattle.vortex_dtype_core.specs.View.{type_of};
     ghost use Rattle.vortex_table_schema.specs.Leaves.{leaf_positions};
     ghost use Rattle.vortex_table_check.specs.Error.{Explains};
@@ -182,6 +197,7 @@ impl Table {
         }
         let leaves = leaf_positions(alloc, &dtype)?;
         let lengths = self.bound_lengths.of_leaves(alloc, &leaves)?;
+        keep_memory(alloc, self.len());
         let (chunks, groups) = self.converted(alloc, &dtype, &leaves, &lengths)?;
         let zones = ZoneMaps::of_chunks(alloc, leaves.len(), &chunks)?;
         self.dtype = dtype;

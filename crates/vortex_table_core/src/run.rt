@@ -7,7 +7,7 @@ use crate::group::Group;
 use crate::plan::Scan;
 use std::alloc::{AllocError, Global};
 use vortex_table_chunk::chunk::Chunk;
-use vortex_table_schema::answer::ScanAnswer;
+use vortex_table_select::selection::ScanSelection;
 use vortex_table_zonemaps::proved::{Stretch, proved_zones};
 
 // Adds the numbers of so many chunks, of which the first has the number `first`.
@@ -23,17 +23,15 @@ fn push_numbers(first: usize, count: usize, numbers: &mut Vec<usize>) -> Result<
 }
 
 impl Scan<'_> {
-    ghost use Rattle.std.specs.Prelude.{◌≡◌, ◌≤◌, ◌<◌, ◌+◌, ◌*◌, ◌^◌, All, List, IfOk, OnOk, IsTrue, is_some, length, map};
+    ghost use Rattle.std.specs.Prelude.{◌≡◌, ◌≤◌, ◌<◌, ◌+◌, ◌*◌, ◌^◌, List, IfOk, OnOk, IsTrue, is_some, length, map};
     ghost use Rattle.std.specs.List.{list_all};
-    ghost use Rattle.vortex_model.specs.Table.{bound_length};
-    ghost use Rattle.vortex_model.specs.Scan.{one_if, saturated};
-    ghost use Rattle.vortex_dtype_core.specs.View.{type_of};
-    ghost use Rattle.vortex_scalar_core.specs.Scalar.{scalar_type};
-    ghost use Rattle.vortex_table_schema.specs.Answer.{answer_of, IsTyped};
+    ghost use Rattle.vortex_model_table.specs.Table.{bound_length};
+    ghost use Rattle.vortex_model_table.specs.Scan.{one_if, saturated};
+    ghost use Rattle.vortex_table_select.specs.Selected.{AreOfType};
     ghost use Rattle.vortex_table_chunk.specs.Chunk.{chunk_rows};
     ghost use Rattle.vortex_table_chunk.specs.declared.chunk.Chunk.{Chunk};
     ghost use Rattle.vortex_table_core.specs.Group.{IsGroup, chunks_of};
-    ghost use Rattle.vortex_table_core.specs.Plan.{IsPlan, table_in, question_in, stretch_of, falsified_in};
+    ghost use Rattle.vortex_table_core.specs.Plan.{IsPlan, table_in, question_in, answer_by, stretch_of, falsified_in};
     ghost use Rattle.vortex_table_core.specs.Progress.{answer_to, outcome_to, with_chunks, with_group, is_group_skipped};
     ghost use Rattle.vortex_table_chunk.specs.Formed.{is_formed};
 
@@ -98,21 +96,19 @@ impl Scan<'_> {
         first: usize,
         chunks: &[Chunk],
         falsified: &[bool],
-        answer: &mut ScanAnswer,
+        answer: &mut ScanSelection,
     ) -> Result<(), AllocError>
         requires plan { IsPlan self.now }
         requires formed { IsTrue (list_all
             (is_formed (bound_length (table_in self.now)) (table_in self.now).kind) chunks.now) }
         requires falsified { falsified.now ≡ falsified_in self.now chunks.now }
         requires fits { first + length chunks.now < 2 ^ 64 }
-        requires typed { All (λ row. scalar_type row ≡ type_of self.now.prepared.now.cut.dtype)
-            answer.old.rows.items }
-        ensures found { OnOk result (answer_of answer.new ≡ with_chunks (question_in self.now)
-            (outcome_to (question_in self.now)) first (map chunk_rows chunks.now)
-            (answer_of answer.old)) }
+        requires typed { AreOfType (table_in self.now).kind answer.old.selections.items }
+        ensures found { OnOk result (answer_by self.now answer.new
+            ≡ with_chunks (question_in self.now) (outcome_to (question_in self.now)) first
+            (map chunk_rows chunks.now) (answer_by self.now answer.old)) }
         ensures typed { OnOk result
-            (All (λ row. scalar_type row ≡ type_of self.now.prepared.now.cut.dtype)
-            answer.new.rows.items) }
+            (AreOfType (table_in self.now).kind answer.new.selections.items) }
     {
         for (offset, chunk) in chunks.iter().enumerate() {
             self.add_chunk(alloc, first + offset, chunk, falsified[offset], answer)?;
@@ -126,18 +122,16 @@ impl Scan<'_> {
         alloc: Global,
         first: usize,
         count: usize,
-        answer: &mut ScanAnswer,
+        answer: &mut ScanSelection,
     ) -> Result<(), AllocError>
         requires plan { IsPlan self.now }
         requires within { first + count ≤ length self.now.table.now.chunks.items }
-        requires typed { All (λ row. scalar_type row ≡ type_of self.now.prepared.now.cut.dtype)
-            answer.old.rows.items }
-        ensures found { OnOk result (answer_of answer.new ≡ with_chunks (question_in self.now)
-            (outcome_to (question_in self.now)) first
-            (map chunk_rows (stretch_of self.now first count)) (answer_of answer.old)) }
+        requires typed { AreOfType (table_in self.now).kind answer.old.selections.items }
+        ensures found { OnOk result (answer_by self.now answer.new
+            ≡ with_chunks (question_in self.now) (outcome_to (question_in self.now)) first
+            (map chunk_rows (stretch_of self.now first count)) (answer_by self.now answer.old)) }
         ensures typed { OnOk result
-            (All (λ row. scalar_type row ≡ type_of self.now.prepared.now.cut.dtype)
-            answer.new.rows.items) }
+            (AreOfType (table_in self.now).kind answer.new.selections.items) }
     {
         let falsified = self.falsified(alloc, first, count)?;
         let chunks = self.chunks_in(first, count);
@@ -150,7 +144,7 @@ impl Scan<'_> {
         &self,
         alloc: Global,
         group: &Group,
-        answer: &mut ScanAnswer,
+        answer: &mut ScanSelection,
     ) -> Result<(), AllocError>
         requires plan { IsPlan self.now }
         requires inside { group.now.first + group.now.chunks
@@ -158,15 +152,13 @@ impl Scan<'_> {
         requires group { IsGroup (table_in self.now).kind (bound_length (table_in self.now))
             group.now (chunks_of self.now.table.now.chunks.items group.now) }
         requires counted { saturated answer.old.rows_tested ≡ answer.old.rows_tested }
-        requires typed { All (λ row. scalar_type row ≡ type_of self.now.prepared.now.cut.dtype)
-            answer.old.rows.items }
-        ensures found { OnOk result (answer_of answer.new ≡ with_group (question_in self.now)
-            group.now.first
+        requires typed { AreOfType (table_in self.now).kind answer.old.selections.items }
+        ensures found { OnOk result (answer_by self.now answer.new
+            ≡ with_group (question_in self.now) group.now.first
             (map chunk_rows (chunks_of self.now.table.now.chunks.items group.now))
-            (answer_of answer.old)) }
+            (answer_by self.now answer.old)) }
         ensures typed { OnOk result
-            (All (λ row. scalar_type row ≡ type_of self.now.prepared.now.cut.dtype)
-            answer.new.rows.items) }
+            (AreOfType (table_in self.now).kind answer.new.selections.items) }
     {
         answer.proofs = answer.proofs.saturating_add(self.proofs_at_group(group));
         let skipped = self.is_skipped(group);
@@ -178,16 +170,16 @@ impl Scan<'_> {
         Ok(())
     }
 
-    /// The whole answer, group by group in order.
-    pub fn run(&self, alloc: Global) -> Result<ScanAnswer, AllocError>
+    /// What the whole scan finds, group by group in order.
+    pub fn run(&self, alloc: Global) -> Result<ScanSelection, AllocError>
         requires { IsPlan self.now }
-        ensures found { IfOk result (λ answer. answer_of answer
+        ensures found { IfOk result (λ answer. answer_by self.now answer
             ≡ answer_to (question_in self.now)) }
-        ensures typed { IfOk result (λ answer. IsTyped answer) }
+        ensures typed { IfOk result
+            (λ answer. AreOfType (table_in self.now).kind answer.selections.items) }
     {
-        let mut answer = ScanAnswer {
-            rows: Vec::new(alloc),
-            dtype: self.prepared.cut.dtype.clone()?,
+        let mut answer = ScanSelection {
+            selections: Vec::new(alloc),
             skipped: Vec::new(alloc),
             whole: Vec::new(alloc),
             rows_tested: 0,

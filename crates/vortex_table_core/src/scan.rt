@@ -1,4 +1,5 @@
 //! Scans over the chunks of a table.
+ghost use Rattle.std.specs.Prelude.{◌≡◌};
 
 use crate::plan::Scan;
 use crate::table::Table;
@@ -12,13 +13,23 @@ use vortex_table_plan::make::prepare;
 use vortex_table_plan::plan::ScanPlan;
 use vortex_table_plan::rules::prepare_with;
 use vortex_table_schema::answer::ScanAnswer;
+use vortex_table_schema::cut::RowProjection;
+use vortex_table_select::read::read_answer;
+use vortex_table_select::selection::{LazyAnswer, ScanSelection};
 use vortex_table_zones::proof::resolve;
+
+// The cut of what is prepared. As a function of its own it lets go of the trees beside it.
+fn cut_of(prepared: ScanPlan) -> RowProjection
+    ensures { result ≡ prepared.entry.cut }
+{
+    prepared.cut
+}
 
 impl Table {
     ghost use Rattle.std.specs.Prelude.{◌≡◌, None, Some, false, map, IfOk, OnOk, IfErr};
-    ghost use Rattle.vortex_model.specs.Scan.{scanned};
-    ghost use Rattle.vortex_model.specs.Table.{answer};
-    ghost use Rattle.vortex_model.specs.Command.{scan, names_of, refusal};
+    ghost use Rattle.vortex_model_table.specs.Scan.{scanned};
+    ghost use Rattle.vortex_model_table.specs.Table.{answer};
+    ghost use Rattle.vortex_model_table.specs.Command.{scan, names_of, refusal};
     ghost use Rattle.vortex_model_rules.specs.Scanned.{scanned_by, scanned_with};
     ghost use Rattle.vortex_dtype_path.specs.View.{steps_of};
     ghost use Rattle.vortex_dtype_core.specs.View.{type_of};
@@ -29,6 +40,7 @@ impl Table {
     ghost use Rattle.vortex_table_core.specs.TableView.{table_of};
     ghost use Rattle.vortex_table_schema.specs.Answer.{answer_of, IsTyped};
     ghost use Rattle.vortex_table_schema.specs.Cut.{paths_of};
+    ghost use Rattle.vortex_table_select.specs.Selected.{answer_in, answer_cut, AreOfType};
 
     /// The rows that the predicate selects, in order, each with the columns that the paths ask for.
     /// The path without a step asks for whole rows, and no path for empty records.
@@ -102,13 +114,39 @@ impl Table {
         Ok(answer)
     }
 
+    /// As `scan`, with the rows left where they stand: a caller that only writes or counts them
+    /// makes no value of any.
+    ///
+    /// Refused as `scan`.
+    pub fn select(
+        &self,
+        alloc: Global,
+        paths: &[FieldPath],
+        predicate: &Expression,
+    ) -> Result<LazyAnswer, TableError>
+        ensures found { IfOk result
+            (λ a. answer_in a ≡ scanned (table_of self.now) (map names_of (map steps_of paths.now))
+            predicate.now) }
+        ensures accepted { OnOk result
+            (refusal (table_of self.now) (scan (map steps_of paths.now) predicate.now) ≡ None) }
+        ensures refused { IfErr result
+            (λ e. Explains ⊥
+            (refusal (table_of self.now) (scan (map steps_of paths.now) predicate.now)) e) }
+    {
+        let prepared = prepare(alloc, &self.dtype, paths, predicate)?;
+        let found = (&*self).select_prepared(alloc, &*paths, &*predicate, &prepared);
+        let cut = cut_of(prepared);
+        let selection = found?;
+        Ok(LazyAnswer { cut, selection })
+    }
+
     // The answer to a scan for which this is prepared.
     fn run_prepared<'s>(
         &'s self,
         alloc: Global,
         paths: &'s [FieldPath],
         predicate: &'s Expression,
-        prepared: &'s ScanPlan,
+        prepared: &'s ScanPlan<'s>,
     ) -> Result<ScanAnswer, AllocError>
         requires { IsPreparedFor (type_of self.now.dtype) (paths_of paths.now) predicate.now
             prepared.now }
@@ -116,6 +154,27 @@ impl Table {
             ≡ scanned_by (table_of self.now) (paths_of paths.now) predicate.now
             prepared.now.trees.falsifier prepared.now.trees.satisfier) }
         ensures typed { IfOk result (λ a. IsTyped a) }
+    {
+        let found = self.select_prepared(alloc, paths, predicate, prepared)?;
+        let answer = read_answer(alloc, &prepared.cut, found)?;
+        Ok(answer)
+    }
+
+    // What a scan finds for which this is prepared.
+    fn select_prepared<'s>(
+        &'s self,
+        alloc: Global,
+        paths: &'s [FieldPath],
+        predicate: &'s Expression,
+        prepared: &'s ScanPlan,
+    ) -> Result<ScanSelection, AllocError>
+        requires { IsPreparedFor (type_of self.now.dtype) (paths_of paths.now) predicate.now
+            prepared.now }
+        ensures found { IfOk result (λ found. answer_cut prepared.now.cut found
+            ≡ scanned_by (table_of self.now) (paths_of paths.now) predicate.now
+            prepared.now.trees.falsifier prepared.now.trees.satisfier) }
+        ensures typed { IfOk result
+            (λ found. AreOfType (type_of self.now.dtype) found.selections.items) }
     {
         let falsifier = resolve(alloc, &self.leaves, &prepared.proofs.falsifier)?;
         let satisfier = resolve(alloc, &self.leaves, &prepared.proofs.satisfier)?;
@@ -127,7 +186,7 @@ impl Table {
             falsifier,
             satisfier,
         };
-        let answer = plan.run(alloc)?;
-        Ok(answer)
+        let found = plan.run(alloc)?;
+        Ok(found)
     }
 }

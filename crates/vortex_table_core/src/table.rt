@@ -14,8 +14,8 @@ use crate::group::Group;
 use std::alloc::Global;
 use std::borrow::CowSlice;
 use std::rc::Rc;
-use vortex_arrays_buffer::error::ArrayError;
 use vortex_arrays_core::array::ArrayRef;
+use vortex_arrays_view::error::ArrayError;
 use vortex_dtype_core::dtype::DType;
 use vortex_dtype_path::path::FieldPath;
 use vortex_scalar_value::scalar_value::ScalarValue;
@@ -61,10 +61,10 @@ pub struct Table {
 impl Table {
     ghost use Rattle.std.specs.Prelude.{◌≡◌, ◌+◌, ◌^◌, ◌≤◌, [], None, length, map, IfOk, OnOk, IfErr, OnErr, IsTrue, ◌↔◌};
     ghost use Rattle.std.specs.Cow.{cow_slice_items};
-    ghost use Rattle.vortex_model.specs.Table.{rows_of as table_rows};
+    ghost use Rattle.vortex_model_table.specs.Table.{rows_of as table_rows};
     ghost use Rattle.vortex_arrays_model.specs.Layout.{len_of, array_type_of, rows_of};
     ghost use Rattle.vortex_model.specs.Valid.{valid};
-    ghost use Rattle.vortex_model.specs.Command.{appended, create_fault, created};
+    ghost use Rattle.vortex_model_table.specs.Command.{appended, create_fault, created};
     ghost use Rattle.vortex_dtype_core.specs.View.{type_of};
     ghost use Rattle.vortex_scalar_value.specs.View.{raw_of};
     ghost use Rattle.vortex_table_schema.specs.Rows.{row_content};

@@ -7,11 +7,11 @@ use Rattle.vortex_model.specs.LogicalType.{LogicalType, boolean_type, integer_ty
 use Rattle.vortex_model.specs.Content.{Content, boolean, integer, text, byte_string}
 use Rattle.vortex_model.specs.Valid.{in_range, IsContent}
 use Rattle.vortex_model.specs.Kept.{is_leaf}
-use Rattle.vortex_model.specs.Laws.{is_leaf_value}
+use Rattle.vortex_model_table.specs.Laws.{is_leaf_value}
 use Rattle.vortex_model.specs.Path.{Positions, type_at}
-use Rattle.vortex_model.specs.Statistics.{Precision, exact, inexact, absent}
-use Rattle.vortex_model.specs.ZoneMap.{value_in, values_at}
-use Rattle.vortex_model.proofs.LeafOrder.{IsOfForm, bounds_of_column}
+use Rattle.vortex_model_table.specs.Statistics.{Precision, exact, inexact, absent}
+use Rattle.vortex_model_table.specs.ZoneMap.{value_in, values_at}
+use Rattle.vortex_model_laws.proofs.LeafOrder.{IsOfForm, bounds_of_column}
 use Rattle.vortex_dtype_core.proofs.Views as types
 use Rattle.vortex_scalar_value.proofs.Views as values
 use Rattle.vortex_table_chunk.specs.Joined.{IsJoined}

@@ -2,9 +2,9 @@
 use Rattle.std.specs.Prelude.{◌≡◌, Bool, true, Option, Some, None, option_map, if◌then◌else◌}
 use Rattle.vortex_model.specs.LogicalType.{LogicalType, Nullability, non_nullable, nullable, boolean_type, integer_type, utf8, binary, u64}
 use Rattle.vortex_model.specs.Content.{Content, Raw, raw_boolean, raw_number, raw_text, raw_byte_string}
-use Rattle.vortex_model.specs.Laws.{is_leaf_value}
-use Rattle.vortex_model.specs.Statistics.{Precision, exact, inexact, absent}
-use Rattle.vortex_model.specs.ZoneMap.{bound_of}
+use Rattle.vortex_model_table.specs.Laws.{is_leaf_value}
+use Rattle.vortex_model_table.specs.Statistics.{Precision, exact, inexact, absent}
+use Rattle.vortex_model_table.specs.ZoneMap.{bound_of}
 use Rattle.vortex_scalar_value.specs.Numbers.{kind_of_number}
 use Rattle.vortex_scalar_value.specs.View.{raw_of}
 use Rattle.vortex_scalar_core.specs.Scalar.{scalar_type}

@@ -2,7 +2,7 @@
 ghost use Rattle.std.specs.Prelude.{◌≡◌, ℕ, pos, option_map, IfOk};
 ghost use Rattle.vortex_model.specs.LogicalType.{boolean_type, integer_type, non_nullable, nullable};
 ghost use Rattle.vortex_model.specs.Content.{content_of, integer, boolean};
-ghost use Rattle.vortex_model.specs.Statistics.{exact};
+ghost use Rattle.vortex_model_table.specs.Statistics.{exact};
 ghost use Rattle.vortex_dtype_ptype.specs.View.{nullability_of_flag};
 ghost use Rattle.vortex_scalar_core.specs.Scalar.{scalar_content, scalar_type};
 ghost use Rattle.vortex_scalar_value.specs.Numbers.{integer_of, kind_of_number};

@@ -3,7 +3,7 @@ use Rattle.std.proofs.Common.{◌≡◌, ◌≢◌, ℕ, List, [], ◌∷◌, �
 use Rattle.std.proofs.lemmas.List.Elements.{recursion_from_All}
 use Rattle.std.specs.List.{AllByRecursion}
 use Rattle.std.proofs.lemmas.Bool.Decides.{nat_tests}
-use Rattle.vortex_model.specs.Reply.{lines, onto_first_line}
+use Rattle.vortex_model_table.specs.Reply.{lines, onto_first_line}
 use Rattle.vortex_table_io.specs.Lines.{IsOneLine}
 
 -- a line of bytes that are no LF

@@ -1,7 +1,7 @@
 -- How answers to more and more lines go on.
 use Rattle.std.proofs.Common.{◌≡◌, ◌≢◌, ℕ, List, [], ◌∷◌, ◌++◌, refl, ap, ◌∙◌, sym, subst, map, flat_map, append_assoc, append-nil}
 use Rattle.std.proofs.lemmas.Grind.{flat_map-append}
-use Rattle.vortex_model.specs.Reply.{Answers, Replies, lines}
+use Rattle.vortex_model_table.specs.Reply.{Answers, Replies, lines}
 use Rattle.vortex_table_io.specs.Lines.{IsOneLine, with_lf}
 use Rattle.vortex_table_io.specs.Replies.{AnswersAll, AnswersPart, FeedOk, FeedErr, FinishOk, FinishErr, memory_text}
 use Rattle.vortex_table_io.proofs.LineLemmas.{lines-line, lines-last}

@@ -1,6 +1,6 @@
 -- What is answered to the lines of an input, and what of it was written.
 use Rattle.std.specs.Prelude.{◌≡◌, ℕ, List, [], ◌∷◌, ◌++◌, flat_map, codes}
-use Rattle.vortex_model.specs.Reply.{Answers, Replies, lines}
+use Rattle.vortex_model_table.specs.Reply.{Answers, Replies, lines}
 use Rattle.vortex_table_io.specs.Lines.{with_lf}
 
 -- error 1

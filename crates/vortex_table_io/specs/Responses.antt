@@ -1,6 +1,6 @@
 -- The line that a `Response` stands for.
 use Rattle.std.specs.Prelude.{◌≡◌, ℕ, List}
-use Rattle.vortex_model.specs.Reply.{Answers}
+use Rattle.vortex_model_table.specs.Reply.{Answers}
 use Rattle.vortex_table_io.specs.Lines.{with_lf}
 use Rattle.vortex_table_io.specs.Replies.{memory_text, ok_text}
 use Rattle.vortex_table_io.specs.declared.line_handler.Response.{Response}

@@ -4,8 +4,8 @@ use Rattle.std.proofs.lemmas.Bool.{cases_eq}
 use Rattle.std.proofs.lemmas.List.{get_or_append_left, get_or_push, length_push}
 use Rattle.vortex_model.specs.LogicalType.{struct, field}
 use Rattle.vortex_model.specs.Content.{null, tuple, first}
-use Rattle.vortex_arrays_buffer.specs.declared.error.ArrayError.{ArrayError}
-use Rattle.vortex_arrays_buffer.specs.declared.error.ArrayError.TheVariants as error
+use Rattle.vortex_arrays_view.specs.declared.error.ArrayError.{ArrayError}
+use Rattle.vortex_arrays_view.specs.declared.error.ArrayError.TheVariants as error
 use Rattle.vortex_arrays_model.specs.Layout.{Layout, list_views, records, Valid, Columns, no_columns, column, len_of, array_type_of, fields_of, nullability_by, content_at, is_valid, row_at, rows_of, IsSound, HaveLength}
 use Rattle.vortex_arrays_model.specs.Parts.{columns_of}
 use Rattle.vortex_arrays_model.proofs.PicksLemmas.{have_length, field_size, each_length}

@@ -6,8 +6,8 @@ use Rattle.vortex_model.specs.Content.{Content}
 use Rattle.vortex_scalar_value.specs.View.{raw_at, content_at as value_content}
 use Rattle.vortex_scalar_value.specs.declared.scalar_value.ScalarValue.{ScalarValue}
 use Rattle.vortex_table_schema.specs.declared.layout.Layout.TheVariants as hints
-use Rattle.vortex_arrays_buffer.specs.declared.error.ArrayError.{ArrayError}
-use Rattle.vortex_arrays_buffer.specs.declared.error.ArrayError.TheVariants as error
+use Rattle.vortex_arrays_view.specs.declared.error.ArrayError.{ArrayError}
+use Rattle.vortex_arrays_view.specs.declared.error.ArrayError.TheVariants as error
 use Rattle.vortex_arrays_model.specs.Layout.{Layout, array_type_of}
 use Rattle.vortex_arrays_builder.specs.Fits.{fits_dictionary}
 use Rattle.vortex_arrays_builder.specs.Types.{IsPlainLayout}

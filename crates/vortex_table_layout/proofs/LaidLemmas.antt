@@ -20,8 +20,8 @@ use Rattle.vortex_dtype_fields.specs.Records.{names_of}
 use Rattle.vortex_table_schema.specs.Rows.{row_content}
 use Rattle.vortex_table_schema.specs.declared.layout.Layout as hint
 use Rattle.vortex_table_schema.specs.declared.layout.Layout.TheVariants as hints
-use Rattle.vortex_arrays_buffer.specs.declared.error.ArrayError.{ArrayError}
-use Rattle.vortex_arrays_buffer.specs.declared.error.ArrayError.TheVariants as error
+use Rattle.vortex_arrays_view.specs.declared.error.ArrayError.{ArrayError}
+use Rattle.vortex_arrays_view.specs.declared.error.ArrayError.TheVariants as error
 use Rattle.vortex_arrays_model.specs.Layout as layout
 use Rattle.vortex_arrays_model.specs.Layout.{Layout, records, required, Columns, no_columns, column, len_of, array_type_of, content_at, row_at, rows_of, IsSound, HaveLength}
 use Rattle.vortex_arrays_model.specs.Parts.{columns_of}

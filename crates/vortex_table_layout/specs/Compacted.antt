@@ -1,7 +1,7 @@
 -- Arrays whose list views are rebuilt.
 use Rattle.std.specs.Prelude.{◌≡◌, ◌≤◌, ◌^◌, ◌⊎◌, IsFalse}
-use Rattle.vortex_arrays_buffer.specs.declared.error.ArrayError.{ArrayError}
-use Rattle.vortex_arrays_buffer.specs.declared.error.ArrayError.TheVariants as error
+use Rattle.vortex_arrays_view.specs.declared.error.ArrayError.{ArrayError}
+use Rattle.vortex_arrays_view.specs.declared.error.ArrayError.TheVariants as error
 use Rattle.vortex_arrays_model.specs.Layout.{Layout, list_views, records, Columns, no_columns, column, rows_of}
 use Rattle.vortex_arrays_model.specs.Canonical.{IsRebuilt}
 use Rattle.vortex_arrays_rebuild.specs.Rebuilds.{total_of}

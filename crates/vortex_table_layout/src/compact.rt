@@ -14,10 +14,10 @@ ghost use Rattle.vortex_table_layout.specs.Compacted.{
 
 use std::alloc::{AllocError, Global};
 use std::rc::Rc;
-use vortex_arrays_buffer::error::ArrayError;
 use vortex_arrays_core::array::{ArrayLayout, ArrayRef, Validity};
 use vortex_arrays_nested::list_view::ListViewArray;
 use vortex_arrays_rebuild::rebuild::{ListViewRebuild, ListViewRebuildMode};
+use vortex_arrays_view::error::ArrayError;
 use vortex_dtype_ptype::field_names::FieldNames;
 
 /// The array with each list view that is reached through records alone rebuilt: its lists stand end

@@ -26,12 +26,12 @@ ghost use Rattle.vortex_table_layout.specs.TooLarge.{IsLayOutFault};
 
 use std::alloc::{AllocError, Global};
 use std::rc::Rc;
-use vortex_arrays_buffer::error::ArrayError;
 use vortex_arrays_builder::constant::build_constant;
 use vortex_arrays_builder::fits::{fits_constant, fits_dictionary};
 use vortex_arrays_builder::plain::build_plain;
 use vortex_arrays_core::array::{ArrayRef, Validity};
 use vortex_arrays_dictionary::build::build_dictionary;
+use vortex_arrays_view::error::ArrayError;
 use vortex_dtype_core::dtype::DType;
 use vortex_dtype_core::struct_fields::{StructField, StructFields};
 use vortex_dtype_fields::struct_fields_ext::StructFieldsExt;

@@ -1,10 +1,10 @@
 -- Why scans with callers' rules are refused.
 use Rattle.std.proofs.Common.{◌≡◌, refl, sym, ◌∙◌, ap, Bool, true, false, ◌||◌, Option, Some, None}
 use Rattle.vortex_model.specs.LogicalType.{LogicalType}
-use Rattle.vortex_model.specs.Expression.{Expression}
-use Rattle.vortex_model.specs.Typing.{expression_type}
+use Rattle.vortex_model_table.specs.Expression.{Expression}
+use Rattle.vortex_model_table.specs.Typing.{expression_type}
 use Rattle.vortex_model.specs.Refusal.{Refusal, not_boolean, or_else}
-use Rattle.vortex_model.specs.Command.{expression_fault, predicate_fault, unless, is_boolean}
+use Rattle.vortex_model_table.specs.Command.{expression_fault, predicate_fault, unless, is_boolean}
 use Rattle.vortex_model_rules.specs.Rules.{Answer, is_fault}
 use Rattle.vortex_stats_rules.specs.Refusals.{IsPredicate, IsRefusal}
 use Rattle.vortex_stats_stat.specs.declared.error.StatsError.{StatsError}

@@ -3,9 +3,9 @@ use Rattle.std.specs.Prelude.{◌≡◌, List}
 use Rattle.vortex_model.specs.LogicalType.{LogicalType}
 use Rattle.vortex_model.specs.Content.{Content}
 use Rattle.vortex_model.specs.Path.{Names}
-use Rattle.vortex_model.specs.Expression.{Expression}
-use Rattle.vortex_model.specs.Truth.{value_at}
-use Rattle.vortex_model.specs.Cut.{cut_type}
+use Rattle.vortex_model_table.specs.Expression.{Expression}
+use Rattle.vortex_model_table.specs.Truth.{value_at}
+use Rattle.vortex_model_table.specs.Cut.{cut_type}
 use Rattle.vortex_dtype_core.specs.View.{type_of}
 use Rattle.vortex_stats_bind.specs.Bound.{Bound, bound_value}
 use Rattle.vortex_table_chunk.specs.Proved.{IsBoundProof}

@@ -1,7 +1,7 @@
 -- Why a scan with callers' rules is refused.
 use Rattle.std.specs.Prelude.{◌≡◌, List, Option, None, Bool, true, ◌||◌}
 use Rattle.vortex_model.specs.LogicalType.{LogicalType}
-use Rattle.vortex_model.specs.Expression.{Expression}
+use Rattle.vortex_model_table.specs.Expression.{Expression}
 use Rattle.vortex_model.specs.Refusal.{Refusal}
 use Rattle.vortex_model_rules.specs.Rules.{Rule, is_fault, fals, sat}
 use Rattle.vortex_stats_stat.specs.declared.error.StatsError.{StatsError}

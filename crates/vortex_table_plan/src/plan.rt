@@ -1,28 +1,80 @@
 //! What is made of a scan once and used at every chunk.
 
-use vortex_stats_bind::bound::BoundExpression;
+use std::marker::Model;
+use vortex_dtype_core::dtype::DType;
+use vortex_stats_bind::bound::BoundTree;
 use vortex_stats_expr::expression::Expression;
 use vortex_table_schema::cut::RowProjection;
 
-/// A proof that no row satisfies a predicate, and one that every row does, each if there is one.
+// Where the proofs of a predicate over rows of a type come from.
 #[derive(Drop)]
-pub struct ProofTrees {
-    pub falsifier: Option<Expression>,
-    pub satisfier: Option<Expression>,
+pub(crate) enum Origin<'p> {
+    // The built-in rules.
+    BuiltIn(&'p DType, &'p Expression),
+    // Rules of the caller too: a proof that no row satisfies the predicate, and one that every row
+    // does.
+    Given(Option<Expression>, Option<Expression>),
+}
+
+/// A proof that no row satisfies a predicate, the falsifier, and one that every row does, the
+/// satisfier, each if there is one. Contracts see both trees. Those of the built-in rules aren't
+/// made, since the predicate tells them.
+#[derive(Drop)]
+pub struct ProofTrees<'p> {
+    origin: Origin<'p>,
+}
+
+impl<'p> Model for ProofTrees<'p> {
+    ghost use Rattle.vortex_table_plan.specs.Trees.{Trees, trees_code, trees_of};
+
+    ghost Value = { Trees };
+
+    ghost coded = { trees_code };
+
+    ghost view = { λ trees. trees_of trees.origin };
+}
+
+impl<'p> ProofTrees<'p> {
+    ghost use Rattle.std.specs.Prelude.{◌≡◌};
+    ghost use Rattle.vortex_model_table.specs.Rewrite.{falsifier, satisfier};
+    ghost use Rattle.vortex_dtype_core.specs.View.{type_of};
+
+    /// Those that the built-in rules give of a predicate over rows of this type.
+    pub(crate) fn built_in(dtype: &'p DType, predicate: &'p Expression) -> ProofTrees<'p>
+        ensures falsifier { result.falsifier ≡ falsifier (type_of dtype.now) predicate.now }
+        ensures satisfier { result.satisfier ≡ satisfier (type_of dtype.now) predicate.now }
+    {
+        ProofTrees {
+            origin: Origin::BuiltIn(dtype, predicate),
+        }
+    }
+
+    /// These.
+    pub(crate) fn given(
+        falsifier: Option<Expression>,
+        satisfier: Option<Expression>,
+    ) -> ProofTrees<'p>
+        ensures falsifier { result.falsifier ≡ falsifier }
+        ensures satisfier { result.satisfier ≡ satisfier }
+    {
+        ProofTrees {
+            origin: Origin::Given(falsifier, satisfier),
+        }
+    }
 }
 
 /// The two proofs with their columns resolved.
 #[derive(Drop)]
 pub struct Proofs {
-    pub falsifier: Option<BoundExpression>,
-    pub satisfier: Option<BoundExpression>,
+    pub falsifier: Option<BoundTree>,
+    pub satisfier: Option<BoundTree>,
 }
 
 /// What is made of a scan once and used at every chunk.
 #[derive(Drop)]
-pub struct ScanPlan {
-    pub bound: BoundExpression,
-    pub trees: ProofTrees,
+pub struct ScanPlan<'p> {
+    pub bound: BoundTree,
+    pub trees: ProofTrees<'p>,
     pub proofs: Proofs,
     pub cut: RowProjection,
 }

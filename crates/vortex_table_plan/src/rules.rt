@@ -1,19 +1,21 @@
 //! The preparation of a scan with rewrite rules of the caller.
 ghost use Rattle.std.specs.Prelude.{◌≡◌, Bool, None, true, OnOk, IfOk, IfErr, map};
-ghost use Rattle.vortex_model.specs.Expression.{HasFormedLiterals};
+ghost use Rattle.vortex_model_table.specs.Expression.{HasFormedLiterals};
 ghost use Rattle.vortex_model.specs.Refusal.{or_else};
-ghost use Rattle.vortex_model.specs.Command.{paths_fault, predicate_fault};
+ghost use Rattle.vortex_model_table.specs.Command.{paths_fault, predicate_fault};
 ghost use Rattle.vortex_model_rules.specs.Rules.{answer_of, is_fault, fals, sat};
 ghost use Rattle.vortex_dtype_core.specs.View.{type_of};
 ghost use Rattle.vortex_dtype_path.specs.View.{steps_of};
 ghost use Rattle.vortex_stats_rules.specs.Meanings.{rules_of};
+ghost use Rattle.vortex_table_chunk.specs.Proved.{IsBoundProof};
 ghost use Rattle.vortex_table_schema.specs.Cut.{paths_of};
 ghost use Rattle.vortex_table_plan.specs.Prepared.{IsPreparedFor};
 ghost use Rattle.vortex_table_plan.specs.Rules.{have_fault, ExplainsWith, IsOfRules, IsRuleError};
 
+use crate::falsifier::resolve_proof;
 use crate::make::{check_scan, make_plan};
-use crate::plan::{ProofTrees, ScanPlan};
-use std::alloc::Global;
+use crate::plan::{ProofTrees, Proofs, ScanPlan};
+use std::alloc::{AllocError, Global};
 use vortex_dtype_core::dtype::DType;
 use vortex_dtype_path::path::FieldPath;
 use vortex_stats_expr::expression::Expression;
@@ -75,26 +77,43 @@ fn satisfy_with(
     }
 }
 
+// A proof that no row satisfies the predicate, and one that every row does.
 #[tactic(auto, using(crate::proofs::Refusals::faults))]
 fn make_trees_with(
     alloc: Global,
     dtype: &DType,
     predicate: &Expression,
     rules: &[StatsRewriteRuleRef],
-) -> Result<ProofTrees, TableError>
+) -> Result<(Option<Expression>, Option<Expression>), TableError>
     requires { predicate_fault (type_of dtype.now) predicate.now ≡ None }
     ensures falsifier { IfOk result (λ trees.
         fals (type_of dtype.now) (rules_of meaning rules.now) predicate.now
-        ≡ answer_of trees.falsifier) }
+        ≡ answer_of trees.0) }
     ensures satisfier { IfOk result (λ trees.
         sat (type_of dtype.now) (rules_of meaning rules.now) predicate.now
-        ≡ answer_of trees.satisfier) }
+        ≡ answer_of trees.1) }
     ensures refused { IfErr result (IsRuleError
         (have_fault (type_of dtype.now) (rules_of meaning rules.now) predicate.now)) }
 {
     let falsifier = falsify_with(alloc, dtype, predicate, rules)?;
     let satisfier = satisfy_with(alloc, dtype, predicate, rules)?;
-    Ok(ProofTrees {
+    Ok((falsifier, satisfier))
+}
+
+fn bind_proofs(
+    alloc: Global,
+    dtype: &DType,
+    falsifier: &Option<Expression>,
+    satisfier: &Option<Expression>,
+) -> Result<Proofs, AllocError>
+    ensures falsifier { IfOk result
+        (λ proofs. IsBoundProof (type_of dtype.now) falsifier.now proofs.falsifier) }
+    ensures satisfier { IfOk result
+        (λ proofs. IsBoundProof (type_of dtype.now) satisfier.now proofs.satisfier) }
+{
+    let falsifier = resolve_proof(alloc, dtype, falsifier)?;
+    let satisfier = resolve_proof(alloc, dtype, satisfier)?;
+    Ok(Proofs {
         falsifier,
         satisfier,
     })
@@ -103,13 +122,13 @@ fn make_trees_with(
 /// As `prepare`, with proofs that are made with these rules beside the built-in ones. The last
 /// reason for a refusal is `RuleFault`.
 #[tactic(auto, using(crate::proofs::Refusals::refusals))]
-pub fn prepare_with(
+pub fn prepare_with<'p>(
     alloc: Global,
     dtype: &DType,
     paths: &[FieldPath],
     predicate: &Expression,
     rules: &[StatsRewriteRuleRef],
-) -> Result<ScanPlan, TableError>
+) -> Result<ScanPlan<'p>, TableError>
     ensures prepared { IfOk result
         (λ made. IsPreparedFor (type_of dtype.now) (paths_of paths.now) predicate.now made) }
     ensures falsifier { IfOk result (λ made.
@@ -129,7 +148,9 @@ pub fn prepare_with(
         (have_fault (type_of dtype.now) (rules_of meaning rules.now) predicate.now)) }
 {
     let bound = check_scan(alloc, dtype, paths, predicate)?;
-    let trees = make_trees_with(alloc, dtype, predicate, rules)?;
-    let plan = make_plan(alloc, dtype, paths, bound, trees)?;
+    let (falsifier, satisfier) = make_trees_with(alloc, dtype, predicate, rules)?;
+    let proofs = bind_proofs(alloc, dtype, &falsifier, &satisfier)?;
+    let trees = ProofTrees::given(falsifier, satisfier);
+    let plan = make_plan(alloc, dtype, paths, bound, trees, proofs)?;
     Ok(plan)
 }

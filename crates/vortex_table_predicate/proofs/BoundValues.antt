@@ -3,8 +3,8 @@ use Rattle.std.proofs.Common.{◌≡◌, Option, Some, None, refl, ap, ◌∙◌
 use Rattle.vortex_model.specs.LogicalType.{LogicalType}
 use Rattle.vortex_model.specs.Content.{Content, null}
 use Rattle.vortex_model.specs.Path.{Positions, at, positions}
-use Rattle.vortex_model.specs.Expression.{Expression}
-use Rattle.vortex_model.specs.Truth.{evaluate, of_row, value_at}
+use Rattle.vortex_model_table.specs.Expression.{Expression}
+use Rattle.vortex_model_table.specs.Truth.{evaluate, of_row, value_at}
 use Rattle.vortex_stats_bind.specs.Bound.{Bound, Provided, evaluate_bound, in_row, bound_value, bound_column, by_names}
 
 column_in_row : (o : Option Positions) (row : Content) →

@@ -2,12 +2,12 @@
 use Rattle.std.proofs.Common.{◌≡◌, ◌≢◌, ◌⊎◌, inl, inr, Option, Some, None, Result, Ok, Err, Bool, true, false, not, ◌&&◌, refl, sym, ap, ◌∙◌, subst}
 use Rattle.vortex_model.specs.LogicalType.{LogicalType, boolean_type, integer_type, float, decimal, utf8, binary, nullable, eq_int_kind, IntKind, u8, u16, u32, u64, i8, i16, i32, i64}
 use Rattle.vortex_model.specs.Content.{Content, text}
-use Rattle.vortex_model.specs.Like.{has_backslash}
+use Rattle.vortex_model_table.specs.Like.{has_backslash}
 use Rattle.vortex_model.specs.Refusal.{Refusal, or_else, not_boolean, unequal_types, not_a_leaf, unsupported_like, unsupported_predicate}
 use Rattle.vortex_model.specs.Path.{Names, type_of_column}
-use Rattle.vortex_model.specs.Expression.{Expression, literal, column, compare, both, either, negation, between, like, Comparison}
-use Rattle.vortex_model.specs.Typing.{expression_type, has_bounds}
-use Rattle.vortex_model.specs.Command.{expression_fault, predicate_fault, column_fault, unless, eq_optional_type, is_boolean, is_utf8_type, is_supported_like}
+use Rattle.vortex_model_table.specs.Expression.{Expression, literal, column, compare, both, either, negation, between, like, Comparison}
+use Rattle.vortex_model_table.specs.Typing.{expression_type, has_bounds}
+use Rattle.vortex_model_table.specs.Command.{expression_fault, predicate_fault, column_fault, unless, eq_optional_type, is_boolean, is_utf8_type, is_supported_like}
 use Rattle.vortex_model.specs.Kept.{is_leaf}
 use Rattle.vortex_dtype_ptype.specs.Numbers.{NumberKind, integral}
 use Rattle.vortex_dtype_ptype.specs.View.{number_kind_of}

@@ -4,10 +4,10 @@
 ghost use Rattle.std.specs.Prelude.{◌≡◌, IfOk, IfErr, OnOk, None};
 ghost use Rattle.vortex_model.specs.LogicalType.{LogicalType};
 ghost use Rattle.vortex_model.specs.Content.{Content};
-ghost use Rattle.vortex_model.specs.Expression.{literal, column, HasFormedLiterals};
-ghost use Rattle.vortex_model.specs.Truth.{value_at};
+ghost use Rattle.vortex_model_table.specs.Expression.{literal, column, HasFormedLiterals};
+ghost use Rattle.vortex_model_table.specs.Truth.{value_at};
 ghost use Rattle.vortex_model.specs.Valid.{IsContent};
-ghost use Rattle.vortex_model.specs.Command.{predicate_fault, is_supported_like};
+ghost use Rattle.vortex_model_table.specs.Command.{predicate_fault, is_supported_like};
 ghost use Rattle.vortex_dtype_core.specs.View.{type_of};
 ghost use Rattle.vortex_scalar_core.specs.Scalar.{scalar_type, scalar_content};
 ghost use Rattle.vortex_stats_bind.specs.Bound.{bound_value};
@@ -19,7 +19,7 @@ use vortex_dtype_core::dtype::DType;
 use vortex_dtype_ptype::field_names::FieldNames;
 use vortex_scalar_core::scalar::Scalar;
 use vortex_stats_bind::bind::bind_proof;
-use vortex_stats_bind::bound::BoundExpression;
+use vortex_stats_bind::bound::BoundTree;
 use vortex_stats_expr::expression::{Expression, Node};
 use vortex_stats_expr::options::LikeOptions;
 use vortex_stats_expr::types::{Leaf, TypeClass, class_of, column_class};
@@ -36,7 +36,7 @@ use vortex_table_check::error::TableError;
 /// a test for NaN and the number of rows; `UnequalTypes` of the sides of a comparison, of BETWEEN
 /// and of LIKE; `NotBoolean`; `UnsupportedLike`.
 #[tactic(auto, using(crate::proofs::Checks::binding))]
-pub fn bind(alloc: Global, e: &Expression, dtype: &DType) -> Result<BoundExpression, TableError>
+pub fn bind(alloc: Global, e: &Expression, dtype: &DType) -> Result<BoundTree, TableError>
     ensures faultless { OnOk result (predicate_fault (type_of dtype.now) e.now ≡ None) }
     ensures refused { IfErr result
         (λ error. Explains ⊥ (predicate_fault (type_of dtype.now) e.now) error) }

@@ -6,7 +6,7 @@ use Rattle.serde_json.specs.Find.{at}
 use Rattle.vortex_model.specs.LogicalType.{stored}
 use Rattle.vortex_model.specs.Content.{content_of}
 use Rattle.vortex_model.specs.Valid.{valid}
-use Rattle.vortex_model.specs.Expression.{Expression, literal, column, like, between, statistic, HasFormedLiterals}
+use Rattle.vortex_model_table.specs.Expression.{Expression, literal, column, like, between, statistic, HasFormedLiterals}
 use Rattle.vortex_model.proofs.Contents.{said}
 use Rattle.vortex_model.proofs.Tests.{has_so}
 use Rattle.vortex_stats_expr.specs.Tree.{combined}

@@ -2,7 +2,7 @@
 use Rattle.std.proofs.Common.{◌≡◌, refl, ap, ◌∙◌, ℕ, zero, suc, ◌<◌, ◌≤◌, Option, Some, None, option_and_then, arith}
 use Rattle.serde_json.specs.Data.{Data, null, boolean, number, string, array, object, Items, no_items, item, depth, items_depth}
 use Rattle.serde_json.specs.Find.{at, get_item}
-use Rattle.vortex_model.specs.Expression.{Expression}
+use Rattle.vortex_model_table.specs.Expression.{Expression}
 use Rattle.vortex_table_request.specs.FormNames.{form_in}
 use Rattle.vortex_table_request.specs.Where.{leaf_in, unary_in, binary_in, between_in, operand, predicate_of, predicate_in, predicates_in}
 use Rattle.vortex_table_request.specs.declared.forms.Form.{Form}

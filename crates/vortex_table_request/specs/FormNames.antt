@@ -3,7 +3,7 @@ use Rattle.std.specs.Prelude.{ℕ, List, Bool, true, ◌==◌, Option, Some, Non
 use Rattle.std.specs.Str.{bytes_eq}
 use Rattle.serde_json.specs.Data.{Data}
 use Rattle.serde_json.specs.Find.{at, as_str}
-use Rattle.vortex_model.specs.Expression.{Aggregate, min, max, sum, null_count, nan_count, size, min_max, all_null, all_non_null, all_nan, all_non_nan}
+use Rattle.vortex_model_table.specs.Expression.{Aggregate, min, max, sum, null_count, nan_count, size, min_max, all_null, all_non_null, all_nan, all_non_nan}
 use Rattle.vortex_stats_expr.specs.declared.operator.Operator as operators
 use Rattle.vortex_stats_expr.specs.declared.operator.Operator.TheVariants as operator
 use Rattle.vortex_table_request.specs.Parsed.{items_size}

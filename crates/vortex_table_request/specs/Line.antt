@@ -6,7 +6,7 @@ use Rattle.serde_json.specs.Find.{get, at, as_array, as_str}
 use Rattle.vortex_model.specs.LogicalType.{LogicalType}
 use Rattle.vortex_model.specs.Content.{Raw}
 use Rattle.vortex_model.specs.Path.{Step}
-use Rattle.vortex_model.specs.Command.{Command, create, append, join, retype, compact, scan, describe}
+use Rattle.vortex_model_table.specs.Command.{Command, create, append, join, retype, compact, scan, describe}
 use Rattle.vortex_table_request.specs.Parsed.{data_of, size_of, items_size, natural_of, keeps_whole}
 use Rattle.vortex_table_request.specs.Kinds.{type_in, one_if}
 use Rattle.vortex_table_request.specs.Rows.{rows_at}

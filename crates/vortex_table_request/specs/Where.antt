@@ -6,7 +6,7 @@ use Rattle.vortex_model.specs.LogicalType.{LogicalType}
 use Rattle.vortex_model.specs.Content.{content_of}
 use Rattle.vortex_model.specs.Valid.{valid}
 use Rattle.vortex_model.specs.Path.{Step, name, element}
-use Rattle.vortex_model.specs.Expression.{Expression, literal, column, negation, is_null, is_not_null, is_nan, between, like, row_count, statistic}
+use Rattle.vortex_model_table.specs.Expression.{Expression, literal, column, negation, is_null, is_not_null, is_nan, between, like, row_count, statistic}
 use Rattle.vortex_stats_expr.specs.Tree.{combined}
 use Rattle.vortex_table_request.specs.Kinds.{type_in, strings_of}
 use Rattle.vortex_table_request.specs.Rows.{reading}

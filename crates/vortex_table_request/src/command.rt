@@ -13,6 +13,7 @@ use crate::predicates::read_predicate;
 use crate::{ParseError, is_whole, length, parse, present_members, read_dtype, read_rows, size};
 use serde_json::Value;
 use std::alloc::Global;
+use vortex_arrays_core::array::ArrayRef;
 use vortex_dtype_core::dtype::DType;
 use vortex_dtype_path::path::FieldPath;
 use vortex_scalar_value::scalar_value::ScalarValue;
@@ -39,6 +40,11 @@ pub enum Command {
         values: Vec<Option<ScalarValue>>,
         /// How columns are to be laid out, one hint a column of the row's type.
         layouts: Vec<Layout>,
+    },
+    /// Rows for the table that stand in an array of records, without hints.
+    AppendArray {
+        /// The rows, of the type that the table's type may widen.
+        array: ArrayRef,
     },
     /// Which rows a predicate selects, cut by paths.
     Scan {

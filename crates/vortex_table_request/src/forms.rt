@@ -12,7 +12,7 @@ use vortex_stats_stat::aggregate::AggregateFn;
 
 /// Which predicate an array is, by how many of its items are predicates themselves.
 #[derive(Clone, Copy, Debug, PartialEq, Eq)]
-pub(crate) enum Form {
+pub enum Form {
     /// None is.
     Leaf(Leaf),
     /// The second item is.
@@ -25,7 +25,7 @@ pub(crate) enum Form {
 
 /// A predicate over no other.
 #[derive(Clone, Copy, Debug, PartialEq, Eq)]
-pub(crate) enum Leaf {
+pub enum Leaf {
     /// `["lit",type,content]`.
     Literal,
     /// `["col",name,..]`.
@@ -36,7 +36,7 @@ pub(crate) enum Leaf {
 
 /// A predicate over one other.
 #[derive(Clone, Copy, Debug, PartialEq, Eq)]
-pub(crate) enum Unary {
+pub enum Unary {
     /// `["not",x]`.
     Not,
     /// `["is_null",x]`.
@@ -51,7 +51,7 @@ pub(crate) enum Unary {
 
 /// A predicate over two others.
 #[derive(Clone, Copy, Debug, PartialEq, Eq)]
-pub(crate) enum Binary {
+pub enum Binary {
     /// `[op,x,y]`.
     Operator(Operator),
     /// `["like",x,pattern,negated,ignore_case]`.
@@ -74,7 +74,8 @@ fn operator_named(name: &str) -> Option<Operator>
     }
 }
 
-fn form_named(name: &str) -> Option<Form>
+/// The form of this name.
+pub fn form_named(name: &str) -> Option<Form>
     ensures { result ≡ form_named name.now }
 {
     match name {

@@ -104,7 +104,7 @@ fn read_ptype(name: &str) -> Result<PType, ParseError>
 }
 
 /// A kind that has no keys of its own.
-fn read_plain_named(name: &str) -> Result<MessageKind, ParseError>
+pub fn read_plain_named(name: &str) -> Result<MessageKind, ParseError>
     ensures { Gives form_of result (plain_named name.now) }
 {
     match name {

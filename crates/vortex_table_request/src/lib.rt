@@ -13,7 +13,8 @@ mod predicates;
 mod rows;
 
 pub use command::{Command, read_command};
-pub use kinds::{present_members, read_digits, read_names};
+pub use forms::{Binary, Form, Leaf, Unary, form_named};
+pub use kinds::{present_members, read_digits, read_names, read_plain_named};
 pub use messages::{read_dtype, read_message};
 pub use parse_error::ParseError;
 pub use parsed::{is_whole, length, parse, size};

@@ -1,6 +1,6 @@
 -- The text of a description.
 use Rattle.std.proofs.Common.{◌≡◌, refl}
-use Rattle.vortex_model.specs.ZoneMap.{ZoneMap}
+use Rattle.vortex_model_table.specs.ZoneMap.{ZoneMap}
 use Rattle.vortex_table_schema.specs.Description.{known_content, IsDescription}
 use Rattle.vortex_table_schema.specs.declared.description.Description.{Description}
 use Rattle.vortex_table_response.specs.Text.{members_text, description_text}

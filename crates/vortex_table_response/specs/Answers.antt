@@ -1,6 +1,6 @@
 -- The text of each answer.
 use Rattle.std.specs.Prelude.{ℕ, List}
-use Rattle.vortex_model.specs.Reply.{Answer, accepted, out_of_memory, refused, found, described}
+use Rattle.vortex_model_table.specs.Reply.{Answer, accepted, out_of_memory, refused, found, described}
 use Rattle.vortex_table_io.specs.Replies.{memory_text, ok_text}
 use Rattle.vortex_table_response.specs.Text.{refusal_text, scan_text, description_text}
 

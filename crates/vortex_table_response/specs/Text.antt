@@ -3,11 +3,12 @@ use Rattle.std.specs.Prelude.{ℕ, List, [], ◌∷◌, ◌++◌, Bool, true, fa
 use Rattle.std.specs.Fmt.{signed_decimal}
 use Rattle.hex.specs.Hex.{encode_lower}
 use Rattle.json.specs.Print.{quoted}
+use Rattle.vortex_model.specs.LogicalType.{LogicalType}
 use Rattle.vortex_model.specs.Content.{Content, null, boolean, integer, text, byte_string, tuple, Contents, nothing, first}
 use Rattle.vortex_model.specs.Refusal.{Refusal, number_of, index_of}
-use Rattle.vortex_model.specs.Scan.{ScanAnswer}
-use Rattle.vortex_model.specs.Statistics.{Precision, exact, inexact, absent}
-use Rattle.vortex_model.specs.ZoneMap.{ZoneMap}
+use Rattle.vortex_model_table.specs.Scan.{ScanAnswer}
+use Rattle.vortex_model_table.specs.Statistics.{Precision, exact, inexact, absent}
+use Rattle.vortex_model_table.specs.ZoneMap.{ZoneMap}
 use Rattle.vortex_stats_bound.specs.Precision.{precision_map}
 use Rattle.vortex_table_check.specs.Error.{name_of}
 use Rattle.vortex_table_response.specs.type_texts.Text.{flag_text, comma, type_text}
@@ -62,21 +63,23 @@ bad_line_text = refusal_parts None 18 (codes "BadLine")
 abbrev pub refusal_text : Refusal → List ℕ
 refusal_text r = refusal_parts (index_of r) (number_of r) (name_of r)
 
--- what stands in front of the rows
-abbrev pub scan_front_text : ScanAnswer → List ℕ
-scan_front_text a =
-    codes "{\"dtype\":" ++ type_text a.kind ++ codes ",\"ok\":true,\"proofs\":" ++
-    decimal a.proofs ++ codes ",\"rows\":["
+-- what stands in front of the rows: their type, and how many proofs were evaluated
+abbrev pub scan_front_text : LogicalType → ℕ → List ℕ
+scan_front_text k proofs =
+    codes "{\"dtype\":" ++ type_text k ++ codes ",\"ok\":true,\"proofs\":" ++
+    decimal proofs ++ codes ",\"rows\":["
 
--- what stands behind the rows
-abbrev pub scan_end_text : ScanAnswer → List ℕ
-scan_end_text a =
-    codes "],\"rows_tested\":" ++ decimal a.rows_tested ++ codes ",\"skipped\":[" ++
-    numbers_text false a.skipped
-    ++ codes "],\"whole\":[" ++ numbers_text false a.whole ++ codes "]}"
+-- what stands behind the rows: the rows tested, and the chunks skipped and taken whole
+abbrev pub scan_end_text : ℕ → List ℕ → List ℕ → List ℕ
+scan_end_text rows_tested skipped whole =
+    codes "],\"rows_tested\":" ++ decimal rows_tested ++ codes ",\"skipped\":[" ++
+    numbers_text false skipped
+    ++ codes "],\"whole\":[" ++ numbers_text false whole ++ codes "]}"
 
 abbrev pub scan_text : ScanAnswer → List ℕ
-scan_text a = scan_front_text a ++ rows_text false a.rows ++ scan_end_text a
+scan_text a =
+    scan_front_text a.kind a.proofs ++ rows_text false a.rows ++
+    scan_end_text a.rows_tested a.skipped a.whole
 
 -- ---- descriptions
 

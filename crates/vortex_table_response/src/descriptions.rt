@@ -1,6 +1,6 @@
 //! The answer of a description as text.
 ghost use Rattle.std.specs.Prelude.{◌≡◌, ◌++◌, OnOk};
-ghost use Rattle.vortex_model.specs.ZoneMap.{ZoneMap};
+ghost use Rattle.vortex_model_table.specs.ZoneMap.{ZoneMap};
 ghost use Rattle.vortex_scalar_core.specs.Scalar.{scalar_content};
 ghost use Rattle.vortex_table_schema.specs.Description.{known_content, IsDescription};
 ghost use Rattle.vortex_table_response.specs.Text.{entry_text, known_text, member_text, description_text};

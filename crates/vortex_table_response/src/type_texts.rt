@@ -3,6 +3,6 @@ mod quoted;
 mod tokens;
 mod types;
 
-pub use quoted::push_quoted;
+pub use quoted::push_text;
 pub use tokens::{push_comma, push_flag, push_number};
 pub use types::push_dtype;

@@ -7,7 +7,7 @@ ghost use Rattle.vortex_scalar_value.specs.View.{raw_of, raw_at, raws_in};
 ghost use Rattle.vortex_table_response.specs.Text.{content_text, contents_text, numbers_text};
 
 use crate::hexadecimal::push_bytes;
-use crate::type_texts::{push_comma, push_flag, push_number, push_quoted};
+use crate::type_texts::{push_comma, push_flag, push_number, push_text};
 use std::alloc::AllocError;
 use vortex_scalar_value::pvalue::PValue;
 use vortex_scalar_value::scalar_value::ScalarValue;
@@ -51,7 +51,7 @@ pub fn push_value(out: &mut Vec<u8>, value: &ScalarValue) -> Result<(), AllocErr
     match value {
         ScalarValue::Bool(flag) => push_flag(out, *flag),
         ScalarValue::Primitive(number) => push_integer(out, *number),
-        ScalarValue::Utf8(text) => push_quoted(*out.allocator(), out, text.as_str()),
+        ScalarValue::Utf8(text) => push_text(out, text.as_str().as_bytes()),
         ScalarValue::Tuple(values) => {
             out.push(b'[')?;
             push_values(out, values)?;

@@ -8,8 +8,8 @@ use Rattle.vortex_model.specs.LogicalType.{LogicalType}
 use Rattle.vortex_model.specs.Content.{Content}
 use Rattle.vortex_model.specs.Convert.{converts}
 use Rattle.vortex_model.specs.Refusal.{Refusal, not_convertible, or_else}
-use Rattle.vortex_model.specs.Command.{unless, first_unconvertible}
-use Rattle.vortex_model.proofs.ContentOrder.{true_left, true_right}
+use Rattle.vortex_model_table.specs.Command.{unless, first_unconvertible}
+use Rattle.vortex_model_table.proofs.ContentOrder.{true_left, true_right}
 use Rattle.vortex_arrays_model.specs.Layout.{Layout, len_of, content_at, rows_of}
 use Rattle.vortex_arrays_model.proofs.RowsLemmas.{row_at_position, row_count as rows_counted}
 use Rattle.vortex_scalar_value.specs.declared.scalar_value.ScalarValue.{ScalarValue}

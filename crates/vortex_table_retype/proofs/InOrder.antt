@@ -7,11 +7,11 @@ use Rattle.std.proofs.lemmas.List.{map-append}
 use Rattle.vortex_model.specs.LogicalType.{LogicalType}
 use Rattle.vortex_model.specs.Content.{Content}
 use Rattle.vortex_model.specs.Path.{Positions}
-use Rattle.vortex_model.specs.Typing.{sum_kind}
-use Rattle.vortex_model.specs.Scan.{kind_at}
+use Rattle.vortex_model_table.specs.Typing.{sum_kind}
+use Rattle.vortex_model_table.specs.Scan.{kind_at}
 use Rattle.vortex_model.specs.Valid.{IsContent}
-use Rattle.vortex_model.specs.ZoneMap.{ZoneMap, zone_of, values_at, joined, joined_from}
-use Rattle.vortex_model.proofs.ContentOrder.{true_left, true_right}
+use Rattle.vortex_model_table.specs.ZoneMap.{ZoneMap, zone_of, values_at, joined, joined_from}
+use Rattle.vortex_model_table.proofs.ContentOrder.{true_left, true_right}
 use Rattle.vortex_table_schema.specs.Leaves.{leaf_positions}
 use Rattle.vortex_table_chunk.specs.Bounds.{AreBoundsOf, are_sums_of}
 use Rattle.vortex_table_chunk.specs.Chunk.{chunk_rows, row_count}

@@ -7,7 +7,7 @@ use Rattle.vortex_model.specs.LogicalType.{LogicalType}
 use Rattle.vortex_model.specs.Content.{content_of}
 use Rattle.vortex_model.specs.Kept.{type_fault}
 use Rattle.vortex_model.specs.Valid.{valid}
-use Rattle.vortex_model.proofs.ContentOrder.{true_left, true_right}
+use Rattle.vortex_model_table.proofs.ContentOrder.{true_left, true_right}
 use Rattle.vortex_arrays_builder.specs.Plain.{IsTooLarge}
 use Rattle.vortex_arrays_builder.specs.Types.{HasPlain, TablesHoldPlainTypes}
 use Rattle.vortex_arrays_model.specs.Layout.{Layout, rows_of}

@@ -8,10 +8,10 @@ use Rattle.std.proofs.lemmas.List.{get_or-map, length-map}
 use Rattle.std.proofs.lemmas.List.Elements.{All-append}
 use Rattle.vortex_model.specs.Content.{Content, null, integer, text, byte_string, boolean}
 use Rattle.vortex_model.specs.Path.{Positions, at}
-use Rattle.vortex_model.specs.Statistics.{Precision, exact, inexact, absent, non_null, is_at_most, least_value, greatest_value}
-use Rattle.vortex_model.specs.ZoneMap.{bound_of, low_of_values, high_of_values, values_at}
-use Rattle.vortex_model.specs.Bounds.{low, high, is_longer}
-use Rattle.vortex_model.proofs.Leasts.{is_at_least, picked_end}
+use Rattle.vortex_model_table.specs.Statistics.{Precision, exact, inexact, absent, non_null, is_at_most, least_value, greatest_value}
+use Rattle.vortex_model_table.specs.ZoneMap.{bound_of, low_of_values, high_of_values, values_at}
+use Rattle.vortex_model_table.specs.Bounds.{low, high, is_longer}
+use Rattle.vortex_model_laws.proofs.Leasts.{is_at_least, picked_end}
 use Rattle.vortex_arrays_model.specs.Layout.{Layout, len_of, content_at, rows_of}
 use Rattle.vortex_arrays_model.proofs.RowsLemmas.{row_at_position, row_count}
 use Rattle.vortex_arrays_cast.specs.Ranges.{IsBetween, IsRangeIn, AreRangesOf}

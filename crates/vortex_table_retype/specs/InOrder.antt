@@ -3,7 +3,7 @@ use Rattle.std.specs.Prelude.{◌≡◌, ℕ, List, [], ◌∷◌, map}
 use Rattle.vortex_model.specs.LogicalType.{LogicalType}
 use Rattle.vortex_model.specs.Content.{Content}
 use Rattle.vortex_model.specs.Path.{Positions}
-use Rattle.vortex_model.specs.ZoneMap.{zone_of, zone_of_group, values_at}
+use Rattle.vortex_model_table.specs.ZoneMap.{zone_of, zone_of_group, values_at}
 use Rattle.vortex_table_chunk.specs.Joined.{IsLeafAt, AreJoined, rows_in}
 use Rattle.vortex_table_chunk.specs.zones.Join.{zone_in}
 use Rattle.vortex_table_chunk.specs.declared.zones.bounds.ColumnBounds.{ColumnBounds}

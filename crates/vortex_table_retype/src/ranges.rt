@@ -1,7 +1,7 @@
 //! Ranges that the statistics of a chunk give the integers of its leaf columns.
 ghost use Rattle.std.specs.Prelude.{◌≡◌, ℕ, List, All, IfOk, IfSome};
 ghost use Rattle.vortex_model.specs.Content.{Content, integer};
-ghost use Rattle.vortex_model.specs.Statistics.{exact};
+ghost use Rattle.vortex_model_table.specs.Statistics.{exact};
 ghost use Rattle.vortex_arrays_model.specs.Layout.{len_of, content_at};
 ghost use Rattle.vortex_arrays_cast.specs.Ranges.{AreRangesOf, IsBetween, IsRangeIn};
 ghost use Rattle.vortex_table_chunk.specs.zones.Bounds.{bound_in, IsBoundsOf};

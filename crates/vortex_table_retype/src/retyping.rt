@@ -2,12 +2,21 @@
 use crate::rows::{convert_chunk, convert_rows};
 use std::alloc::Global;
 use std::rc::Rc;
+use vortex_arrays_core::array::ArrayRef;
 use vortex_dtype_core::dtype::DType;
 use vortex_table_check::error::TableError;
 use vortex_table_check::lengths::BoundLengths;
 use vortex_table_chunk::chunk::Chunk;
 use vortex_table_chunk::retyped::retyped_chunk;
 use vortex_table_schema::leaves::LeafPath;
+
+// The rows of the last of the chunks.
+fn last_array(chunks: &[Chunk]) -> Option<&ArrayRef> {
+    match chunks.last() {
+        Some(chunk) => Some(&chunk.array),
+        None => None,
+    }
+}
 
 /// A conversion of the chunks of a table to another type.
 #[derive(Clone, Copy, Drop)]
@@ -27,7 +36,7 @@ pub struct Retyping<'a> {
 impl Retyping<'_> {
     ghost use Rattle.std.specs.Prelude.{◌≡◌, ◌<◌, ◌+◌, ◌^◌, None, map, flat_map, IfOk, OnOk, IfErr, IsErrOf, IsTrue};
     ghost use Rattle.std.specs.List.{list_all};
-    ghost use Rattle.vortex_model.specs.Command.{first_unconvertible};
+    ghost use Rattle.vortex_model_table.specs.Command.{first_unconvertible};
     ghost use Rattle.vortex_arrays_model.specs.Layout.{len_of};
     ghost use Rattle.vortex_table_chunk.specs.Chunk.{chunk_rows, row_count};
     ghost use Rattle.vortex_table_chunk.specs.Formed.{is_formed};
@@ -37,8 +46,17 @@ impl Retyping<'_> {
     ghost use Rattle.vortex_arrays_builder.specs.TooLarge.{AreTooLarge};
     ghost use Rattle.vortex_table_retype.specs.TooLarge.{AnyTooLarge};
 
-    // `first` is the index of the chunk's first row in the table.
-    fn retype_chunk(&self, alloc: Global, first: usize, chunk: &Chunk) -> Result<Chunk, TableError>
+    // `first` is the index of the chunk's first row in the table. Names are shared with the other
+    // array, where that has the same ones. It stays a function of its own, since its work on a
+    // chunk then touches a small frame, and not that of all commands.
+    #[inline(never)]
+    fn retype_chunk(
+        &self,
+        alloc: Global,
+        first: usize,
+        chunk: &Chunk,
+        other: Option<&ArrayRef>,
+    ) -> Result<Chunk, TableError>
         requires retyping { IsRetyping self.now }
         requires formed { IsTrue (is_formed (lengths_of self.now) (source_of self.now) chunk.now) }
         requires fits { first + len_of chunk.now.array < 2 ^ 64 }
@@ -51,7 +69,7 @@ impl Retyping<'_> {
             (AreTooLarge (target_of self.now) (chunk_rows chunk.now)) (first_unconvertible first
             (source_of self.now) (target_of self.now) (chunk_rows chunk.now)) e) }
     {
-        let array = convert_chunk(alloc, self.target, first, chunk)?;
+        let array = convert_chunk(alloc, self.target, first, chunk, other)?;
         let new = retyped_chunk(alloc, chunk, self.leaves, self.lengths, array)?;
         Ok(new)
     }
@@ -110,7 +128,7 @@ impl Retyping<'_> {
         let mut converted = Vec::with_capacity(alloc, chunks.len())?;
         let mut first = 0;
         for chunk in chunks {
-            let new = self.retype_chunk(alloc, first, chunk)?;
+            let new = self.retype_chunk(alloc, first, chunk, last_array(&converted))?;
             converted.push(new)?;
             first += chunk.array.len();
         }

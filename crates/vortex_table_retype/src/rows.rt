@@ -5,7 +5,7 @@ ghost use Rattle.vortex_model.specs.Convert.{converts};
 ghost use Rattle.vortex_model.specs.Refusal.{Refusal, not_convertible};
 ghost use Rattle.vortex_model.specs.Valid.{valid};
 ghost use Rattle.vortex_model.specs.Kept.{type_fault};
-ghost use Rattle.vortex_model.specs.Command.{unless, first_unconvertible};
+ghost use Rattle.vortex_model_table.specs.Command.{unless, first_unconvertible};
 ghost use Rattle.vortex_arrays_model.specs.Layout.{len_of, array_type_of, content_at, rows_of};
 ghost use Rattle.vortex_arrays_builder.specs.Types.{IsPlainLayout};
 ghost use Rattle.vortex_dtype_core.specs.View.{type_of};
@@ -17,11 +17,11 @@ ghost use Rattle.vortex_arrays_builder.specs.TooLarge.{AreTooLarge};
 
 use crate::ranges::ranges_of;
 use std::alloc::{AllocError, Global};
-use vortex_arrays_buffer::error::ArrayError;
 use vortex_arrays_builder::laws::tables_hold_plain_types;
 use vortex_arrays_builder::plain::build_plain;
 use vortex_arrays_cast::cast::cast_array_within;
 use vortex_arrays_core::array::ArrayRef;
+use vortex_arrays_view::error::ArrayError;
 use vortex_dtype_core::dtype::DType;
 use vortex_scalar_core::scalar::Scalar;
 use vortex_scalar_value::scalar_value::ScalarValue;
@@ -166,13 +166,15 @@ fn convert_by_rows(
 /// buffers.
 ///
 /// The integers of a leaf column are not tested where the target holds their least and their
-/// greatest.
+/// greatest. Names of fields are shared with the other array, where that has the same ones.
+#[inline(never)]
 #[tactic(auto, using(crate::proofs::ConvertedRows::all_convertible))]
 pub(crate) fn convert_chunk(
     alloc: Global,
     target: &DType,
     first: usize,
     chunk: &Chunk,
+    other: Option<&ArrayRef>,
 ) -> Result<ArrayRef, TableError>
     requires kept { type_fault (type_of target.now) ≡ None }
     requires fits { first + len_of chunk.now.array < 2 ^ 64 }
@@ -186,7 +188,7 @@ pub(crate) fn convert_chunk(
         (array_type_of chunk.now.array) (type_of target.now) (rows_of chunk.now.array)) e) }
 {
     let ranges = ranges_of(alloc, chunk)?;
-    match cast_array_within(alloc, &chunk.array, target, &ranges)? {
+    match cast_array_within(alloc, &chunk.array, target, &ranges, other)? {
         Some(cast) => Ok(cast),
         None => convert_by_rows(alloc, target, first, &chunk.array),
     }

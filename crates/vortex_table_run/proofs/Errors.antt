@@ -1,10 +1,10 @@
 -- The texts and the answers that errors are.
 use Rattle.std.proofs.Common.{◌≡◌, ◌≢◌, ℕ, List, Option, Some, None, refl, ap, subst, ◌∙◌}
 use Rattle.std.specs.Prelude.{IfSome, option_and_then}
-use Rattle.vortex_model.specs.Table.{Table}
-use Rattle.vortex_model.specs.Command.{Command, refusal_in}
+use Rattle.vortex_model_table.specs.Table.{Table}
+use Rattle.vortex_model_table.specs.Command.{Command, refusal_in}
 use Rattle.vortex_model.specs.Refusal.{Refusal, number_of, index_of}
-use Rattle.vortex_model.specs.Reply.{RespondsTo}
+use Rattle.vortex_model_table.specs.Reply.{RespondsTo}
 use Rattle.vortex_table_core.specs.Totals.{PassesTotal}
 use Rattle.vortex_table_check.specs.Error.{refusal_of, error_name, Explains}
 use Rattle.vortex_table_check.specs.declared.error.TableError.{TableError}

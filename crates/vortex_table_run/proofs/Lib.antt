@@ -2,3 +2,4 @@ mod Errors
 mod Exact
 mod Responding
 mod WellFormed
+mod ArrayRows

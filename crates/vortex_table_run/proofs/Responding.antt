@@ -2,13 +2,13 @@
 use Rattle.std.proofs.Common.{◌≡◌, ℕ, List, [], ◌∷◌, map, inl, inr, Option, Some, None, refl, ap, sym, subst, ◌∙◌}
 use Rattle.vortex_model.specs.LogicalType.{LogicalType}
 use Rattle.vortex_model.specs.Path.{Step}
-use Rattle.vortex_model.specs.Expression.{Expression}
+use Rattle.vortex_model_table.specs.Expression.{Expression}
 use Rattle.vortex_model.specs.Refusal.{Refusal, no_table}
-use Rattle.vortex_model.specs.Table.{Table}
-use Rattle.vortex_model.specs.Scan.{ScanAnswer, scanned}
-use Rattle.vortex_model.specs.Command.{Command, create, scan, describe, names_of, positions_of, refusal, refusal_in, create_fault}
-use Rattle.vortex_model.specs.Reply.{refused, found, described, Describes, RespondsTo}
-use Rattle.vortex_model.specs.ZoneMap.{ZoneMap}
+use Rattle.vortex_model_table.specs.Table.{Table}
+use Rattle.vortex_model_table.specs.Scan.{ScanAnswer, scanned}
+use Rattle.vortex_model_table.specs.Command.{Command, create, scan, describe, names_of, positions_of, refusal, refusal_in, create_fault}
+use Rattle.vortex_model_table.specs.Reply.{refused, found, described, Describes, RespondsTo}
+use Rattle.vortex_model_table.specs.ZoneMap.{ZoneMap}
 use Rattle.vortex_table_chunk.specs.Chunk.{chunk_rows}
 use Rattle.vortex_table_chunk.specs.declared.chunk.Chunk.{Chunk}
 use Rattle.vortex_table_core.specs.Arrays.{AnyHasTooManyItems}

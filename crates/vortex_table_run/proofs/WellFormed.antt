@@ -2,8 +2,8 @@
 use Rattle.std.proofs.Common.{◌≡◌, ℕ, ◌+◌, List, Bool, Option, Some, None, is_some, if◌then◌else◌, ◌==◌, option_map, option_and_then, codes}
 use Rattle.serde_json.specs.Data.{Data}
 use Rattle.serde_json.specs.Find.{get, as_str, as_array}
-use Rattle.vortex_model.specs.Expression.{Expression, HasFormedLiterals}
-use Rattle.vortex_model.specs.Command.{Command, create, append, append_array, join, retype, compact, scan, describe}
+use Rattle.vortex_model_table.specs.Expression.{Expression, HasFormedLiterals}
+use Rattle.vortex_model_table.specs.Command.{Command, create, append, append_array, join, retype, compact, scan, describe}
 use Rattle.vortex_table_request.specs.Parsed.{data_of, size_of, keeps_whole, natural_of}
 use Rattle.vortex_table_request.specs.Where.{predicate_in, paths_in, path_in}
 use Rattle.vortex_table_request.specs.Kinds.{type_in, one_if}

@@ -1,9 +1,9 @@
 -- What is said to a command.
 use Rattle.std.specs.Prelude.{◌≡◌, ℕ, List, Option, Some, None}
-use Rattle.vortex_model.specs.Table.{Table}
-use Rattle.vortex_model.specs.Command.{Command}
+use Rattle.vortex_model_table.specs.Table.{Table}
+use Rattle.vortex_model_table.specs.Command.{Command}
 use Rattle.vortex_model.specs.Refusal.{total_passed}
-use Rattle.vortex_model.specs.Reply.{Answer, accepted, out_of_memory, refused, RespondsTo}
+use Rattle.vortex_model_table.specs.Reply.{Answer, accepted, out_of_memory, refused, RespondsTo}
 use Rattle.vortex_table_check.specs.Error.{refusal_of}
 use Rattle.vortex_table_check.specs.declared.error.TableError.{TableError}
 use Rattle.vortex_table_check.specs.declared.error.TableError.TheVariants as error

@@ -2,14 +2,14 @@
 use Rattle.std.specs.Prelude.{◌≡◌, ◌↔◌, ◌⊎◌, ℕ, List, [], ◌∷◌, ◌++◌, length, map, filter, Contains, Option, Some, None, true}
 use Rattle.vortex_model.specs.Content.{Content}
 use Rattle.vortex_model.specs.Path.{Names}
-use Rattle.vortex_model.specs.Expression.{Expression}
-use Rattle.vortex_model.specs.Truth.{selects}
-use Rattle.vortex_model.specs.Cut.{cut_row, cut_type}
-use Rattle.vortex_model.specs.Table.{Table}
-use Rattle.vortex_model.specs.Scan.{ScanAnswer}
-use Rattle.vortex_model.specs.Class.{Hopeless, is_wide, is_bounded}
-use Rattle.vortex_model.specs.Command.{Command, scan, names_of}
-use Rattle.vortex_model.specs.Reply.{Answer, out_of_memory, refused, found, RespondsTo}
+use Rattle.vortex_model_table.specs.Expression.{Expression}
+use Rattle.vortex_model_table.specs.Truth.{selects}
+use Rattle.vortex_model_table.specs.Cut.{cut_row, cut_type}
+use Rattle.vortex_model_table.specs.Table.{Table}
+use Rattle.vortex_model_table.specs.Scan.{ScanAnswer}
+use Rattle.vortex_model_table.specs.Class.{Hopeless, is_wide, is_bounded}
+use Rattle.vortex_model_table.specs.Command.{Command, scan, names_of}
+use Rattle.vortex_model_table.specs.Reply.{Answer, out_of_memory, refused, found, RespondsTo}
 use Rattle.vortex_model_laws.specs.Exact.{box_of_chunk}
 use Rattle.vortex_model_laws.specs.Runs.{rows_by}
 use Rattle.vortex_table_io.specs.Replies.{memory_text}

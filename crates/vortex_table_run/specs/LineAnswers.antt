@@ -1,8 +1,8 @@
 -- The answers to lines.
 use Rattle.std.specs.Prelude.{◌≡◌, ℕ, List, ◌⊎◌, Option, Some, None}
-use Rattle.vortex_model.specs.Table.{Table}
-use Rattle.vortex_model.specs.Command.{Command}
-use Rattle.vortex_model.specs.Reply.{Answer, RespondsTo}
+use Rattle.vortex_model_table.specs.Table.{Table}
+use Rattle.vortex_model_table.specs.Command.{Command}
+use Rattle.vortex_model_table.specs.Reply.{Answer, RespondsTo}
 use Rattle.vortex_table_io.specs.Replies.{memory_text}
 use Rattle.vortex_table_request.specs.Line.{command_of}
 use Rattle.vortex_table_response.specs.Text.{bad_line_text}

@@ -1,6 +1,6 @@
 -- What a session stands for.
 use Rattle.std.specs.Prelude.{Option, option_map}
-use Rattle.vortex_model.specs.Table as model
+use Rattle.vortex_model_table.specs.Table as model
 use Rattle.vortex_table_core.specs.TableView.{table_of}
 use Rattle.vortex_table_run.specs.declared.session.Session.{Session}
 

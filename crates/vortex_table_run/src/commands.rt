@@ -5,8 +5,7 @@ ghost use Rattle.vortex_table_run.specs.Exact.{State, start, ExactAnswers};
 
 use crate::session::Session;
 use std::alloc::Global;
-use vortex_model::laws::steps_keep_tables;
-use vortex_model_laws::laws::exactly_the_hopeless_are_skipped;
+use vortex_model_laws::laws::{exactly_the_hopeless_are_skipped, steps_keep_tables};
 use vortex_table_io::{RunError, Sink, Source, run_lines};
 
 /// Runs the commands of a source of lines, and writes the answer to each into a sink, ended by an
@@ -60,6 +59,6 @@ pub fn run<R: Source, W: Sink>(
     // Both tell the proof what holds behind any list of commands.
     steps_keep_tables();
     exactly_the_hopeless_are_skipped();
-    let mut session = Session::new();
+    let mut session = Session::new(alloc);
     run_lines(alloc, &mut session, reader, writer)
 }

@@ -1,7 +1,7 @@
 //! What is said to commands on groups of chunks, and on all chunks at once.
 ghost use Rattle.std.specs.Prelude.{◌≡◌, ℕ, List, OnOk};
-ghost use Rattle.vortex_model.specs.Command.{join, compact, describe};
-ghost use Rattle.vortex_model.specs.ZoneMap.{ZoneMap};
+ghost use Rattle.vortex_model_table.specs.Command.{join, compact, describe};
+ghost use Rattle.vortex_model_table.specs.ZoneMap.{ZoneMap};
 ghost use Rattle.vortex_dtype_path.specs.View.{steps_of};
 ghost use Rattle.vortex_table_schema.specs.Description.{IsDescription};
 ghost use Rattle.vortex_table_response.specs.Text.{description_text};

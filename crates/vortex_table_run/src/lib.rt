@@ -6,3 +6,6 @@ pub mod commands;
 mod groups;
 mod refused;
 pub mod session;
+
+// The table of a session, for the door to name.
+pub use vortex_table_core::table::Table;

@@ -1,33 +1,38 @@
 //! A table, or none yet, and what is said to commands.
 ghost use Rattle.std.specs.Prelude.{◌≡◌, ℕ, List, map, None, OnOk, refl};
 ghost use Rattle.std.proofs.Common.{inl};
-ghost use Rattle.vortex_model.specs.Command.{create, append, retype, scan};
+ghost use Rattle.vortex_model_table.specs.Command.{create, append, retype, scan};
 ghost use Rattle.vortex_dtype_core.specs.View.{type_of};
 ghost use Rattle.vortex_dtype_path.specs.View.{steps_of};
 ghost use Rattle.vortex_scalar_value.specs.View.{raw_in};
-ghost use Rattle.vortex_table_schema.specs.Answer.{answer_of};
+ghost use Rattle.vortex_arrays_model.specs.Layout.{array_type_of};
+ghost use Rattle.vortex_table_select.specs.Selected.{answer_in};
 ghost use Rattle.vortex_table_response.specs.Text.{scan_text};
 ghost use Rattle.vortex_table_io.specs.Lines.{with_lf};
-ghost use Rattle.vortex_table_request.specs.View.{entry_of, shown};
+ghost use Rattle.vortex_table_request.specs.View.{entry_of, raw_rows, shown};
 ghost use Rattle.vortex_table_run.specs.CommandAnswers.{Responds};
 
 use crate::refused::fault;
+use json::Scratch;
 use std::alloc::{AllocError, Global};
+use vortex_arrays_core::array::ArrayRef;
 use vortex_dtype_core::dtype::DType;
 use vortex_dtype_path::path::FieldPath;
+use vortex_model::laws::tests_of_validity_are_right;
 use vortex_scalar_value::scalar_value::ScalarValue;
 use vortex_stats_expr::expression::Expression;
 use vortex_table_core::table::Table;
 use vortex_table_io::{LineHandler, Response};
 use vortex_table_request::{Command, ParseError};
-use vortex_table_response::{bad_line, push_scan, without_table};
-use vortex_table_schema::answer::ScanAnswer;
+use vortex_table_response::{bad_line, without_table};
 use vortex_table_schema::layout::Layout;
+use vortex_table_select::selection::LazyAnswer;
+use vortex_table_text::scan::push_scan;
 use vortex_table_tokens::read_command;
 
 /// Writes the line of a scan's answer in place of what the buffer holds.
-fn write_found(alloc: Global, answer: &ScanAnswer, out: &mut Vec<u8>) -> Result<(), AllocError>
-    ensures { OnOk result (out.new.items ≡ with_lf (scan_text (answer_of answer.now))) }
+fn write_found(alloc: Global, answer: &LazyAnswer, out: &mut Vec<u8>) -> Result<(), AllocError>
+    ensures { OnOk result (out.new.items ≡ with_lf (scan_text (answer_in answer.now))) }
 {
     out.clear();
     push_scan(alloc, out, answer)?;
@@ -39,16 +44,21 @@ fn write_found(alloc: Global, answer: &ScanAnswer, out: &mut Vec<u8>) -> Result<
 #[derive(Drop)]
 pub struct Session {
     pub(crate) table: Option<Table>,
+    // Room for the tokens of a line, which is made once.
+    scratch: Scratch,
 }
 
 impl Session {
     ghost use Rattle.vortex_table_run.specs.State.{table_in};
 
     /// A session without a table.
-    pub fn new() -> Session
+    pub fn new(alloc: Global) -> Session
         ensures { table_in result ≡ None }
     {
-        Session { table: None }
+        Session {
+            table: None,
+            scratch: Scratch::new(alloc),
+        }
     }
 
     /// Puts a new table in the place of the one that is there. Where it is refused, that one stays.
@@ -93,6 +103,24 @@ impl Session {
         }
     }
 
+    /// Appends the rows of an array to the table. Once it has changed, the answer takes no memory.
+    fn answer_append_array(&mut self, array: ArrayRef) -> Response
+        ensures { (out : List ℕ)
+            → Responds (table_in self.old) (append (array_type_of array) (raw_rows array))
+            result out (table_in self.new) }
+    {
+        // Both tell the proof that the rows are of the array's type.
+        let _rows = array.len();
+        tests_of_validity_are_right();
+        let Some(table) = &mut self.table else {
+            return Response::Short(without_table());
+        };
+        match table.append_array(array) {
+            Ok(()) => Response::Done,
+            Err(error) => fault(error),
+        }
+    }
+
     /// Gives the rows of the table another type. Once it has changed, the answer takes no memory.
     fn answer_retype(&mut self, dtype: DType) -> Response
         ensures { (out : List ℕ)
@@ -122,7 +150,7 @@ impl Session {
         let Some(table) = &self.table else {
             return Response::Short(without_table());
         };
-        match table.scan(alloc, paths, predicate) {
+        match table.select(alloc, paths, predicate) {
             Ok(answer) => match write_found(alloc, &answer, out) {
                 Ok(()) => Response::Written,
                 Err(_) => {
@@ -150,6 +178,7 @@ impl Session {
                 values,
                 layouts,
             } => self.answer_append(&dtype, values, &layouts),
+            Command::AppendArray { array } => self.answer_append_array(array),
             Command::Scan { paths, predicate } => self.answer_scan(alloc, &paths, &predicate, out),
             Command::Join { group } => self.answer_join(group),
             Command::Retype { dtype } => self.answer_retype(dtype),
@@ -161,7 +190,7 @@ impl Session {
 
 impl LineHandler for Session {
     ghost use Rattle.std.specs.Prelude.{Option};
-    ghost use Rattle.vortex_model.specs.Table as model;
+    ghost use Rattle.vortex_model_table.specs.Table as model;
     ghost use Rattle.vortex_table_run.specs.State.{table_in};
     ghost use Rattle.vortex_table_run.specs.LineAnswers.{LineAnswers};
 
@@ -172,7 +201,7 @@ impl LineHandler for Session {
     ghost answers = { LineAnswers };
 
     fn answer(&mut self, alloc: Global, line: &[u8], out: &mut Vec<u8>) -> Response {
-        match read_command(alloc, line) {
+        match read_command(alloc, line, &mut self.scratch) {
             Ok(command) => self.answer_command(alloc, command, out),
             Err(ParseError::Malformed) => Response::Short(bad_line()),
             Err(ParseError::Memory) => Response::NoMemory,

@@ -6,9 +6,9 @@ use Rattle.vortex_model.specs.LogicalType.{LogicalType, struct, stored, Fields, 
 use Rattle.vortex_model.specs.Content.{Content, tuple, Contents, first, nth, content_of, contents_of, Raw, raw_null, raw_tuple, Raws, no_raws, raw_first}
 use Rattle.vortex_model.specs.Valid.{valid, has, fields_have}
 use Rattle.vortex_model.specs.Path.{Names, begins}
-use Rattle.vortex_model.specs.Cut.{is_kept, cut_kind, cut_fields, cut_content, cut_contents, cut_row, cut_type}
-use Rattle.vortex_model.proofs.Answers.{KeepAll, uncut, uncut_kind}
-use Rattle.vortex_model.proofs.ContentOrder.{true_left, true_right}
+use Rattle.vortex_model_table.specs.Cut.{is_kept, cut_kind, cut_fields, cut_content, cut_contents, cut_row, cut_type}
+use Rattle.vortex_model_laws.proofs.Answers.{KeepAll, uncut, uncut_kind}
+use Rattle.vortex_model_table.proofs.ContentOrder.{true_left, true_right}
 use Rattle.vortex_model.proofs.Contents.{said}
 use Rattle.vortex_model.proofs.Tests.{has_so}
 use Rattle.vortex_dtype_core.specs.View.{NamedType, fields_from}

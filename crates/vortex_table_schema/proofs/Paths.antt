@@ -7,7 +7,7 @@ use Rattle.std.specs.List.{cons_option}
 use Rattle.std.specs.Borrow.{Bor}
 use Rattle.vortex_model.specs.LogicalType.{LogicalType}
 use Rattle.vortex_model.specs.Path.{Names}
-use Rattle.vortex_model.specs.Cut.{cut_kind}
+use Rattle.vortex_model_table.specs.Cut.{cut_kind}
 use Rattle.vortex_dtype_core.specs.View.{NamedType, field_of, type_of}
 use Rattle.vortex_dtype_path.specs.declared.field.Field.{Field}
 use Rattle.vortex_dtype_core.specs.declared.struct_fields.StructField.{StructField}

@@ -7,8 +7,8 @@ use Rattle.std.specs.List.{list_any}
 use Rattle.vortex_model.specs.LogicalType.{LogicalType, struct, Fields, no_fields, field}
 use Rattle.vortex_model.specs.Kept.{is_leaf}
 use Rattle.vortex_model.specs.Path.{Positions, eq_positions, type_at, field_at}
-use Rattle.vortex_model.proofs.Columns.{stepped, leaf_within}
-use Rattle.vortex_model.proofs.ContentOrder.{true_left, true_right}
+use Rattle.vortex_model_laws.proofs.Columns.{stepped, leaf_within}
+use Rattle.vortex_model_table.proofs.ContentOrder.{true_left, true_right}
 use Rattle.vortex_dtype_ptype.specs.declared.nullability.Nullability as outer
 use Rattle.vortex_dtype_core.specs.View.{type_of, fields_of, NamedType}
 use Rattle.vortex_dtype_core.specs.declared.dtype.DType as type

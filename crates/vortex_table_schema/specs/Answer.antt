@@ -1,6 +1,6 @@
 -- What the answer of a scan stands for.
 use Rattle.std.specs.Prelude.{◌≡◌, map, All}
-use Rattle.vortex_model.specs.Scan as model
+use Rattle.vortex_model_table.specs.Scan as model
 use Rattle.vortex_dtype_core.specs.View.{type_of}
 use Rattle.vortex_scalar_core.specs.Scalar.{scalar_type, scalar_content}
 use Rattle.vortex_table_schema.specs.declared.answer.ScanAnswer.{ScanAnswer}

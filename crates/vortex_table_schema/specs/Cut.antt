@@ -11,8 +11,8 @@ use Rattle.std.specs.Global.{Vec}
 use Rattle.vortex_model.specs.LogicalType.{LogicalType, struct, Fields, no_fields, field}
 use Rattle.vortex_model.specs.Content.{Content, tuple, Contents, nothing, first, nth, Raw, raw_tuple, Raws, no_raws, raw_first}
 use Rattle.vortex_model.specs.Path.{Names}
-use Rattle.vortex_model.specs.Cut.{cut_kind}
-use Rattle.vortex_model.specs.Command.{names_of}
+use Rattle.vortex_model_table.specs.Cut.{cut_kind}
+use Rattle.vortex_model_table.specs.Command.{names_of}
 use Rattle.vortex_dtype_core.specs.View.{NamedType}
 use Rattle.vortex_scalar_value.specs.Parts.{raw_nth}
 use Rattle.vortex_dtype_path.specs.View.{step_of, steps_of}

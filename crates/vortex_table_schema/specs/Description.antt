@@ -1,8 +1,8 @@
 -- What the description of a column stands for.
 use Rattle.std.specs.Prelude.{◌≡◌, pos}
 use Rattle.vortex_model.specs.Content.{Content, integer, boolean}
-use Rattle.vortex_model.specs.Statistics.{Precision, exact}
-use Rattle.vortex_model.specs.ZoneMap.{ZoneMap}
+use Rattle.vortex_model_table.specs.Statistics.{Precision, exact}
+use Rattle.vortex_model_table.specs.ZoneMap.{ZoneMap}
 use Rattle.vortex_scalar_core.specs.Scalar.{scalar_content}
 use Rattle.vortex_scalar_core.specs.declared.scalar.Scalar.{Scalar}
 use Rattle.vortex_stats_bound.specs.Precision.{precision_of, precision_map}

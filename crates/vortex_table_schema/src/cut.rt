@@ -1,19 +1,13 @@
-//! The part of a row that paths ask for: its type, and how it is taken from a row.
-//!
-//! `make_cut` is called once for a scan, and `cut_row` once for each row that is answered.
-ghost use Rattle.std.specs.Prelude.{◌≡◌, ◌++◌, ◌∷◌, [], false, List, IfOk, OnOk, IsTrue, map, option_map};
-ghost use Rattle.vortex_model.specs.Content.{content_of};
-ghost use Rattle.vortex_model.specs.Valid.{valid};
+//! The part of a row that paths ask for: its type, and the fields to keep of a value.
+ghost use Rattle.std.specs.Prelude.{◌≡◌, ◌++◌, ◌∷◌, [], false, List, IfOk, OnOk, map, option_map};
 ghost use Rattle.vortex_model.specs.Path.{Names};
-ghost use Rattle.vortex_model.specs.Cut.{cut_kind, cut_type};
-ghost use Rattle.vortex_model.specs.Command.{names_of};
+ghost use Rattle.vortex_model_table.specs.Cut.{cut_kind, cut_type};
+ghost use Rattle.vortex_model_table.specs.Command.{names_of};
 ghost use Rattle.vortex_dtype_core.specs.View.{type_of, field_of};
 ghost use Rattle.vortex_dtype_path.specs.View.{step_of};
-ghost use Rattle.vortex_scalar_value.specs.View.{raw_of};
-ghost use Rattle.vortex_scalar_core.specs.Scalar.{scalar_type, scalar_content};
-ghost use Rattle.vortex_table_schema.specs.Cut.{paths_of, names_at, strip_all, is_root, ask_for_all, first_step, IsIndex, AreBelow, kept_by, whole, cut_named, kept_list, tree_of, part_of_field, raw_cut};
+ghost use Rattle.vortex_table_schema.specs.Cut.{paths_of, names_at, strip_all, is_root, ask_for_all, first_step, IsIndex, AreBelow, kept_by, whole, cut_named, kept_list, tree_of, part_of_field};
 
-use crate::projection::{ProjectedField, Projection, cut_value};
+use crate::projection::{ProjectedField, Projection};
 use std::alloc::{AllocError, Global};
 use std::collections::BTreeMap;
 use vortex_dtype_core::dtype::DType;
@@ -22,8 +16,6 @@ use vortex_dtype_path::field::Field;
 use vortex_dtype_path::path::FieldPath;
 use vortex_dtype_ptype::field_names::FieldName;
 use vortex_dtype_ptype::nullability::Nullability;
-use vortex_scalar_core::scalar::Scalar;
-use vortex_scalar_value::scalar_value::ScalarValue;
 
 /// The part of rows that paths ask for: its type, and the fields to keep of a value.
 #[derive(Drop)]
@@ -276,17 +268,4 @@ pub fn make_cut(
     let steps = steps_in(alloc, paths)?;
     let cut = cut_part(alloc, dtype, &steps)?;
     Ok(cut)
-}
-
-/// The part of a row that is kept, copied. A null record stays null.
-pub fn cut_row(alloc: Global, cut: &RowProjection, row: &ScalarValue) -> Result<Scalar, AllocError>
-    requires { IsTrue
-        (valid (type_of cut.now.dtype) (raw_cut (tree_of cut.now.projection) (raw_of row.now))) }
-    ensures kind { IfOk result (λ cut_row. scalar_type cut_row ≡ type_of cut.now.dtype) }
-    ensures content { IfOk result (λ cut_row. scalar_content cut_row
-        ≡ content_of (raw_cut (tree_of cut.now.projection) (raw_of row.now))) }
-{
-    let value = cut_value(&cut.projection, alloc, row)?;
-    let dtype = cut.dtype.clone()?;
-    Ok(Scalar::new_unchecked(dtype, Some(value)))
 }

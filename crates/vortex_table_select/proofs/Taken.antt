@@ -1,6 +1,7 @@
 -- The rows of an answer: what is read at their positions, and which positions those are.
-use Rattle.std.proofs.Common.{◌≡◌, refl, sym, ◌∙◌, ap, subst, ℕ, zero, suc, ◌+◌, ◌<◌, ◌≤◌, List, [], ◌∷◌, ◌++◌, length, take, map, filter, get_or, Bool, true, false, cond, Option, append_assoc, All, arith, IsTrue}
+use Rattle.std.proofs.Common.{◌≡◌, refl, sym, ◌∙◌, ap, subst, ℕ, zero, suc, ◌+◌, ◌<◌, ◌≤◌, List, [], ◌∷◌, ◌++◌, length, take, drop, map, filter, get_or, Bool, true, false, cond, Option, append_assoc, append-nil, drop-cons, All, arith, IsTrue}
 use Rattle.std.specs.List.{range_with_len}
+use Rattle.std.proofs.lemmas.Grind.{flat_map-append}
 use Rattle.std.proofs.lemmas.List.{length-map, map-append, get_or-map, take_more, take_all}
 use Rattle.std.proofs.lemmas.List.Elements.{All-push}
 use Rattle.std.proofs.lemmas.List.FromFn.{length-range_with_len, get_or-range_with_len}
@@ -28,7 +29,8 @@ use Rattle.vortex_table_schema.specs.Cut.{Tree, tree_of, content_cut, raw_cut}
 use Rattle.vortex_table_schema.proofs.Cuts.{cut_content_of}
 use Rattle.vortex_table_schema.specs.declared.cut.RowProjection.{RowProjection}
 use Rattle.vortex_table_rows.specs.Lists.{cut_values}
-use Rattle.vortex_table_select.specs.Selected.{is_selected, selected_rows, CanBeCut}
+use Rattle.vortex_table_select.specs.Selected.{is_selected, selected_rows, rows_at, rows_in, AreOfType, cut_rows, CanBeCut}
+use Rattle.vortex_table_select.specs.declared.selection.Selection.{Selection}
 
 -- ---- rows that are read
 
@@ -70,6 +72,33 @@ first_left P left behind v e h = let g = subst (All P) e h in (g 0 v (omega arit
 -- one more scalar of the kind
 pub kinds_more : (k : LogicalType) (found new : List Scalar) (s : Scalar) → new ≡ found ++ s ∷ [] → All (λ row. scalar_type row ≡ k) found → scalar_type s ≡ k → All (λ row. scalar_type row ≡ k) new
 kinds_more k found new s e h g = subst (λ xs. All (λ row. scalar_type row ≡ k) xs) (sym e) (All-push (λ row. scalar_type row ≡ k) found s h g)
+
+-- ---- selections
+
+-- one selection more
+pub rows_in_more : (old new : List Selection) (s : Selection) → new ≡ old ++ s ∷ [] → rows_in new ≡ rows_in old ++ rows_at s
+rows_in_more old new s made =
+    ap rows_in made ∙ flat_map-append rows_at old (s ∷ []) ∙ ap (λ l. rows_in old ++ l) (append-nil (rows_at s))
+
+pub of_type_more : (k : LogicalType) (old new : List Selection) (s : Selection) → new ≡ old ++ s ∷ [] → AreOfType k old → array_type_of s.array ≡ k → AreOfType k new
+of_type_more k old new s made h e = subst (AreOfType k) (sym made) (All-push (λ t. array_type_of t.array ≡ k) old s h e)
+
+-- the rows from a selection on
+pub rows_from : (ss : List Selection) (i : ℕ) (s : Selection) → i < length ss → s ≡ get_or ss i s → rows_in (drop i ss) ≡ rows_at s ++ rows_in (drop (i + 1) ss)
+rows_from ss i s l e =
+    let one_on : suc i ≡ i + 1 = omega arith in
+    ap rows_in (drop-cons ss i s l) ∙ (λ j. rows_at (sym e j) ++ rows_in (drop (one_on j) ss))
+
+-- what is read of one selection more, and what the others hold, is all
+pub read_more : (cut : RowProjection) (ss : List Selection) (i : ℕ) (s : Selection) (old new all : List Content) → i < length ss → s ≡ get_or ss i s →
+    new ≡ old ++ cut_rows cut (rows_at s) → old ++ cut_rows cut (rows_in (drop i ss)) ≡ all → new ++ cut_rows cut (rows_in (drop (i + 1) ss)) ≡ all
+read_more cut ss i s old new all l e made h =
+    let keep : Content → Content = content_cut (tree_of cut.projection) in
+    let rest = cut_rows cut (rows_in (drop (i + 1) ss)) in
+    ap (λ xs. xs ++ rest) made
+    ∙ append_assoc old (cut_rows cut (rows_at s)) rest
+    ∙ ap (λ xs. old ++ xs) (sym (map-append keep (rows_at s) (rows_in (drop (i + 1) ss))) ∙ ap (map keep) (sym (rows_from ss i s l e)))
+    ∙ h
 
 -- ---- the rows of an array, one by one
 

@@ -1,5 +1,6 @@
-//! The rows of arrays that scans answer, cut by their paths.
+//! The rows of arrays that scans select, by where they stand, and as values cut by their paths.
 #![tactic(auto)]
 
-mod columns;
+pub mod read;
 pub mod select;
+pub mod selection;

@@ -1,4 +1,8 @@
+pub mod Digits
 pub mod Grammar
 pub mod OneToken
 pub mod Lines
 pub mod Rows
+pub mod Scans
+pub mod KindNames
+pub mod ColumnLemmas

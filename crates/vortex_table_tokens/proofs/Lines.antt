@@ -8,7 +8,7 @@ use Rattle.serde_json.specs.Find.{as_array, get}
 use Rattle.serde_json.specs.Read.{of_json, converted}
 use Rattle.vortex_model.specs.LogicalType.{LogicalType}
 use Rattle.vortex_model.specs.Content.{Raw}
-use Rattle.vortex_model.specs.Command.{append}
+use Rattle.vortex_model_table.specs.Command.{append}
 use Rattle.vortex_table_request.specs.Kinds.{type_in}
 use Rattle.vortex_table_request.specs.Line.{layouts_in, rows_in, command_in}
 use Rattle.vortex_table_request.specs.Parsed.{data_of, keeps_whole}

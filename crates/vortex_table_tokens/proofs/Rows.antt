@@ -45,7 +45,7 @@ FieldsLeft depth start all front old left =
 pub all_fields_left : (depth : ℕ) (start : List Token) (all : Fields) → FieldsLeft depth start all [] start all
 all_fields_left depth start all ds rs new begins whole reads = (ds, begins, whole, reads)
 
-field_read : (depth : ℕ) (start old mid : List Token) (all left : Fields) (front : List Raw) (x : List ℕ) (k : LogicalType) (r : Raw)
+pub field_read : (depth : ℕ) (start old mid : List Token) (all left : Fields) (front : List Raw) (x : List ℕ) (k : LogicalType) (r : Raw)
     → FieldsLeft depth start all front old (field x k left) → HasValue depth old (λ d. reading k d ≡ Some r) mid → FieldsLeft depth start all (front ++ r ∷ []) mid left
 field_read depth start old mid all left front x k r h v ds rs new begins whole reads =
     let wholes : items_keep_whole (item v.0 ds) ≡ true = ap (λ (b : Bool). if b then items_keep_whole ds else false) v.2 ∙ whole in
@@ -86,7 +86,7 @@ ElementsLeft depth start k front old =
 pub all_elements_left : (depth : ℕ) (start : List Token) (k : LogicalType) → ElementsLeft depth start k [] start
 all_elements_left depth start k ds rs new begins whole reads = (ds, begins, whole, reads)
 
-element_read : (depth : ℕ) (start old mid : List Token) (k : LogicalType) (front : List Raw) (r : Raw) → ElementsLeft depth start k front old
+pub element_read : (depth : ℕ) (start old mid : List Token) (k : LogicalType) (front : List Raw) (r : Raw) → ElementsLeft depth start k front old
     → HasValue depth old (λ d. reading k d ≡ Some r) mid → ElementsLeft depth start k (front ++ r ∷ []) mid
 element_read depth start old mid k front r h v ds rs new begins whole reads =
     let wholes : items_keep_whole (item v.0 ds) ≡ true = ap (λ (b : Bool). if b then items_keep_whole ds else false) v.2 ∙ whole in

@@ -1,2 +1,5 @@
 pub mod Begins
+pub mod Scans
+pub mod Types
+pub mod Columns
 pub mod Values

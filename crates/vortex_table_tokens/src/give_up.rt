@@ -1,6 +1,7 @@
 //! Why a line isn't read from its tokens.
 use json::Invalid;
 use std::alloc::{AllocError, AllocFailed};
+use vortex_table_columns::DoesNotFit;
 use vortex_table_request::ParseError;
 
 /// The line is of another form, or memory ran out. It says nothing of what the line is.
@@ -27,6 +28,12 @@ impl From<ParseError> for GiveUp {
 
 impl From<Invalid> for GiveUp {
     fn from(_refused: Invalid) -> GiveUp {
+        GiveUp
+    }
+}
+
+impl From<DoesNotFit> for GiveUp {
+    fn from(_refused: DoesNotFit) -> GiveUp {
         GiveUp
     }
 }

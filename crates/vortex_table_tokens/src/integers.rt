@@ -1,11 +1,12 @@
 //! Integers from the texts of numbers.
 ghost use Rattle.std.specs.Prelude.{◌≡◌, ◌<◌, ◌==◌, true, false, Some, IfOk, IsTrue, length, slice_index};
-ghost use Rattle.serde_json.specs.Data.{unsigned};
+ghost use Rattle.std.specs.Str.Parse.{digits_value, IsNumeral};
+ghost use Rattle.fast_float.specs.Text.{scan};
 ghost use Rattle.serde_json.specs.Find.{of_integer};
 ghost use Rattle.serde_json.specs.Read.{number_of, number_from};
 
 use crate::give_up::GiveUp;
-use fast_float::Numeral;
+use fast_float::parse_u64;
 
 fn has_minus(bytes: &[u8]) -> bool
     ensures value { result ≡ (slice_index bytes.now 0 == 45) }
@@ -14,19 +15,42 @@ fn has_minus(bytes: &[u8]) -> bool
     !bytes.is_empty() && bytes[0] == b'-'
 }
 
-fn unsigned_of(numeral: &Numeral<'_>) -> Result<i128, GiveUp>
-    ensures { IfOk result (λ z. number_from false numeral.now ≡ Some (of_integer z)) }
+fn has_plus(bytes: &[u8]) -> bool
+    ensures { result ≡ (slice_index bytes.now 0 == 43) }
 {
-    let number = numeral.to_u64().ok_or(GiveUp)?;
+    !bytes.is_empty() && bytes[0] == b'+'
+}
+
+// The number that digits write, where it has 64 bits. Nothing else stands there.
+#[tactic(auto, using(crate::proofs::Digits::digits_alone))]
+fn read_digits(bytes: &[u8]) -> Result<u64, GiveUp>
+    ensures digits { IfOk result (λ n. IsNumeral 10 bytes.now) }
+    ensures value { IfOk result (λ n. digits_value 10 bytes.now ≡ n) }
+{
+    if has_plus(bytes) {
+        return Err(GiveUp);
+    }
+    match parse_u64(bytes) {
+        Ok(number) => Ok(number),
+        Err(_) => Err(GiveUp),
+    }
+}
+
+#[tactic(auto, using(crate::proofs::Digits::unsigned_read))]
+fn unsigned_of(bytes: &[u8]) -> Result<i128, GiveUp>
+    ensures { IfOk result (λ z. number_from false (scan bytes.now) ≡ Some (of_integer z)) }
+{
+    let number = read_digits(bytes)?;
     Ok(i128::from(number))
 }
 
-fn negative_of(numeral: &Numeral<'_>) -> Result<i128, GiveUp>
-    ensures { IfOk result (λ z. number_from true numeral.now ≡ Some (of_integer z)) }
+#[tactic(auto, using(crate::proofs::Digits::negative_read))]
+fn negative_of(bytes: &[u8]) -> Result<i128, GiveUp>
+    ensures { IfOk result (λ z. number_from true (scan bytes.now) ≡ Some (of_integer z)) }
 {
-    let number = numeral.to_i64(true).ok_or(GiveUp)?;
-    if number < 0 {
-        Ok(i128::from(number))
+    let number = read_digits(bytes)?;
+    if number > 0 && number <= 1 << 63 {
+        Ok(-i128::from(number))
     } else {
         Err(GiveUp)
     }
@@ -38,8 +62,8 @@ pub(crate) fn read_integer(text: &str) -> Result<i128, GiveUp>
 {
     let bytes = text.as_bytes();
     if has_minus(bytes) {
-        negative_of(&Numeral::scan(&bytes[1..]))
+        negative_of(&bytes[1..])
     } else {
-        unsigned_of(&Numeral::scan(bytes))
+        unsigned_of(bytes)
     }
 }

@@ -1,12 +1,18 @@
-//! Lines of appends as commands, read token by token into rows.
+//! Lines of appends and scans as commands, read token by token, the rows of an append into columns
+//! where they can be.
 #![tactic(auto)]
 
+mod columns;
 mod give_up;
 mod integers;
 mod leaves;
 mod line;
+mod paths;
+mod predicates;
+mod scan;
 mod tokens;
 mod tree;
+mod types;
 mod values;
 
 pub use line::read_command;

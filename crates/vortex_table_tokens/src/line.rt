@@ -9,9 +9,12 @@ ghost use Rattle.vortex_table_request.specs.Line.{command_in, command_of};
 ghost use Rattle.vortex_table_request.specs.Parsed.{Gives, data_of};
 ghost use Rattle.vortex_table_request.specs.Rows.{rows_at};
 ghost use Rattle.vortex_table_request.specs.View.{shown, HasHintsOf};
-ghost use Rattle.vortex_table_tokens.specs.Values.{HasValue, HasMember, IsWholeText, IsCommandOf};
+ghost use Rattle.vortex_table_tokens.specs.Columns.{AreColumnsOf};
+ghost use Rattle.vortex_table_tokens.specs.Values.{HasValue, HasMember, IsRestOf, IsWholeText, IsCommandOf};
 
+use crate::columns::{columns_of, take_array};
 use crate::give_up::GiveUp;
+use crate::scan::take_scan;
 use crate::tokens::{next_token, take_key, take_object, take_object_end, take_text};
 use crate::tree::read_tree;
 use crate::values::take_elements;
@@ -19,10 +22,14 @@ use json::{Reader, Scratch, Token};
 use std::alloc::Global;
 use vortex_dtype_core::dtype::DType;
 use vortex_scalar_value::scalar_value::ScalarValue;
+use vortex_table_columns::column::ColumnBuilder;
 use vortex_table_request::{Command, ParseError, is_whole, read_dtype};
 
 /// How an append's line begins, where it is read here.
-const HEAD: &[u8] = b"{\"cmd\":\"append\",";
+const APPEND: &[u8] = b"{\"cmd\":\"append\",";
+
+/// How a scan's line begins, where it is read here.
+const SCAN: &[u8] = b"{\"cmd\":\"scan\",";
 
 /// How deep a line may nest.
 const MAX_DEPTH: usize = 127;
@@ -70,13 +77,26 @@ fn take_rows(
     Ok(rows)
 }
 
-/// An append without hints whose keys are in order.
-fn take_append(alloc: Global, reader: &mut Reader<'_>) -> Result<Command, GiveUp>
-    ensures { IfOk result (λ command. HasValue 127 reader.old
-        (λ d. (command_in d ≡ Some (shown command)) × HasHintsOf d command) reader.new) }
+// The append of this type, from its rows on, by columns.
+fn take_columns(
+    alloc: Global,
+    reader: &mut Reader<'_>,
+    dtype: &DType,
+    columns: Vec<ColumnBuilder>,
+) -> Result<Command, GiveUp>
+    requires { AreColumnsOf (type_of dtype.now) 0 columns.items }
+    ensures { IfOk result (λ command.
+        IsRestOf reader.old (type_of dtype.now) command reader.new) }
 {
-    take_head(reader)?;
-    let dtype = take_dtype(alloc, reader)?;
+    let array = take_array(alloc, reader, dtype, columns)?;
+    take_object_end(reader)?;
+    Ok(Command::AppendArray { array })
+}
+
+// The same by rows.
+fn take_values(alloc: Global, reader: &mut Reader<'_>, dtype: DType) -> Result<Command, GiveUp>
+    ensures { IfOk result (λ command. IsRestOf reader.old (type_of dtype) command reader.new) }
+{
     let values = take_rows(alloc, reader, &dtype)?;
     take_object_end(reader)?;
     Ok(Command::Append {
@@ -86,44 +106,99 @@ fn take_append(alloc: Global, reader: &mut Reader<'_>) -> Result<Command, GiveUp
     })
 }
 
-/// The append that a text is, where nothing stands behind it.
-fn read_text(alloc: Global, text: &str, scratch: &mut Scratch) -> Result<Command, GiveUp>
+// The append of this type, from its rows on.
+fn take_rest(alloc: Global, reader: &mut Reader<'_>, dtype: DType) -> Result<Command, GiveUp>
+    ensures { IfOk result (λ command. IsRestOf reader.old (type_of dtype) command reader.new) }
+{
+    match columns_of(alloc, &dtype) {
+        Ok(columns) => take_columns(alloc, reader, &dtype, columns),
+        Err(_) => take_values(alloc, reader, dtype),
+    }
+}
+
+/// An append without hints whose keys are in order.
+fn take_append(alloc: Global, reader: &mut Reader<'_>) -> Result<Command, GiveUp>
+    ensures { IfOk result (λ command. HasValue 127 reader.old
+        (λ d. (command_in d ≡ Some (shown command)) × HasHintsOf d command) reader.new) }
+{
+    take_head(reader)?;
+    let dtype = take_dtype(alloc, reader)?;
+    take_rest(alloc, reader, dtype)
+}
+
+/// Which command is read here.
+#[derive(Clone, Copy, Debug, PartialEq, Eq)]
+enum Verb {
+    Append,
+    Scan,
+}
+
+/// The verb, by how the line begins.
+fn verb_of(line: &[u8]) -> Option<Verb> {
+    if line.starts_with(APPEND) {
+        return Some(Verb::Append);
+    }
+    if line.starts_with(SCAN) {
+        return Some(Verb::Scan);
+    }
+    None
+}
+
+/// The command of this verb.
+fn take_command(alloc: Global, reader: &mut Reader<'_>, verb: Verb) -> Result<Command, GiveUp>
+    ensures { IfOk result (λ command. HasValue 127 reader.old
+        (λ d. (command_in d ≡ Some (shown command)) × HasHintsOf d command) reader.new) }
+{
+    match verb {
+        Verb::Append => take_append(alloc, reader),
+        Verb::Scan => take_scan(alloc, reader),
+    }
+}
+
+/// The command that a text is, where nothing stands behind it.
+fn read_text(
+    alloc: Global,
+    text: &str,
+    scratch: &mut Scratch,
+    verb: Verb,
+) -> Result<Command, GiveUp>
     ensures { IfOk result (IsWholeText text.now) }
 {
     let mut reader = Reader::new(text, scratch)?;
-    let command = take_append(alloc, &mut reader)?;
+    let command = take_command(alloc, &mut reader, verb)?;
     match reader.next() {
         None => Ok(command),
         Some(_) => Err(GiveUp),
     }
 }
 
-/// The append that a line is.
-fn read_append(alloc: Global, line: &[u8]) -> Result<Command, GiveUp>
+/// The command that a line is, from its tokens.
+fn read_tokens(alloc: Global, line: &[u8], scratch: &mut Scratch) -> Result<Command, GiveUp>
     ensures { IfOk result (IsCommandOf line.now) }
 {
-    if !line.starts_with(HEAD) {
-        return Err(GiveUp);
-    }
+    let verb = verb_of(line).ok_or(GiveUp)?;
     match simdutf8::basic::from_utf8(line) {
-        Ok(text) => {
-            let mut scratch = Scratch::new(alloc);
-            read_text(alloc, text, &mut scratch)
-        }
+        Ok(text) => read_text(alloc, text, scratch, verb),
         Err(_) => Err(GiveUp),
     }
 }
 
 /// The command that a line is. An append without hints, whose keys come in the order `cmd`,
-/// `dtype`, `rows`, is read token by token, with no JSON value between. What isn't read so is read
-/// by `vortex_table_request`, which alone refuses.
-pub fn read_command(alloc: Global, line: &[u8]) -> Result<Command, ParseError>
+/// `dtype`, `rows`, and a scan with `cmd`, `paths`, `where` are read token by token, with no JSON
+/// value between: the rows of an append into columns where each field is a truth value, an integer
+/// or a text, and else into rows. What isn't read so is read by `vortex_table_request`, which alone
+/// refuses. The scratch is room for tokens, kept from line to line.
+pub fn read_command(
+    alloc: Global,
+    line: &[u8],
+    scratch: &mut Scratch,
+) -> Result<Command, ParseError>
     ensures command { Gives shown result (command_of line.now) }
     // An append's hints are those of the line.
     ensures hints { IfOk result (λ command.
         IfSome (data_of line.now) (λ object. HasHintsOf object command)) }
 {
-    match read_append(alloc, line) {
+    match read_tokens(alloc, line, scratch) {
         Ok(command) => Ok(command),
         Err(_) => vortex_table_request::read_command(alloc, line),
     }

@@ -1,8 +1,8 @@
 //! One token at a time.
 ghost use Rattle.std.specs.Prelude.{◌≡◌, ◌∷◌, Some, None, IfOk, OnOk};
-ghost use Rattle.json.specs.Json.{read_key};
+ghost use Rattle.json.specs.Json.{after_end_array, read_key};
 ghost use Rattle.json.specs.Reads.{token_of};
-ghost use Rattle.json.specs.Token.{begin_object, string};
+ghost use Rattle.json.specs.Token.{begin_array, begin_object, string};
 
 use crate::give_up::GiveUp;
 use json::{Reader, Token};
@@ -49,5 +49,25 @@ pub(crate) fn take_object_end(reader: &mut Reader<'_>) -> Result<(), GiveUp>
     match reader.next_key() {
         Ok(None) => Ok(()),
         _ => Err(GiveUp),
+    }
+}
+
+pub(crate) fn take_array(reader: &mut Reader<'_>) -> Result<(), GiveUp>
+    ensures { OnOk result (reader.old ≡ begin_array ∷ reader.new) }
+{
+    let token = next_token(reader)?;
+    match token {
+        Token::BeginArray => Ok(()),
+        _ => Err(GiveUp),
+    }
+}
+
+pub(crate) fn take_array_end(reader: &mut Reader<'_>) -> Result<(), GiveUp>
+    ensures { OnOk result (after_end_array reader.old ≡ Some reader.new) }
+{
+    if reader.take_end_array() {
+        Ok(())
+    } else {
+        Err(GiveUp)
     }
 }

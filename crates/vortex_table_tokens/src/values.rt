@@ -17,7 +17,7 @@ use vortex_scalar_value::scalar_value::ScalarValue;
 
 /// The value of a type that the tokens begin with, nested no deeper than this.
 #[cycle(value)]
-fn take_value(
+pub(crate) fn take_value(
     alloc: Global,
     reader: &mut Reader<'_>,
     depth: usize,

@@ -5,7 +5,7 @@ use Rattle.std.proofs.Math.Seq.{take-length}
 use Rattle.std.proofs.lemmas.List.{length-map, length-take, map-append, take-map, drop-map}
 use Rattle.std.proofs.lemmas.List.Folds.{list_all-append}
 use Rattle.vortex_model.specs.Content.{Content}
-use Rattle.vortex_model.proofs.ContentOrder.{true_left, true_right}
+use Rattle.vortex_model_table.proofs.ContentOrder.{true_left, true_right}
 use Rattle.vortex_table_zonemaps.specs.Column.{AreNumbers, number_in, is_number, is_plain}
 
 module _ {X : Type 0} (f : Content → X) where

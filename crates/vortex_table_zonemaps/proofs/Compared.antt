@@ -3,9 +3,9 @@ use Rattle.std.proofs.Common.{◌≡◌, refl, sym, ap, ◌∙◌, Bool, true, f
 use Rattle.std.specs.List.{list_all, zip}
 use Rattle.std.specs.Ordering.{int_cmp}
 use Rattle.vortex_model.specs.Content.{Content, null, boolean, integer, text, byte_string, tuple, tagged, scalar}
-use Rattle.vortex_model.specs.Expression.{Comparison}
-use Rattle.vortex_model.specs.Truth.{test_of, compared, is_true}
-use Rattle.vortex_model.proofs.ContentOrder.{true_left, true_right}
+use Rattle.vortex_model_table.specs.Expression.{Comparison}
+use Rattle.vortex_model_table.specs.Truth.{test_of, compared, is_true}
+use Rattle.vortex_model_table.proofs.ContentOrder.{true_left, true_right}
 use Rattle.vortex_table_zonemaps.specs.Column.{AreNumbers, number_in, is_number, is_plain}
 
 module _ (op : Comparison) where

@@ -5,7 +5,7 @@ use Rattle.std.specs.Borrow.{Bor}
 use Rattle.std.proofs.lemmas.Bool.{cases_eq}
 use Rattle.std.proofs.lemmas.List.{length-map, length-take, length-drop, map-append, take-map, drop-map, get_or_default, get_or-set_same, get_or-set_other, length-set}
 use Rattle.vortex_model.specs.Content.{Content}
-use Rattle.vortex_model.specs.Expression.{Aggregate}
+use Rattle.vortex_model_table.specs.Expression.{Aggregate}
 use Rattle.vortex_table_chunk.specs.BoundStat.{stat_value_or_null}
 use Rattle.vortex_table_chunk.specs.declared.zones.bounds.ColumnBounds.{ColumnBounds}
 use Rattle.vortex_table_zonemaps.specs.Column.{IsColumnOf, IsEntryOf, AreNumbers}

@@ -1,7 +1,7 @@
 -- Zones of rows, and what is held of them by leaf.
 use Rattle.std.specs.Prelude.{◌≡◌, ◌<◌, ℕ, pos, List, length, map, slice_get, slice_index_or}
 use Rattle.vortex_model.specs.Content.{Content, integer}
-use Rattle.vortex_model.specs.Expression.{Aggregate, min, max, null_count}
+use Rattle.vortex_model_table.specs.Expression.{Aggregate, min, max, null_count}
 use Rattle.vortex_arrays_model.specs.Layout.{len_of}
 use Rattle.vortex_table_chunk.specs.BoundStat.{stat_value_or_null}
 use Rattle.vortex_table_chunk.specs.declared.chunk.Chunk.{Chunk}

@@ -2,7 +2,7 @@
 ghost use Rattle.std.specs.Prelude.{◌≡◌, List, map, IfOk, IfSome};
 ghost use Rattle.std.specs.Ordering.{int_cmp};
 ghost use Rattle.vortex_model.specs.Content.{Content, integer};
-ghost use Rattle.vortex_model.specs.Truth.{compared, is_true, test_of};
+ghost use Rattle.vortex_model_table.specs.Truth.{compared, is_true, test_of};
 ghost use Rattle.vortex_stats_expr.specs.Tree.{comparison_of};
 ghost use Rattle.vortex_table_zonemaps.specs.Column.{AreNumbers};
 ghost use Rattle.vortex_table_zonemaps.specs.Side.{IsSideOf};

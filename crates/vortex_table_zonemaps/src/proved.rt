@@ -74,7 +74,7 @@ fn hold_all(
 
 impl Stretch<'_> {
     ghost use Rattle.std.specs.Prelude.{◌≡◌, map, IfOk, IfSome};
-    ghost use Rattle.vortex_model.specs.Truth.{compared, is_true};
+    ghost use Rattle.vortex_model_table.specs.Truth.{compared, is_true};
     ghost use Rattle.vortex_stats_expr.specs.Tree.{comparison_of};
     ghost use Rattle.vortex_stats_stat.specs.Aggregate.{aggregate_of};
     ghost use Rattle.vortex_table_zonemaps.specs.Column.{AreNumbers};

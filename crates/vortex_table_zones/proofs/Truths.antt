@@ -4,7 +4,7 @@ use Rattle.std.specs.declared.boxed.Box.{Box}
 use Rattle.std.specs.declared.alloc.Global.{Global}
 use Rattle.vortex_model.specs.Content.{Content, boolean}
 use Rattle.vortex_model.specs.Path.{Positions}
-use Rattle.vortex_model.specs.Truth.{kleene_and, kleene_or, is_true}
+use Rattle.vortex_model_table.specs.Truth.{kleene_and, kleene_or, is_true}
 use Rattle.vortex_table_chunk.specs.declared.zones.bounds.ColumnBounds.{ColumnBounds}
 use Rattle.vortex_table_zones.specs.Zone.{proof_truth}
 use Rattle.vortex_table_zones.specs.declared.proof.ZoneProof as proof

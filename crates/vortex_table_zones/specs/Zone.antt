@@ -2,7 +2,7 @@
 use Rattle.std.specs.Prelude.{◌≡◌, ℕ, pos, List, Option, Some, None, Bool, false, ◌&&◌, ◌||◌, slice_get}
 use Rattle.vortex_model.specs.Content.{Content, null, integer}
 use Rattle.vortex_model.specs.Path.{Positions}
-use Rattle.vortex_model.specs.Truth.{compared, is_true}
+use Rattle.vortex_model_table.specs.Truth.{compared, is_true}
 use Rattle.vortex_scalar_value.specs.View.{content_at}
 use Rattle.vortex_stats_bind.specs.Bound.{Bound, Provided, evaluate_bound}
 use Rattle.vortex_stats_expr.specs.Tree.{comparison_of}

@@ -1,12 +1,12 @@
 //! The statistics of a zone of rows as answers to placeholders.
 ghost use Rattle.std.specs.Prelude.{◌≡◌};
-ghost use Rattle.vortex_model.specs.Statistics.{shown};
+ghost use Rattle.vortex_model_table.specs.Statistics.{shown};
 ghost use Rattle.vortex_stats_bind.specs.OperandValue.{operand_value};
 ghost use Rattle.vortex_stats_stat.specs.Aggregate.{aggregate_of};
 ghost use Rattle.vortex_table_chunk.specs.zones.Bounds.{bound_in};
 ghost use Rattle.vortex_table_chunk.specs.zones.StatValue.{stat_value};
 
-use vortex_stats_bind::bound::{BoundExpression, Operands};
+use vortex_stats_bind::bound::{BoundTree, Operands};
 use vortex_stats_bind::value::Value;
 use vortex_stats_stat::aggregate::AggregateFn;
 use vortex_table_chunk::chunk::bounds_at;
@@ -63,7 +63,7 @@ impl Operands for ZoneOperands<'_> {
         Value::Null
     }
 
-    fn statistic<'a>(&'a self, input: &BoundExpression, aggregate: AggregateFn) -> Value<'a> {
+    fn statistic<'a>(&'a self, input: &BoundTree, aggregate: AggregateFn) -> Value<'a> {
         let Some(path) = input.as_column() else {
             return Value::Null;
         };

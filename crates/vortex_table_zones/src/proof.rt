@@ -1,7 +1,7 @@
 //! Proofs whose placeholders are resolved once and evaluated zone by zone.
 ghost use Rattle.std.specs.Prelude.{◌≡◌, List, IfOk, IfSome};
 ghost use Rattle.vortex_model.specs.Content.{integer};
-ghost use Rattle.vortex_model.specs.Truth.{compared, is_true};
+ghost use Rattle.vortex_model_table.specs.Truth.{compared, is_true};
 ghost use Rattle.vortex_scalar_value.specs.Numbers.{integer_of};
 ghost use Rattle.vortex_stats_bind.specs.Bound.{placeholder};
 ghost use Rattle.vortex_stats_bind.specs.OperandValue.{operand_value};
@@ -15,7 +15,7 @@ use crate::operands::{ZoneOperands, statistic};
 use std::alloc::{AllocError, Global};
 use vortex_scalar_value::pvalue::PValue;
 use vortex_scalar_value::scalar_value::ScalarValue;
-use vortex_stats_bind::bound::{BoundExpression, BoundNode, value_of};
+use vortex_stats_bind::bound::{BoundNode, BoundTree, value_of};
 use vortex_stats_bind::value::{Value, compare_values, read};
 use vortex_stats_expr::operator::Comparison;
 use vortex_stats_stat::aggregate::AggregateFn;
@@ -31,7 +31,7 @@ pub enum Operand<'p> {
     /// The number of rows.
     RowCount,
     /// An expression of another form.
-    Other(&'p BoundExpression),
+    Other(&'p BoundTree),
 }
 
 /// A proof over the statistics of a table's leaf columns. It reads the statistics of a zone by the
@@ -42,7 +42,7 @@ pub enum ZoneProof<'p> {
     Or(Box<ZoneProof<'p>>, Box<ZoneProof<'p>>),
     Compare(Comparison, Operand<'p>, Operand<'p>),
     /// A proof of another form.
-    Other(&'p BoundExpression),
+    Other(&'p BoundTree),
 }
 
 // The index of the leaf at these positions.
@@ -60,7 +60,7 @@ fn index_of(leaves: &[LeafPath], path: &[usize]) -> Option<usize>
 
 fn statistic_operand<'p>(
     leaves: &[LeafPath],
-    input: &BoundExpression,
+    input: &BoundTree,
     aggregate: AggregateFn,
 ) -> Operand<'p>
     ensures { IsOperandOf leaves.now (placeholder input.now (aggregate_of aggregate)) result }
@@ -74,7 +74,7 @@ fn statistic_operand<'p>(
     }
 }
 
-fn operand_of<'p>(leaves: &[LeafPath], e: &'p BoundExpression) -> Operand<'p>
+fn operand_of<'p>(leaves: &[LeafPath], e: &'p BoundTree) -> Operand<'p>
     ensures { IsOperandOf leaves.now e.now result }
 {
     match &e.node {
@@ -97,7 +97,7 @@ fn operand_of<'p>(leaves: &[LeafPath], e: &'p BoundExpression) -> Operand<'p>
 fn proof_of<'p>(
     alloc: Global,
     leaves: &[LeafPath],
-    e: &'p BoundExpression,
+    e: &'p BoundTree,
 ) -> Result<ZoneProof<'p>, AllocError>
     ensures { IfOk result (λ proof. IsProofOf leaves.now e.now proof) }
 {
@@ -134,7 +134,7 @@ fn proof_of<'p>(
 pub fn resolve<'p>(
     alloc: Global,
     leaves: &[LeafPath],
-    proof: &'p Option<BoundExpression>,
+    proof: &'p Option<BoundTree>,
 ) -> Result<Option<ZoneProof<'p>>, AllocError>
     ensures { IfOk result (λ resolved. IsResolved leaves.now proof.now resolved) }
 {

@@ -109,6 +109,7 @@ fn texts(alloc: Global, checks: &mut Checks<'_>) -> Result<(), DTypeError> {
         parts.validity,
     )?;
     checks.holds("new of bytes", again.bytes_at(1) == long.as_slice());
+    checks.holds("buffer", *again.buffer(0) == Bytes::from_static(long));
     Ok(())
 }
 
@@ -147,6 +148,7 @@ fn constants(alloc: Global, checks: &mut Checks<'_>) -> Result<(), DTypeError> {
     let array = answered(ConstantArray::try_new(alloc, seven, 4))?;
     checks.holds("validity of a constant", !array.validity(alloc)?.is_null(3, 4));
     let _slots = array.slots();
+    checks.holds("scalar", *array.scalar() == Scalar::primitive(7u8, WITH));
     let parts = array.into_data_parts()?;
     checks.holds("into_data_parts of a constant", parts.len == 4 && !parts.scalar.is_null());
     let null = Scalar::null(DType::Bool(WITH));

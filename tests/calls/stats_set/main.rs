@@ -6,6 +6,7 @@ mod checks;
 mod combining;
 mod merges;
 mod pairs;
+mod providers;
 mod sets;
 mod stats;
 mod typed_sets;
@@ -36,6 +37,8 @@ fn run(alloc: Global, checks: &mut Checks<'_>) -> Done {
     checks.end_part("merges of sets");
     combining::run(alloc, checks)?;
     checks.end_part("combined sets");
+    providers::run(alloc, checks)?;
+    checks.end_part("statistics that are provided");
     Ok(())
 }
 

@@ -1,13 +1,20 @@
 //! Calls the table as a library: faults of types, predicates that no line says, records that nest
-//! deep, and paths that cut rows together.
+//! deep, paths that cut rows together, arrays that are appended and converted and how chunks lie,
+//! rules of the caller, and what is left of a table where memory is refused.
 #![tactic(auto)]
 
+mod arrays;
 mod checks;
+mod conversions;
 mod deep;
 mod faults;
 mod groups;
+mod layouts;
 mod leaves;
+mod long;
 mod make;
+mod make_arrays;
+mod memory;
 mod rules;
 mod scans;
 
@@ -39,7 +46,26 @@ fn run_all(alloc: Global, checks: &mut Checks<'_>) -> Result<(), TableError> {
     rules::rules_add_proofs(alloc, checks)?;
     checks.end_part("rules add proofs");
     rules::rules_may_be_at_fault(alloc, checks)?;
+    rules::proofs_may_be_at_fault(alloc, checks)?;
     checks.end_part("rules may be at fault");
+    arrays::lists_are_compacted(alloc, checks)?;
+    arrays::values_under_null_are_not_read(alloc, checks)?;
+    arrays::arrays_convert(alloc, checks)?;
+    checks.end_part("arrays are appended");
+    arrays::hints_are_taken(alloc, checks)?;
+    arrays::codes_are_narrow(alloc, checks)?;
+    checks.end_part("hints are taken");
+    arrays::dictionaries_are_described(alloc, checks)?;
+    arrays::constants_are_described(alloc, checks)?;
+    checks.end_part("columns are described");
+    memory::refused_commands_leave_tables(alloc, checks)?;
+    checks.end_part("refused commands leave tables");
+    long::long_texts_are_told_apart(alloc, checks)?;
+    checks.end_part("long texts are told apart");
+    conversions::nothing_stands_under_nulls(alloc, checks)?;
+    conversions::dictionaries_convert_by_rows(alloc, checks)?;
+    conversions::constants_convert_by_their_value(alloc, checks)?;
+    checks.end_part("columns are converted");
     Ok(())
 }
 

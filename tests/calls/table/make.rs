@@ -56,8 +56,15 @@ pub fn row(alloc: Global, a: i32, b: Option<u8>) -> Result<Option<ScalarValue>, 
 
 /// The column of this name.
 pub fn column(alloc: Global, name: &str) -> Result<Expression, AllocError> {
+    column_at(alloc, &[name])
+}
+
+/// The column at the path of these names.
+pub fn column_at(alloc: Global, path: &[&str]) -> Result<Expression, AllocError> {
     let mut names = Vec::new(alloc);
-    names.push(FieldName::new(alloc, name)?)?;
+    for name in path {
+        names.push(FieldName::new(alloc, name)?)?;
+    }
     Ok(col(FieldNames::new(names)))
 }
 

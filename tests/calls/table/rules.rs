@@ -1,33 +1,69 @@
 //! Scans by proofs that are made with rewrite rules of the caller.
 
 use crate::checks::Checks;
-use crate::make::{cell, integers, number, truth};
+use crate::make::{cell, column, constant, integers, number, truth};
 use std::alloc::{AllocError, Global};
 use vortex_dtype::{
-    DType, FieldName, FieldPath, Nullability, StructField, StructFields,
+    BufferString, DType, FieldName, FieldPath, Nullability, StructField, StructFields,
 };
 use vortex_scalar::ScalarValue;
 use vortex_stats::{
     Never, NotLiteral, ScalarFnId, StatsError, StatsRewriteRule, StatsRewriteRuleRef,
 };
-use vortex_table::expr::{Expression, not};
+use vortex_table::expr::{Expression, LikeOptions, eq, like, not};
 use vortex_table::table::{ScanAnswer, Table, TableError};
 
-/// A rule for NOT that answers an error, or a proof that is a number.
-#[derive(Drop)]
-struct Faulty {
-    error: Option<StatsError>,
+/// What a rule for NOT answers.
+#[derive(Clone, Copy, Drop)]
+enum Answer {
+    Error(StatsError),
+    /// A proof that is a number.
+    Number,
+    /// A column that stands in no placeholder.
+    Column,
+    /// A LIKE whose pattern has a backslash.
+    Backslash,
+    /// A proof that is never true.
+    False,
+    /// A proof that is null.
+    Null,
 }
 
-impl Faulty {
-    fn answer(&self) -> Result<Option<Expression>, StatsError> {
-        match self.error {
-            Some(error) => Err(error),
-            None => match number(7) {
+/// A rule for NOT that gives one answer, to `satisfy` alone or to both calls.
+#[derive(Drop)]
+struct Faulty {
+    answer: Answer,
+    to_satisfy_alone: bool,
+}
+
+impl Answer {
+    fn give(self, alloc: Global) -> Result<Option<Expression>, StatsError> {
+        let Answer::Error(error) = self else {
+            return match self.proof(alloc) {
                 Ok(proof) => Ok(Some(proof)),
                 Err(TableError::Memory) => Err(StatsError::Memory),
                 Err(_) => Err(StatsError::InvalidStat),
-            },
+            };
+        };
+        Err(error)
+    }
+
+    fn proof(self, alloc: Global) -> Result<Expression, TableError> {
+        let texts = DType::Utf8(Nullability::NonNullable);
+        match self {
+            Answer::Error(_) | Answer::Number => number(7),
+            Answer::Column => Ok(eq(alloc, column(alloc, "a")?, number(7)?)?),
+            Answer::Backslash => {
+                let text = BufferString::from_static("a\\%");
+                let text = constant(texts, Some(ScalarValue::Utf8(text)))?;
+                let options = LikeOptions {
+                    negated: false,
+                    case_insensitive: false,
+                };
+                Ok(like(alloc, text.clone()?, text, options)?)
+            }
+            Answer::False => truth(false),
+            Answer::Null => constant(DType::Bool(Nullability::Nullable), None),
         }
     }
 }
@@ -44,20 +80,23 @@ impl StatsRewriteRule for Faulty {
 
     fn falsify(
         &self,
-        _alloc: Global,
+        alloc: Global,
         _dtype: &DType,
         _expr: &Expression,
     ) -> Result<Option<Expression>, StatsError> {
-        self.answer()
+        if self.to_satisfy_alone {
+            return Ok(None);
+        }
+        self.answer.give(alloc)
     }
 
     fn satisfy(
         &self,
-        _alloc: Global,
+        alloc: Global,
         _dtype: &DType,
         _expr: &Expression,
     ) -> Result<Option<Expression>, StatsError> {
-        self.answer()
+        self.answer.give(alloc)
     }
 }
 
@@ -69,14 +108,19 @@ fn two_rules(alloc: Global) -> Result<Vec<StatsRewriteRuleRef>, AllocError> {
     Ok(rules)
 }
 
-/// A sound rule, and behind it the one at fault.
+/// A sound rule, and behind it one that gives this answer.
 fn faulty_rules(
     alloc: Global,
-    error: Option<StatsError>,
+    answer: Answer,
+    to_satisfy_alone: bool,
 ) -> Result<Vec<StatsRewriteRuleRef>, AllocError> {
+    let rule = Faulty {
+        answer,
+        to_satisfy_alone,
+    };
     let mut rules: Vec<StatsRewriteRuleRef> = Vec::new(alloc);
     rules.push(Box::new(alloc, NotLiteral)?)?;
-    rules.push(Box::new(alloc, Faulty { error })?)?;
+    rules.push(Box::new(alloc, rule)?)?;
     Ok(rules)
 }
 
@@ -162,12 +206,12 @@ fn error_with(
 /// first. The table stays.
 pub fn rules_may_be_at_fault(alloc: Global, checks: &mut Checks<'_>) -> Result<(), TableError> {
     let table = one_column(alloc, &[1, 2])?;
-    let errs = faulty_rules(alloc, Some(StatsError::NotEvaluable))?;
-    let counts = faulty_rules(alloc, None)?;
+    let errs = faulty_rules(alloc, Answer::Error(StatsError::NotEvaluable), false)?;
     let fault = error_with(alloc, &table, &errs)?;
     checks.holds("a rule that errs", fault == Some(TableError::RuleFault));
-    let fault = error_with(alloc, &table, &counts)?;
-    checks.holds("a proof that is a number", fault == Some(TableError::RuleFault));
+    let late = faulty_rules(alloc, Answer::Error(StatsError::NotEvaluable), true)?;
+    let fault = error_with(alloc, &table, &late)?;
+    checks.holds("a rule that errs to satisfy", fault == Some(TableError::RuleFault));
     let empty = one_column(alloc, &[])?;
     let fault = error_with(alloc, &empty, &errs)?;
     checks.holds("no rows", fault == Some(TableError::RuleFault));
@@ -186,5 +230,35 @@ pub fn rules_may_be_at_fault(alloc: Global, checks: &mut Checks<'_>) -> Result<(
     checks.holds("a path goes first", path == Some(TableError::UnknownPath(0)));
     let answer = scan_not(alloc, &table, false, &[])?;
     checks.holds("the table stays", answer.rows.len() == 2 && table.chunk_count() == 1);
+    Ok(())
+}
+
+/// A proof that can't be used refuses the scan, and one that is never true changes none of its
+/// rows.
+pub fn proofs_may_be_at_fault(alloc: Global, checks: &mut Checks<'_>) -> Result<(), TableError> {
+    let table = one_column(alloc, &[1, 2])?;
+    for (name, answer) in [
+        ("a proof that is a number", Answer::Number),
+        ("a proof with a bare column", Answer::Column),
+        ("a proof with a backslash", Answer::Backslash),
+    ] {
+        let rules = faulty_rules(alloc, answer, false)?;
+        let fault = error_with(alloc, &table, &rules)?;
+        checks.holds(name, fault == Some(TableError::RuleFault));
+    }
+    for answer in [Answer::False, Answer::Null] {
+        let mut rules: Vec<StatsRewriteRuleRef> = Vec::new(alloc);
+        let rule = Faulty {
+            answer,
+            to_satisfy_alone: false,
+        };
+        rules.push(Box::new(alloc, rule)?)?;
+        let found = scan_not(alloc, &table, false, &rules)?;
+        checks.holds("a proof that is never true: rows", found.rows.len() == 2);
+        checks.holds(
+            "a proof that is never true: counts",
+            found.rows_tested == 2 && found.proofs == 2 && found.whole.is_empty(),
+        );
+    }
     Ok(())
 }

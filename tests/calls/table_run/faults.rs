@@ -16,7 +16,8 @@ pub fn each_read_may_fail(alloc: Global, checks: &mut Checks<'_>) -> Result<(), 
         let mut reader = MemorySource::new(&input, 7, good);
         let mut writer = MemorySink::new(Vec::new(alloc), ALWAYS, ALWAYS);
         let result = run(alloc, &mut reader, &mut writer);
-        let enough = good > input.len() / 7 + 1;
+        // Those that bring bytes, and one more that finds the end.
+        let enough = good > (input.len() + 6) / 7;
         let told = if enough {
             result.is_ok()
         } else {

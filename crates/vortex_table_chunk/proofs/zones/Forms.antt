@@ -4,14 +4,14 @@ use Rattle.std.specs.List.{AllByRecursion, list_any}
 use Rattle.vortex_model.specs.LogicalType.{LogicalType, boolean_type, integer_type, utf8, binary}
 use Rattle.vortex_model.specs.Content.{Content, boolean, integer, text, byte_string}
 use Rattle.vortex_model.specs.Valid.{IsContent}
-use Rattle.vortex_model.specs.Bounds.{low, high, is_longer, raise, text_within, count_up}
+use Rattle.vortex_model_table.specs.Bounds.{low, high, is_longer, raise, text_within, count_up}
 use Rattle.vortex_model.specs.Kept.{is_leaf}
-use Rattle.vortex_model.specs.Statistics.{Precision, exact, inexact, absent, non_null, is_at_most, least_value, greatest_value}
-use Rattle.vortex_model.specs.ZoneMap.{bound_of, value_in, is_absent, is_exactly, zone_of, group_low, group_high}
-use Rattle.vortex_model.proofs.Honesty.{Among, all_among}
-use Rattle.vortex_model.proofs.JoinOrder.{Compare}
-use Rattle.vortex_model.proofs.LeafOrder.{IsOfForm, forms_of}
-use Rattle.vortex_model.proofs.Leasts.{is_at_least, picked_end}
+use Rattle.vortex_model_table.specs.Statistics.{Precision, exact, inexact, absent, non_null, is_at_most, least_value, greatest_value}
+use Rattle.vortex_model_table.specs.ZoneMap.{bound_of, value_in, is_absent, is_exactly, zone_of, group_low, group_high}
+use Rattle.vortex_model_laws.proofs.Honesty.{Among, all_among}
+use Rattle.vortex_model_laws.proofs.JoinOrder.{Compare}
+use Rattle.vortex_model_laws.proofs.LeafOrder.{IsOfForm, forms_of}
+use Rattle.vortex_model_laws.proofs.Leasts.{is_at_least, picked_end}
 use Rattle.vortex_table_chunk.specs.zones.Join.{BothCompare}
 
 -- ---- values of one form

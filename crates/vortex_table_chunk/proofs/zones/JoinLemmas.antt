@@ -4,13 +4,13 @@ use Rattle.std.specs.Prelude.{sum}
 use Rattle.std.specs.List.{list_any}
 use Rattle.vortex_model.specs.LogicalType.{IntKind}
 use Rattle.vortex_model.specs.Content.{Content, equal_content}
-use Rattle.vortex_model.specs.Statistics.{Precision, exact, inexact, absent, is_at_most, least_value, greatest_value}
-use Rattle.vortex_model.specs.ZoneMap.{bound_of, is_exactly, bound_among, sum_in, joined_total, joined_constant}
-use Rattle.vortex_model.specs.ZoneLaws.{AllCompare}
-use Rattle.vortex_model.proofs.Equality.{content_so, content_passes}
-use Rattle.vortex_model.proofs.JoinOrder.{fewer_compare, at_most_total}
-use Rattle.vortex_model.proofs.LeafOrder.{least_in_front, greatest_in_front}
-use Rattle.vortex_model.proofs.Leasts.{at_most_both}
+use Rattle.vortex_model_table.specs.Statistics.{Precision, exact, inexact, absent, is_at_most, least_value, greatest_value}
+use Rattle.vortex_model_table.specs.ZoneMap.{bound_of, is_exactly, bound_among, sum_in, joined_total, joined_constant}
+use Rattle.vortex_model_table.specs.ZoneLaws.{AllCompare}
+use Rattle.vortex_model_table.proofs.Equality.{content_so, content_passes}
+use Rattle.vortex_model_laws.proofs.JoinOrder.{fewer_compare, at_most_total}
+use Rattle.vortex_model_laws.proofs.LeafOrder.{least_in_front, greatest_in_front}
+use Rattle.vortex_model_laws.proofs.Leasts.{at_most_both}
 use Rattle.vortex_table_chunk.specs.declared.zones.bounds.Bound.{Bound}
 use Rattle.vortex_table_chunk.specs.declared.zones.bounds.ColumnBounds.{ColumnBounds}
 use Rattle.vortex_table_chunk.specs.zones.Bounds.{bound_content, bound_in}

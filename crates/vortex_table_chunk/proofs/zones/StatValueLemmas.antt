@@ -3,10 +3,10 @@ use Rattle.std.proofs.Common.{◌≡◌, sym, ◌∙◌, ap, ℕ, pos, List, ◌
 use Rattle.vortex_model.specs.LogicalType.{LogicalType}
 use Rattle.vortex_model.specs.Content.{Content, boolean, integer}
 use Rattle.vortex_model.specs.Path.{Names}
-use Rattle.vortex_model.specs.Expression.{column, Aggregate, min, max, null_count, all_null, all_non_null}
-use Rattle.vortex_model.specs.Statistics.{shown}
-use Rattle.vortex_model.specs.ZoneMap.{ZoneMap, zone_of}
-use Rattle.vortex_model.specs.Scan.{known, told}
+use Rattle.vortex_model_table.specs.Expression.{column, Aggregate, min, max, null_count, all_null, all_non_null}
+use Rattle.vortex_model_table.specs.Statistics.{shown}
+use Rattle.vortex_model_table.specs.ZoneMap.{ZoneMap, zone_of}
+use Rattle.vortex_model_table.specs.Scan.{known, told}
 use Rattle.vortex_table_chunk.specs.declared.zones.bounds.ColumnBounds.{ColumnBounds}
 use Rattle.vortex_table_chunk.specs.zones.Bounds.{bound_in, IsBoundsOf}
 use Rattle.vortex_table_chunk.specs.zones.StatValue.{stat_value}

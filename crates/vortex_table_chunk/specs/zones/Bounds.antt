@@ -1,8 +1,8 @@
 -- What is kept of the values of a leaf.
 use Rattle.std.specs.Prelude.{◌≡◌, ℕ, List, Option, Some, None}
 use Rattle.vortex_model.specs.Content.{Content, content_of}
-use Rattle.vortex_model.specs.Statistics.{Precision, exact, absent, null_count_of, sum_of, is_constant}
-use Rattle.vortex_model.specs.ZoneMap.{bound_of, low_of_values, high_of_values, sum_in}
+use Rattle.vortex_model_table.specs.Statistics.{Precision, exact, absent, null_count_of, sum_of, is_constant}
+use Rattle.vortex_model_table.specs.ZoneMap.{bound_of, low_of_values, high_of_values, sum_in}
 use Rattle.vortex_scalar_value.specs.View.{raw_of}
 use Rattle.vortex_table_chunk.specs.declared.zones.bounds.Bound.{Bound}
 use Rattle.vortex_table_chunk.specs.declared.zones.bounds.ColumnBounds.{ColumnBounds}

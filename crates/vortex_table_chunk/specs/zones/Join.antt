@@ -2,10 +2,10 @@
 use Rattle.std.specs.Prelude.{◌≡◌, ℕ, ◌+◌, List, [], ◌∷◌, filter_map, ◌<◌, ◌^◌}
 use Rattle.vortex_model.specs.LogicalType.{LogicalType}
 use Rattle.vortex_model.specs.Content.{Content}
-use Rattle.vortex_model.specs.Statistics.{Precision}
-use Rattle.vortex_model.specs.Typing.{sum_kind}
-use Rattle.vortex_model.specs.ZoneMap.{ZoneMap, value_in, joined}
-use Rattle.vortex_model.specs.ZoneLaws.{AllCompare}
+use Rattle.vortex_model_table.specs.Statistics.{Precision}
+use Rattle.vortex_model_table.specs.Typing.{sum_kind}
+use Rattle.vortex_model_table.specs.ZoneMap.{ZoneMap, value_in, joined}
+use Rattle.vortex_model_table.specs.ZoneLaws.{AllCompare}
 use Rattle.vortex_table_chunk.specs.declared.zones.bounds.ColumnBounds.{ColumnBounds}
 use Rattle.vortex_table_chunk.specs.zones.Bounds.{bound_in}
 use Rattle.vortex_table_chunk.specs.zones.Constancy.{known_constancy}

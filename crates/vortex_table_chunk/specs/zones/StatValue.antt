@@ -1,8 +1,8 @@
 -- What bounds say.
 use Rattle.std.specs.Prelude.{ℕ, pos, ◌==◌}
 use Rattle.vortex_model.specs.Content.{Content, null, boolean, integer}
-use Rattle.vortex_model.specs.Expression.{Aggregate, min, max, null_count, all_null, all_non_null}
-use Rattle.vortex_model.specs.Statistics.{shown}
+use Rattle.vortex_model_table.specs.Expression.{Aggregate, min, max, null_count, all_null, all_non_null}
+use Rattle.vortex_model_table.specs.Statistics.{shown}
 use Rattle.vortex_table_chunk.specs.declared.zones.bounds.ColumnBounds.{ColumnBounds}
 use Rattle.vortex_table_chunk.specs.zones.Bounds.{bound_in}
 

@@ -1,8 +1,8 @@
 //! The statistics of a leaf column that a chunk keeps.
 ghost use Rattle.std.specs.Prelude.{◌≡◌, ℕ, List};
 ghost use Rattle.vortex_model.specs.Content.{Content};
-ghost use Rattle.vortex_model.specs.Typing.{sum_kind};
-ghost use Rattle.vortex_model.specs.ZoneMap.{zone_of};
+ghost use Rattle.vortex_model_table.specs.Typing.{sum_kind};
+ghost use Rattle.vortex_model_table.specs.ZoneMap.{zone_of};
 ghost use Rattle.vortex_dtype_core.specs.View.{type_of};
 ghost use Rattle.vortex_stats_array.specs.Zones.{zone_in, bound_content as known_bound};
 ghost use Rattle.vortex_table_chunk.specs.zones.Bounds.{bound_in, IsBoundsOf};

@@ -1,9 +1,9 @@
 //! Statistics of a leaf column whose rows are converted.
 ghost use Rattle.std.specs.Prelude.{◌≡◌, ℕ, List, IfOk, IfSome, IsTrue};
 ghost use Rattle.vortex_model.specs.Content.{Content, content_of};
-ghost use Rattle.vortex_model.specs.Statistics.{sum_of};
-ghost use Rattle.vortex_model.specs.Typing.{sum_kind};
-ghost use Rattle.vortex_model.specs.ZoneMap.{sum_in};
+ghost use Rattle.vortex_model_table.specs.Statistics.{sum_of};
+ghost use Rattle.vortex_model_table.specs.Typing.{sum_kind};
+ghost use Rattle.vortex_model_table.specs.ZoneMap.{sum_in};
 ghost use Rattle.vortex_dtype_core.specs.View.{type_of};
 ghost use Rattle.vortex_scalar_value.specs.Numbers.{integer_of, raw_of_number};
 ghost use Rattle.vortex_scalar_value.specs.View.{raw_of};

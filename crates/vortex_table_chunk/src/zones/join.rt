@@ -1,7 +1,7 @@
 //! The statistics of two neighbouring groups of rows of a column as those of one.
 ghost use Rattle.std.specs.Prelude.{◌≡◌, ◌<◌, ◌+◌, ◌+ℤ◌, ◌^◌, ◌∷◌, [], true, IfOk, if◌then◌else◌, not, ◌&&◌, ◌||◌};
-ghost use Rattle.vortex_model.specs.Statistics.{exact, least_value, greatest_value};
-ghost use Rattle.vortex_model.specs.ZoneMap.{bound_among, sum_in, joined_total, joined_constant};
+ghost use Rattle.vortex_model_table.specs.Statistics.{exact, least_value, greatest_value};
+ghost use Rattle.vortex_model_table.specs.ZoneMap.{bound_among, sum_in, joined_total, joined_constant};
 ghost use Rattle.vortex_dtype_ptype.specs.Numbers.{int_kind_in};
 ghost use Rattle.vortex_dtype_ptype.specs.View.{number_kind_of};
 ghost use Rattle.vortex_scalar_value.specs.Numbers.{integer_of};

@@ -1,7 +1,7 @@
 //! The order of the values of a leaf column.
 ghost use Rattle.std.specs.Prelude.{◌≡◌};
 ghost use Rattle.vortex_model.specs.Content.{content_of};
-ghost use Rattle.vortex_model.specs.Statistics.{is_at_most};
+ghost use Rattle.vortex_model_table.specs.Statistics.{is_at_most};
 ghost use Rattle.vortex_scalar_value.specs.View.{raw_of};
 
 use vortex_scalar_ops::compare::compare_values;

@@ -1,13 +1,8 @@
 -- Texts in quotes, and those of which nothing is escaped.
-use Rattle.std.proofs.Common.{◌≡◌, ℕ, zero, suc, ◌+◌, ◌<◌, Bool, true, false, List, [], ◌∷◌, ◌++◌, length, All, IsTrue, sym, ap, ◌∙◌, refl, append-nil, append_assoc, arith, rules, tests}
+use Rattle.std.proofs.Common.{◌≡◌, ℕ, zero, suc, ◌+◌, ◌<◌, Bool, true, false, List, [], ◌∷◌, ◌++◌, length, All, IsTrue, sym, ap, ◌∙◌, refl, append_assoc, arith, rules, tests}
 use Rattle.std.proofs.lemmas.List.Elements.{All-head, All-tail}
-use Rattle.json.specs.Token.{string}
-use Rattle.json.specs.Print.{print, print_from, quoted, escape, escape_byte}
+use Rattle.json.specs.Print.{quoted, escape, escape_byte}
 use Rattle.vortex_table_response.specs.type_texts.Text.{is_unescaped}
-
-pub print_one : (t : List ℕ) → print (string t ∷ []) ≡ quoted t
-unfolding print_from
-print_one t = append-nil (quoted t)
 
 -- a byte that stands for itself is its own escape
 byte_itself : (x : ℕ) → IsTrue (is_unescaped x) → escape_byte x ≡ x ∷ []

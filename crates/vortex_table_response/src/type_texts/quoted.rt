@@ -1,11 +1,10 @@
 //! Texts in quotes, with the shortest escapes of JSON.
-ghost use Rattle.std.specs.Prelude.{◌≡◌, ◌++◌, ◌↔◌, OnOk, All, IsTrue};
-ghost use Rattle.json.specs.Print.{quoted};
+ghost use Rattle.std.specs.Prelude.{◌≡◌, ◌<◌, ◌++◌, ◌↔◌, OnOk, All, IsTrue};
+ghost use Rattle.std.specs.Char.{digit_char};
+ghost use Rattle.json.specs.Print.{quoted, escape, escape_byte};
 ghost use Rattle.vortex_table_response.specs.type_texts.Text.{is_unescaped};
 
-use json::Writer;
-use std::alloc::{AllocError, Global};
-use std::mem;
+use std::alloc::AllocError;
 
 // Whether the byte stands for itself between quotes.
 fn stands_for_itself(byte: u8) -> bool
@@ -22,34 +21,77 @@ fn is_plain(text: &[u8]) -> bool
 }
 
 // Writes a text of which nothing needs an escape, as most texts are.
-fn push_plain(out: &mut Vec<u8>, text: &str) -> Result<(), AllocError>
+fn push_plain(out: &mut Vec<u8>, text: &[u8]) -> Result<(), AllocError>
     requires { All (λ byte. IsTrue (is_unescaped byte)) text.now }
     ensures { OnOk result (out.new.items ≡ out.old.items ++ quoted text.now) }
 {
     out.push(b'"')?;
-    out.extend_from_slice(text.as_bytes())?;
+    out.extend_from_slice(text)?;
     out.push(b'"')?;
     Ok(())
 }
 
-// Writes any text. The writer of the kit fills a block of zeros ahead of what it writes.
-#[tactic(auto, using(crate::proofs::type_texts::Plain::print_one))]
-fn push_escaped(alloc: Global, out: &mut Vec<u8>, text: &str) -> Result<(), AllocError>
-    ensures { OnOk result (out.new.items ≡ out.old.items ++ quoted text.now) }
+// A hexadecimal digit in lower case.
+fn hex_digit(digit: u8) -> u8
+    requires { digit < 16 }
+    ensures { result ≡ digit_char digit }
 {
-    let mut writer = Writer::new(mem::replace(out, Vec::new(alloc)));
-    writer.string(text)?;
-    *out = writer.into_inner();
+    if digit < 10 { 48 + digit } else { 87 + digit }
+}
+
+// Writes what stands for the byte between quotes.
+#[tactic(auto, unfolding(json::specs::Print::escape_byte))]
+fn push_escape(out: &mut Vec<u8>, byte: u8) -> Result<(), AllocError>
+    ensures { OnOk result (out.new.items ≡ out.old.items ++ escape_byte byte) }
+{
+    if stands_for_itself(byte) {
+        out.push(byte)?;
+        return Ok(());
+    }
+    match byte {
+        b'"' => out.extend_from_slice(b"\\\""),
+        b'\\' => out.extend_from_slice(b"\\\\"),
+        8 => out.extend_from_slice(b"\\b"),
+        9 => out.extend_from_slice(b"\\t"),
+        10 => out.extend_from_slice(b"\\n"),
+        12 => out.extend_from_slice(b"\\f"),
+        13 => out.extend_from_slice(b"\\r"),
+        _ => {
+            let digits = [hex_digit(byte / 16), hex_digit(byte % 16)];
+            out.extend_from_slice(b"\\u00")?;
+            out.extend_from_slice(&digits)
+        }
+    }
+}
+
+// Writes what stands for the bytes between quotes.
+fn push_escapes(out: &mut Vec<u8>, text: &[u8]) -> Result<(), AllocError>
+    ensures { OnOk result (out.new.items ≡ out.old.items ++ escape text.now) }
+{
+    for byte in text {
+        push_escape(out, *byte)?;
+    }
     Ok(())
 }
 
-/// Writes a text with its quotes and escapes. An `Err` leaves the buffer with no promise.
-pub fn push_quoted(alloc: Global, out: &mut Vec<u8>, text: &str) -> Result<(), AllocError>
+// Writes any text.
+fn push_escaped(out: &mut Vec<u8>, text: &[u8]) -> Result<(), AllocError>
     ensures { OnOk result (out.new.items ≡ out.old.items ++ quoted text.now) }
 {
-    if is_plain(text.as_bytes()) {
+    out.push(b'"')?;
+    push_escapes(out, text)?;
+    out.push(b'"')?;
+    Ok(())
+}
+
+/// Writes a text, handed over as its bytes, with its quotes and escapes. An `Err` leaves the buffer
+/// with no promise.
+pub fn push_text(out: &mut Vec<u8>, text: &[u8]) -> Result<(), AllocError>
+    ensures { OnOk result (out.new.items ≡ out.old.items ++ quoted text.now) }
+{
+    if is_plain(text) {
         push_plain(out, text)
     } else {
-        push_escaped(alloc, out, text)
+        push_escaped(out, text)
     }
 }

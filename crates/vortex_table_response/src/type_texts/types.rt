@@ -6,9 +6,9 @@ ghost use Rattle.vortex_dtype_ptype.specs.View.{nullability_of_flag, number_kind
 ghost use Rattle.vortex_dtype_core.specs.View.{type_of, fields_of};
 ghost use Rattle.vortex_table_response.specs.type_texts.Text.{flag_text, plain_text, names_text, type_text, children_text, list_end_text, fixed_list_end_text, struct_end_text};
 
-use crate::type_texts::quoted::push_quoted;
+use crate::type_texts::quoted::push_text;
 use crate::type_texts::tokens::{push_comma, push_flag, push_number};
-use std::alloc::{AllocError, Global};
+use std::alloc::AllocError;
 use vortex_dtype_core::dtype::DType;
 use vortex_dtype_core::struct_fields::StructField;
 use vortex_dtype_ptype::nullability::Nullability;
@@ -52,14 +52,14 @@ fn push_numbers(out: &mut Vec<u8>, ptype: PType, nullability: Nullability) -> Re
 }
 
 /// Writes the names of fields with commas between.
-fn push_names(alloc: Global, out: &mut Vec<u8>, fields: &[StructField]) -> Result<(), AllocError>
+fn push_names(out: &mut Vec<u8>, fields: &[StructField]) -> Result<(), AllocError>
     ensures { OnOk result (out.new.items ≡ out.old.items
         ++ names_text false (fields_of fields.now)) }
 {
     let mut later = false;
     for field in fields {
         push_comma(out, later)?;
-        push_quoted(alloc, out, field.name.as_str())?;
+        push_text(out, field.name.as_str().as_bytes())?;
         later = true;
     }
     Ok(())
@@ -67,7 +67,6 @@ fn push_names(alloc: Global, out: &mut Vec<u8>, fields: &[StructField]) -> Resul
 
 /// What stands behind the children of a record.
 fn push_struct_end(
-    alloc: Global,
     out: &mut Vec<u8>,
     fields: &[StructField],
     nullability: Nullability,
@@ -76,7 +75,7 @@ fn push_struct_end(
         (nullability_of_flag nullability)) }
 {
     out.extend_from_slice(b"],\"kind\":\"struct\",\"names\":[")?;
-    push_names(alloc, out, fields)?;
+    push_names(out, fields)?;
     out.extend_from_slice(b"],\"nullable\":")?;
     push_nullability(out, nullability)?;
     out.extend_from_slice(b"}")?;
@@ -113,7 +112,7 @@ fn push_fixed_list_end(
 /// Writes a type as a table can hold it, and nothing for one of another kind. An `Err` promises
 /// nothing of the buffer.
 #[cycle(kind)]
-pub fn push_dtype(alloc: Global, out: &mut Vec<u8>, dtype: &DType) -> Result<(), AllocError>
+pub fn push_dtype(out: &mut Vec<u8>, dtype: &DType) -> Result<(), AllocError>
     ensures { OnOk result (out.new.items ≡ out.old.items ++ type_text (type_of dtype.now)) }
 {
     match dtype {
@@ -123,19 +122,19 @@ pub fn push_dtype(alloc: Global, out: &mut Vec<u8>, dtype: &DType) -> Result<(),
         DType::Binary(nullability) => push_plain(out, "binary", *nullability),
         DType::List(element, nullability) => {
             out.extend_from_slice(b"{\"children\":[")?;
-            push_dtype(alloc, out, element)?;
+            push_dtype(out, element)?;
             push_list_end(out, *nullability)
         }
         DType::FixedSizeList(element, size, nullability) => {
             out.extend_from_slice(b"{\"children\":[")?;
-            push_dtype(alloc, out, element)?;
+            push_dtype(out, element)?;
             push_fixed_list_end(out, *size, *nullability)
         }
         DType::Struct(fields, nullability) => {
             let fields = fields.as_slice();
             out.extend_from_slice(b"{\"children\":[")?;
-            push_children(alloc, out, fields)?;
-            push_struct_end(alloc, out, fields, *nullability)
+            push_children(out, fields)?;
+            push_struct_end(out, fields, *nullability)
         }
         DType::Null | DType::Decimal(_, _) | DType::Map(_, _) => Ok(()),
         DType::Union(_, _) | DType::Variant(_) | DType::Extension(_) => Ok(()),
@@ -143,14 +142,14 @@ pub fn push_dtype(alloc: Global, out: &mut Vec<u8>, dtype: &DType) -> Result<(),
 }
 
 #[cycle(kind)]
-fn push_children(alloc: Global, out: &mut Vec<u8>, fields: &[StructField]) -> Result<(), AllocError>
+fn push_children(out: &mut Vec<u8>, fields: &[StructField]) -> Result<(), AllocError>
     ensures { OnOk result (out.new.items ≡ out.old.items
         ++ children_text false (fields_of fields.now)) }
 {
     let mut later = false;
     for field in fields {
         push_comma(out, later)?;
-        push_dtype(alloc, out, &field.dtype)?;
+        push_dtype(out, &field.dtype)?;
         later = true;
     }
     Ok(())

@@ -5,14 +5,15 @@ use Rattle.vortex_dtype_ptype.specs.View.{nullability_of_flag}
 use Rattle.vortex_dtype_core.specs.View.{type_of, fields_of, fields_in}
 use Rattle.vortex_dtype_core.proofs.Views.{type_of-List, type_of-FixedSizeList, type_of-Struct}
 use Rattle.vortex_dtype_fields.specs.Records.{names_of}
-use Rattle.vortex_arrays_model.specs.Layout.{fixed_lists, list_views, records, len_of, size_of, row_at, IsSound}
+use Rattle.vortex_arrays_model.specs.Layout.{dictionary, fixed_lists, list_views, records, len_of, size_of, row_at, IsSound}
 use Rattle.vortex_arrays_model.specs.Parts.{columns_of}
 use Rattle.vortex_arrays_model.proofs.PicksLemmas.{field_size}
 use Rattle.vortex_model.specs.Content.{tuple}
 use Rattle.vortex_arrays_core.specs.LayoutOf.{valid_of, layout_of}
 use Rattle.vortex_arrays_validity.specs.Validities.{IsRecast}
 use Rattle.vortex_arrays_cast.specs.Cast.{IsCast, AreCast}
-use Rattle.vortex_arrays_cast.proofs.CastLemmas.{cast_records, first_named, first_fit}
+use Rattle.vortex_arrays_cast.proofs.CastLemmas.{cast_fields_of, cast_records, first_named, first_fit}
+use Rattle.vortex_arrays_cast.proofs.DictionaryLemmas.{unflagged, unflagged_range}
 use Rattle.vortex_arrays_cast.proofs.EvenLemmas.{made_sound, made_back, some_weaker}
 use Rattle.vortex_arrays_cast.proofs.ListLemmas.{cast_fixed_lists, cast_list_views}
 use Rattle.vortex_arrays_cast.specs.Ranges.{AreRangesOf, LieIn}
@@ -33,6 +34,15 @@ cast_part-cast_records-requires t c =
       omega (arith, falls, size),
       (sound.0, (sound.1, subst (λ a. AreRangesOf c.args.depth a c.args.ranges.now) same c.requires)),
     )
+
+pub cast_part-cast_dictionary-requires-clause-sound : goal.cast_part-cast_dictionary-requires-clause-sound
+cast_part-cast_dictionary-requires-clause-sound t c =
+    unflagged c.in-Dict.codes c.in-Dict.values c.in-Dict.field-2 (subst IsSound (ap layout_of c.in-Dict.is) c.layout.ensures.sound)
+
+pub cast_part-cast_dictionary-requires-clause-range : goal.cast_part-cast_dictionary-requires-clause-range
+cast_part-cast_dictionary-requires-clause-range t c =
+    unflagged_range c.in-Dict.codes c.in-Dict.values c.in-Dict.field-2 c.own_range-in-Dict.result
+    (subst (LieIn c.own_range-in-Dict.result) (sym c.layout.ensures.layout ∙ ap layout_of c.in-Dict.is) (c.own_range-in-Dict.ensures c.args.array.now c.requires))
 
 pub cast_fields-cast_part-requires : goal.cast_fields-cast_part-requires
 cast_fields-cast_part-requires t c =
@@ -90,6 +100,19 @@ cast_lists-returns t c =
     let made : r ≡ list_views d o s f w = c.in_ok-cast.ensures ∙ (λ i. list_views d (c.in_ok-offsets.ensures.cases i) (c.in_ok-sizes.ensures.cases i) f w) in
     subst (λ j. IsCast j (list_views e o s f v) r) (sym whole)
     (subst (IsCast (list k m) (list_views e o s f v)) (sym made) (cast_list_views k e d o s f v w m cast c.requires recast (c.if-not-are_laid_out.ensures refl)))
+
+pub cast_records-of_columns-requires-clause-dtype : goal.cast_records-of_columns-requires-clause-dtype
+cast_records-of_columns-requires-clause-dtype t c =
+    let n = c.args.len in let v = valid_of c.args.validity.now in let w = valid_of c.in-Some.validity in let m = nullability_of_flag c.in-Struct.nullability in
+    let recast : IsRecast v w m n = subst (λ o. IfSome o (λ u. IsRecast v (valid_of u) m n)) c.in-Some.is c.in_ok-validity.ensures in
+    ap type_of c.in-Struct.is ∙ type_of-Struct c.in-Struct.targets c.in-Struct.nullability ∙ ap (struct (fields_in c.in-Struct.targets)) (sym recast.nullability)
+
+pub cast_records-of_columns-requires-clause-typed : goal.cast_records-of_columns-requires-clause-typed
+cast_records-of_columns-requires-clause-typed t c =
+    let cs = columns_of c.args.names.now c.args.fields.now.items in let gs = fields_in c.in-Struct.targets in let xs = c.in-Some-2.columns.items in
+    let inside : AreCast (fields_of c.as_slice.result.now) cs (columns_of (names_of (fields_of c.as_slice.result.now)) xs)
+    = subst (λ o. IfSome o (λ columns. AreCast (fields_of c.as_slice.result.now) cs (columns_of (names_of (fields_of c.as_slice.result.now)) columns.items))) c.in-Some-2.is c.in_ok-columns.ensures.cast in
+    cast_fields_of gs cs (columns_of (names_of gs) xs) (subst (λ fs. AreCast fs cs (columns_of (names_of fs) xs)) c.as_slice.ensures.fields inside)
 
 pub cast_records-returns : goal.cast_records-returns
 cast_records-returns t c =

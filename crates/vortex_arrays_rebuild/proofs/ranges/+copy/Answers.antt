@@ -26,10 +26,10 @@ copy_rows-of_dict-requires t c =
     let sound : IsSound (dictionary c.in-Dict.codes c.in-Dict.values c.in-Dict.field-2) = subst IsSound (ap layout_of c.in-Dict.is) c.layout.ensures.sound in
     λ _ _. rw c.in_ok-clone-in-Dict.ensures.cases (copied_dictionary_sound c.in-Dict.codes c.in_ok-codes-in-Dict.codes c.in-Dict.values c.in-Dict.field-2 c.args.runs.now.limit c.args.runs.now.list.items sound (c.requires ∙ ap len_of whole) c.args.runs.now.within c.in_ok-codes-in-Dict.ensures)
 
-pub copy_rows-of_fixed_lists-requires : goal.copy_rows-of_fixed_lists-requires
-copy_rows-of_fixed_lists-requires t c =
-    let same = rw c.in-Some.is at c.in_ok-parts-in-FixedSizeList.ensures.positions in
-    λ _. copied_fixed_lists_sound c.in-FixedSizeList.elements c.in_ok-elements-in-FixedSizeList.elements c.in-FixedSizeList.size c.in-FixedSizeList.len c.args.runs.now.len (valid_of c.in-FixedSizeList.validity) (valid_of c.in_ok-validity-in-FixedSizeList.validity) c.args.runs.now.list.items c.in-Some.parts.list.items c.args.runs.now.counted same c.in_ok-elements-in-FixedSizeList.ensures c.in_ok-validity-in-FixedSizeList.ensures
+pub copy_lists-of_fixed_lists-requires : goal.copy_lists-of_fixed_lists-requires
+copy_lists-of_fixed_lists-requires t c =
+    let same = rw c.in-Some.is at c.in_ok-parts.ensures.positions in
+    λ _. copied_fixed_lists_sound c.args.elements.now c.in_ok-elements.elements c.args.size c.args.runs.now.limit c.args.runs.now.len (valid_of c.args.validity.now) (valid_of c.in_ok-validity.validity) c.args.runs.now.list.items c.in-Some.parts.list.items c.args.runs.now.counted same c.in_ok-elements.ensures c.in_ok-validity.ensures
 
 pub copy_rows-of_list_views-requires : goal.copy_rows-of_list_views-requires
 copy_rows-of_list_views-requires t c =
@@ -58,12 +58,11 @@ copy_rows-returns-in_ok-clone-in-Dict t c =
     let p = copies_dictionary c.in-Dict.codes c.in_ok-codes-in-Dict.codes c.in-Dict.values c.in-Dict.field-2 c.args.runs.now.limit c.args.runs.now.list.items sound (c.requires ∙ ap len_of whole) c.args.runs.now.within c.in_ok-codes-in-Dict.ensures in
     IfOk-weaker c.of_dict.result _ _ (λ r is. subst (λ x. Copies x r c.args.runs.now.list.items) (sym whole) (subst (λ x. Copies (dictionary c.in-Dict.codes c.in-Dict.values c.in-Dict.field-2) x c.args.runs.now.list.items) (sym (is ∙ ap (λ v. dictionary c.in_ok-codes-in-Dict.codes v false) c.in_ok-clone-in-Dict.ensures.cases)) p)) c.of_dict.ensures
 
-pub copy_rows-returns-in_ok-elements-in-FixedSizeList : goal.copy_rows-returns-in_ok-elements-in-FixedSizeList
-copy_rows-returns-in_ok-elements-in-FixedSizeList t c =
-    let whole : c.args.array.now ≡ fixed_lists c.in-FixedSizeList.elements c.in-FixedSizeList.size c.in-FixedSizeList.len (valid_of c.in-FixedSizeList.validity) = sym c.layout.ensures.layout ∙ ap layout_of c.in-FixedSizeList.is in
-    let same = rw c.in-Some.is at c.in_ok-parts-in-FixedSizeList.ensures.positions in
-    let p = copies_fixed_lists c.in-FixedSizeList.elements c.in_ok-elements-in-FixedSizeList.elements c.in-FixedSizeList.size c.in-FixedSizeList.len c.args.runs.now.len (valid_of c.in-FixedSizeList.validity) (valid_of c.in_ok-validity-in-FixedSizeList.validity) c.args.runs.now.list.items c.in-Some.parts.list.items c.args.runs.now.counted same c.in_ok-elements-in-FixedSizeList.ensures c.in_ok-validity-in-FixedSizeList.ensures in
-    IfOk-weaker c.of_fixed_lists.result _ _ (λ r is. subst (λ x. Copies x r c.args.runs.now.list.items) (sym whole) (subst (λ x. Copies (fixed_lists c.in-FixedSizeList.elements c.in-FixedSizeList.size c.in-FixedSizeList.len (valid_of c.in-FixedSizeList.validity)) x c.args.runs.now.list.items) (sym (is)) p)) c.of_fixed_lists.ensures
+pub copy_lists-returns : goal.copy_lists-returns
+copy_lists-returns t c =
+    let same = rw c.in-Some.is at c.in_ok-parts.ensures.positions in
+    let p = copies_fixed_lists c.args.elements.now c.in_ok-elements.elements c.args.size c.args.runs.now.limit c.args.runs.now.len (valid_of c.args.validity.now) (valid_of c.in_ok-validity.validity) c.args.runs.now.list.items c.in-Some.parts.list.items c.args.runs.now.counted same c.in_ok-elements.ensures c.in_ok-validity.ensures in
+    IfOk-weaker c.of_fixed_lists.result _ _ (λ r is. subst (λ x. Copies x r c.args.runs.now.list.items) (sym c.requires) (subst (λ x. Copies (fixed_lists c.args.elements.now c.args.size c.args.runs.now.limit (valid_of c.args.validity.now)) x c.args.runs.now.list.items) (sym (is)) p)) c.of_fixed_lists.ensures
 
 pub copy_rows-returns-in_ok-clone-in-ListView : goal.copy_rows-returns-in_ok-clone-in-ListView
 copy_rows-returns-in_ok-clone-in-ListView t c =

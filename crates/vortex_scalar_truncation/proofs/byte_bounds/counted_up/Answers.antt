@@ -1,7 +1,7 @@
 use Rattle.std.proofs.Common.{◌≡◌, ◌∙◌, suc, ◌+◌, ◌-◌, ◌∷◌, ◌<◌, ◌++◌, sym, ap, subst, arith, get_or, take, length-take, replicate, rules}
 use Rattle.std.proofs.lemmas.List.Elements.{All-from_get_or, recursion_from_All}
 use Rattle.vortex_model.specs.Valid.{AreBytes}
-use Rattle.vortex_model.specs.Bounds.{IsLeastAbove}
+use Rattle.vortex_model_table.specs.Bounds.{IsLeastAbove}
 use Rattle.vortex_scalar_truncation.proofs.CountedUp.{upper, no_upper, rebuilt}
 use Rattle.vortex_scalar_truncation.proofs.byte_bounds.counted_up.Goals as goal
 

@@ -1,6 +1,6 @@
 use Rattle.std.proofs.Common.{subst, sym}
-use Rattle.vortex_model.specs.Bounds.{AnyBytes, IsLongestBeginning}
-use Rattle.vortex_model.proofs.Beginnings.{take_longest}
+use Rattle.vortex_model_table.specs.Bounds.{AnyBytes, IsLongestBeginning}
+use Rattle.vortex_model_laws.proofs.Beginnings.{take_longest}
 use Rattle.vortex_scalar_truncation.proofs.byte_bounds.lower_bytes.Goals as goal
 
 pub returns-clause-bound : goal.returns-clause-bound

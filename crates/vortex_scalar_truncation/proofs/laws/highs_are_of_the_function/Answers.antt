@@ -1,4 +1,4 @@
-use Rattle.vortex_model.proofs.BoundFunctions.{high_by_function}
+use Rattle.vortex_model_laws.proofs.BoundFunctions.{high_by_function}
 use Rattle.vortex_scalar_truncation.proofs.laws.highs_are_of_the_function.Goals as goal
 
 pub returns : goal.returns

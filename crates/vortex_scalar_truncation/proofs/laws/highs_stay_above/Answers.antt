@@ -1,4 +1,4 @@
-use Rattle.vortex_model.proofs.Bounded.{covered_high}
+use Rattle.vortex_model_laws.proofs.Bounded.{covered_high}
 use Rattle.vortex_scalar_truncation.proofs.laws.highs_stay_above.Goals as goal
 
 pub returns : goal.returns

@@ -1,4 +1,4 @@
-use Rattle.vortex_model.proofs.BoundFunctions.{low_by_function}
+use Rattle.vortex_model_laws.proofs.BoundFunctions.{low_by_function}
 use Rattle.vortex_scalar_truncation.proofs.laws.lows_are_of_the_function.Goals as goal
 
 pub returns : goal.returns

@@ -1,5 +1,5 @@
 use Rattle.std.proofs.Common.{◌++◌, ◌∷◌, [], chars, string_bytes, rules}
-use Rattle.vortex_model.proofs.Raised.{raise_made}
+use Rattle.vortex_model_laws.proofs.Raised.{raise_made}
 use Rattle.vortex_scalar_truncation.proofs.raising.raise.Goals as goal
 
 pub returns-in_ok-raised-in-Some : goal.returns-in_ok-raised-in-Some

@@ -2,7 +2,7 @@ use Rattle.std.proofs.Common.{◌≡◌, ◌++◌, List, ℕ, chars, length}
 use Rattle.std.specs.List.{AllByRecursion}
 use denote.Text.{Utf8}
 use denote.Shadow.{shadow}
-use Rattle.vortex_model.specs.Bounds.{IsHighest}
+use Rattle.vortex_model_table.specs.Bounds.{IsHighest}
 use Rattle.vortex_scalar_truncation.proofs.raising.split_raised.Given as goal
 
 abbrev pub invariant-loop-front : goal.invariant-loop-front

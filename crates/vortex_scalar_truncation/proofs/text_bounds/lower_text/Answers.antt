@@ -1,5 +1,5 @@
 use Rattle.std.proofs.Common.{◌∙◌, sym, ap, subst, take, IsUtf8, rules}
-use Rattle.vortex_model.specs.Bounds.{IsLongestBeginning}
+use Rattle.vortex_model_table.specs.Bounds.{IsLongestBeginning}
 use Rattle.vortex_scalar_truncation.proofs.Beginnings.{cut_longest}
 use Rattle.vortex_scalar_truncation.proofs.text_bounds.lower_text.Goals as goal
 

@@ -1,7 +1,7 @@
 use Rattle.std.proofs.Common.{◌≡◌, ◌-◌, ◌∙◌, ap, sym, subst, take, arith, IsUtf8, Some}
 use Rattle.std.specs.String.{string_bytes}
 use Rattle.std.specs.Prelude.{option_map}
-use Rattle.vortex_model.specs.Bounds.{IsLongestBeginning, IsRaise}
+use Rattle.vortex_model_table.specs.Bounds.{IsLongestBeginning, IsRaise}
 use Rattle.vortex_scalar_truncation.proofs.Beginnings.{cut_longest}
 use Rattle.vortex_scalar_truncation.proofs.text_bounds.raised_beginning.Goals as goal
 

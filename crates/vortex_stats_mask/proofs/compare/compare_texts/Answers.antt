@@ -1,6 +1,6 @@
 use Rattle.std.proofs.Common.{sym, ◌∙◌, replicate, false, ap, length, map}
 use Rattle.vortex_model.specs.Order.{bytes_cmp}
-use Rattle.vortex_model.specs.Truth.{test_of}
+use Rattle.vortex_model_table.specs.Truth.{test_of}
 use Rattle.std.proofs.lemmas.Result.{IfOk-weaker}
 use Rattle.std.specs.Prelude.{option_copied}
 use Rattle.vortex_scalar_value.specs.View.{content_at}

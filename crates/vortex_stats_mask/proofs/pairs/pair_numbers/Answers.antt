@@ -1,9 +1,9 @@
 use Rattle.std.proofs.Common.{◌≡◌, sym, ap, ◌∙◌, map, pos, ℤ, List}
-use Rattle.vortex_model.specs.Expression.{Comparison}
+use Rattle.vortex_model_table.specs.Expression.{Comparison}
 use Rattle.std.specs.List.{zip}
 use Rattle.std.specs.Ordering.{int_cmp}
 use Rattle.std.proofs.lemmas.Result.{IfOk-weaker}
-use Rattle.vortex_model.specs.Truth.{test_of}
+use Rattle.vortex_model_table.specs.Truth.{test_of}
 use Rattle.vortex_arrays_buffer.specs.PrimitiveBuffers.{integers_of}
 use Rattle.vortex_stats_expr.specs.Tree.{comparison_of}
 use Rattle.vortex_stats_mask.proofs.SideBySide.{naturals_left}

@@ -1,7 +1,7 @@
 use Rattle.std.proofs.Common.{sym, ◌∙◌}
 use Rattle.std.proofs.lemmas.Result.{IfOk-weaker}
 use Rattle.vortex_model.specs.Order.{bytes_cmp}
-use Rattle.vortex_model.specs.Truth.{test_of}
+use Rattle.vortex_model_table.specs.Truth.{test_of}
 use Rattle.vortex_arrays_view.specs.Views.{value_of}
 use Rattle.vortex_stats_expr.specs.Tree.{comparison_of}
 use Rattle.vortex_stats_mask.proofs.SideBySide.{through_both}

@@ -2,7 +2,7 @@ use Rattle.std.proofs.Common.{sym, ap, ◌∙◌, map}
 use Rattle.std.specs.List.{zip}
 use Rattle.std.specs.Ordering.{int_cmp}
 use Rattle.std.proofs.lemmas.Result.{IfOk-weaker}
-use Rattle.vortex_model.specs.Truth.{test_of}
+use Rattle.vortex_model_table.specs.Truth.{test_of}
 use Rattle.vortex_stats_expr.specs.Tree.{comparison_of}
 use Rattle.vortex_stats_mask.proofs.SideBySide.{through_right}
 use Rattle.vortex_stats_mask.proofs.pairs.pair_with.Goals as goal

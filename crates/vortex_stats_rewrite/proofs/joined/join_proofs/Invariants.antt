@@ -1,5 +1,5 @@
 use Rattle.std.proofs.Common.{◌≡◌, length}
-use Rattle.vortex_model.specs.Rewrite.{joined_proofs}
+use Rattle.vortex_model_table.specs.Rewrite.{joined_proofs}
 use Rattle.vortex_stats_rewrite.proofs.joined.join_proofs.Given as goal
 
 abbrev pub invariant-loop-alloc : goal.invariant-loop-alloc

@@ -1,6 +1,6 @@
 use Rattle.std.proofs.Common.{◌≡◌, ◌++◌, length}
 use Rattle.std.specs.Vec.Iter.{into_iter_items}
-use Rattle.vortex_model.specs.Rewrite.{paired}
+use Rattle.vortex_model_table.specs.Rewrite.{paired}
 use Rattle.vortex_stats_rewrite.proofs.joined.pair_up.Given as goal
 
 abbrev pub invariant-loop-first : goal.invariant-loop-first

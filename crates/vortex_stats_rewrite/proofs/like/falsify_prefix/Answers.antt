@@ -1,6 +1,6 @@
 use Rattle.std.proofs.Common.{◌≡◌, subst, Some, None, IfOk, string_bytes, option_map}
 use Rattle.std.proofs.lemmas.Str.{IsUtf8-string_bytes}
-use Rattle.vortex_model.specs.Bounds.{IsRaise}
+use Rattle.vortex_model_table.specs.Bounds.{IsRaise}
 use Rattle.vortex_stats_rewrite.proofs.Outside.{outside_beginning, not_raised}
 use Rattle.vortex_stats_rewrite.proofs.like.falsify_prefix.Goals as goal
 

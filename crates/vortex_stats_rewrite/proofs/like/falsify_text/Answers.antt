@@ -1,7 +1,7 @@
 use Rattle.std.proofs.Common.{◌≡◌, ◌∙◌, string_bytes, Some}
 use Rattle.std.proofs.lemmas.Str.{IsUtf8-string_bytes}
-use Rattle.vortex_model.specs.Rewrite.{outside}
-use Rattle.vortex_model.specs.Expression.{greater}
+use Rattle.vortex_model_table.specs.Rewrite.{outside}
+use Rattle.vortex_model_table.specs.Expression.{greater}
 use Rattle.vortex_stats_rewrite.proofs.Outside.{outside_text}
 use Rattle.vortex_stats_rewrite.proofs.like.falsify_text.Goals as goal
 

@@ -1,7 +1,7 @@
 use Rattle.std.proofs.Common.{◌≡◌, chars, is_some, length}
 use denote.Text.{Utf8}
 use denote.Shadow.{shadow}
-use Rattle.vortex_model.specs.Rewrite.{signs_of}
+use Rattle.vortex_model_table.specs.Rewrite.{signs_of}
 use Rattle.vortex_stats_rewrite.proofs.like_variant.is_spelled.Given as goal
 
 abbrev pub invariant-loop-behind : goal.invariant-loop-behind

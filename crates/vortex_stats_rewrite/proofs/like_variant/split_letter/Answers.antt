@@ -1,5 +1,5 @@
 use Rattle.std.proofs.Common.{ap, ◌∙◌, ◌∷◌, chars, option_map}
-use Rattle.vortex_model.specs.Rewrite.{signs_of}
+use Rattle.vortex_model_table.specs.Rewrite.{signs_of}
 use Rattle.vortex_stats_rewrite.specs.Patterns.{sign_in}
 use Rattle.vortex_stats_rewrite.proofs.Signs.{wild}
 use Rattle.vortex_stats_rewrite.proofs.like_variant.split_letter.Goals as goal

@@ -1,7 +1,7 @@
 use Rattle.std.proofs.Common.{◌≡◌, ◌++◌, map, chars, option_map, string_bytes, length}
 use denote.Text.{Utf8}
 use denote.Shadow.{shadow}
-use Rattle.vortex_model.specs.Rewrite.{letter, signs_of}
+use Rattle.vortex_model_table.specs.Rewrite.{letter, signs_of}
 use Rattle.vortex_stats_rewrite.proofs.like_variant.split_letters.Given as goal
 
 abbrev pub invariant-loop-letter : goal.invariant-loop-letter

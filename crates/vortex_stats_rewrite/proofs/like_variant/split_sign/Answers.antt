@@ -1,5 +1,5 @@
 use Rattle.std.proofs.Common.{sym, ap, ◌∙◌, ◌∷◌, chars, option_map}
-use Rattle.vortex_model.specs.Rewrite.{signs_of}
+use Rattle.vortex_model_table.specs.Rewrite.{signs_of}
 use Rattle.vortex_stats_rewrite.proofs.Signs.{plain, other}
 use Rattle.vortex_stats_rewrite.proofs.like_variant.split_sign.Goals as goal
 

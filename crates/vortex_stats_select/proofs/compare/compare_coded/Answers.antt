@@ -1,7 +1,7 @@
 use Rattle.std.proofs.Common.{◌≡◌, ◌∙◌, ap, subst, map}
 use Rattle.std.specs.Prelude.{IfOk}
 use Rattle.vortex_model.specs.Content.{Content}
-use Rattle.vortex_model.specs.Truth.{compared, is_true}
+use Rattle.vortex_model_table.specs.Truth.{compared, is_true}
 use Rattle.vortex_scalar_value.specs.View.{content_at}
 use Rattle.vortex_stats_expr.specs.Tree.{comparison_of}
 use Rattle.vortex_stats_select.specs.Coded.{is_marked}

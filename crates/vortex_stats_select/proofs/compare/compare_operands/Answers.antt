@@ -2,7 +2,7 @@ use Rattle.std.proofs.Common.{◌≡◌, ◌∙◌, ap, sym, subst, length, map,
 use Rattle.std.specs.List.{zip}
 use Rattle.std.proofs.lemmas.Result.{IfOk-weaker}
 use Rattle.vortex_model.specs.Content.{content_of}
-use Rattle.vortex_model.specs.Truth.{compared, is_true}
+use Rattle.vortex_model_table.specs.Truth.{compared, is_true}
 use Rattle.vortex_scalar_value.specs.View.{content_at, content_in}
 use Rattle.vortex_stats_expr.specs.Tree.{comparison_of}
 use Rattle.vortex_stats_select.specs.Coded.{value_of_code}

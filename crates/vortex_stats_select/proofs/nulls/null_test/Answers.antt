@@ -1,7 +1,7 @@
 use Rattle.std.proofs.Common.{◌≡◌, ◌∙◌, sym, subst, map}
 use Rattle.std.specs.Prelude.{IfSome}
 use Rattle.vortex_model.specs.Content.{boolean, is_null}
-use Rattle.vortex_model.specs.ZoneMap.{values_at}
+use Rattle.vortex_model_table.specs.ZoneMap.{values_at}
 use Rattle.vortex_arrays_model.specs.Layout.{rows_of}
 use Rattle.vortex_stats_bind.specs.Bound.{bound_value}
 use Rattle.vortex_stats_mask.specs.Wanted.{is_wanted}

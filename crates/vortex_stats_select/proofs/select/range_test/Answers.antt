@@ -1,7 +1,7 @@
 use Rattle.std.proofs.Common.{◌≡◌, ◌∙◌, sym, subst, map}
 use Rattle.std.specs.Prelude.{IfSome}
 use Rattle.std.specs.List.{zip}
-use Rattle.vortex_model.specs.Truth.{compared, end_of}
+use Rattle.vortex_model_table.specs.Truth.{compared, end_of}
 use Rattle.vortex_stats_bind.specs.Bound.{bound_value}
 use Rattle.vortex_stats_expr.specs.Tree.{comparison_of, is_strict}
 use Rattle.vortex_stats_mask.specs.Wanted.{is_wanted, joined_by}

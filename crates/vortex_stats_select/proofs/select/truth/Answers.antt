@@ -2,8 +2,8 @@ use Rattle.std.proofs.Common.{◌≡◌, ◌∙◌, ap, subst, map, length, repl
 use Rattle.std.specs.Prelude.{IfSome}
 use Rattle.std.specs.List.{zip}
 use Rattle.vortex_model.specs.Content.{content_of}
-use Rattle.vortex_model.specs.Expression.{equal}
-use Rattle.vortex_model.specs.Truth.{compared}
+use Rattle.vortex_model_table.specs.Expression.{equal}
+use Rattle.vortex_model_table.specs.Truth.{compared}
 use Rattle.vortex_scalar_value.proofs.Views.{raw_of-Bool}
 use Rattle.vortex_stats_bind.specs.Bound.{bound_value}
 use Rattle.vortex_stats_mask.specs.Wanted.{is_wanted}

@@ -2,7 +2,7 @@ use Rattle.std.proofs.Common.{◌≡◌, ◌∙◌, ap, rules, arith, ◌<◌, �
 use Rattle.std.specs.Cow.{cow_slice_items}
 use Rattle.vortex_model.specs.Content.{content_of}
 use Rattle.vortex_model.specs.Valid.{valid}
-use Rattle.vortex_model.specs.Command.{first_unconvertible}
+use Rattle.vortex_model_table.specs.Command.{first_unconvertible}
 use Rattle.vortex_dtype_core.specs.View.{type_of}
 use Rattle.vortex_scalar_value.specs.View.{raw_in, raw_at, content_in, content_at}
 use Rattle.vortex_table_check.proofs.Copied.{raw_copied}

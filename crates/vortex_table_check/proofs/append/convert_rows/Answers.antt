@@ -1,6 +1,6 @@
 use Rattle.std.proofs.Common.{◌≡◌, ◌∙◌, ap, sym, map, None}
 use Rattle.std.specs.Cow.{cow_slice_items}
-use Rattle.vortex_model.specs.Command.{first_invalid}
+use Rattle.vortex_model_table.specs.Command.{first_invalid}
 use Rattle.vortex_dtype_core.specs.View.{type_of}
 use Rattle.vortex_scalar_value.specs.View.{raw_in}
 use Rattle.vortex_table_check.proofs.OwnType.{rows_of_one_type}

@@ -1,5 +1,5 @@
 use Rattle.std.proofs.Common.{◌≡◌, drop, map}
-use Rattle.vortex_model.specs.Command.{first_invalid}
+use Rattle.vortex_model_table.specs.Command.{first_invalid}
 use Rattle.vortex_dtype_core.specs.View.{type_of}
 use Rattle.vortex_scalar_value.specs.View.{raw_in}
 use Rattle.vortex_table_check.proofs.append.first_invalid.Given as goal

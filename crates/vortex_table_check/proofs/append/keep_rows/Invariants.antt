@@ -3,7 +3,7 @@ use Rattle.std.specs.List.{list_all}
 use Rattle.std.specs.Vec.Iter.{into_iter_items}
 use Rattle.vortex_model.specs.Content.{content_of}
 use Rattle.vortex_model.specs.Valid.{valid}
-use Rattle.vortex_model.specs.Command.{first_invalid}
+use Rattle.vortex_model_table.specs.Command.{first_invalid}
 use Rattle.vortex_dtype_core.specs.View.{type_of}
 use Rattle.vortex_scalar_value.specs.View.{raw_of, raw_in}
 use Rattle.vortex_table_schema.specs.Rows.{row_content}

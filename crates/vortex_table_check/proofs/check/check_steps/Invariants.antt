@@ -1,5 +1,5 @@
 use Rattle.std.proofs.Common.{◌≡◌, drop, map}
-use Rattle.vortex_model.specs.Command.{path_fault}
+use Rattle.vortex_model_table.specs.Command.{path_fault}
 use Rattle.vortex_dtype_core.specs.View.{type_of}
 use Rattle.vortex_dtype_path.specs.View.{step_of}
 use Rattle.vortex_table_check.proofs.check.check_steps.Given as goal

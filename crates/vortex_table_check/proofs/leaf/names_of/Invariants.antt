@@ -1,5 +1,5 @@
 use Rattle.std.proofs.Common.{◌≡◌, ◌++◌, drop, map}
-use Rattle.vortex_model.specs.Command.{names_of}
+use Rattle.vortex_model_table.specs.Command.{names_of}
 use Rattle.vortex_dtype_path.specs.View.{step_of}
 use Rattle.vortex_table_check.proofs.leaf.names_of.Given as goal
 

@@ -1,5 +1,5 @@
 use Rattle.std.proofs.Common.{◌≡◌, [], map, take, drop}
-use Rattle.vortex_model.specs.Command.{entries_fault}
+use Rattle.vortex_model_table.specs.Command.{entries_fault}
 use Rattle.vortex_dtype_core.specs.View.{type_of}
 use Rattle.vortex_table_check.specs.Lengths.{entries_in}
 use Rattle.vortex_table_check.proofs.BoundEntries.{backwards, kept_entry}

@@ -1,5 +1,5 @@
 use Rattle.std.proofs.Common.{◌≡◌, drop, map}
-use Rattle.vortex_model.specs.Command.{paths_fault}
+use Rattle.vortex_model_table.specs.Command.{paths_fault}
 use Rattle.vortex_dtype_core.specs.View.{type_of}
 use Rattle.vortex_dtype_path.specs.View.{steps_of}
 use Rattle.vortex_table_check.proofs.part_index.check_each_by.Given as goal

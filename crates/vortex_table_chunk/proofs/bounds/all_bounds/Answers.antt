@@ -1,8 +1,8 @@
 use Rattle.std.proofs.Common.{◌≡◌, ◌<◌, sym, subst, ap, ◌∙◌, refl, true, length, get_or, arith}
 use Rattle.vortex_model.specs.Kept.{is_leaf_at}
-use Rattle.vortex_model.specs.Scan.{kind_at}
-use Rattle.vortex_model.specs.Typing.{sum_kind}
-use Rattle.vortex_model.specs.ZoneMap.{values_at}
+use Rattle.vortex_model_table.specs.Scan.{kind_at}
+use Rattle.vortex_model_table.specs.Typing.{sum_kind}
+use Rattle.vortex_model_table.specs.ZoneMap.{values_at}
 use Rattle.vortex_arrays_model.specs.Layout.{array_type_of, rows_of}
 use Rattle.vortex_table_chunk.specs.zones.Bounds.{IsBoundsOf}
 use Rattle.vortex_table_chunk.proofs.LeafBounds.{leaf_pushed, sum_pushed}

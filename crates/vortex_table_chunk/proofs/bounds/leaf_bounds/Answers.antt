@@ -1,5 +1,5 @@
 use Rattle.std.proofs.Common.{sym, ◌∙◌}
-use Rattle.vortex_model.specs.ZoneMap.{zone_of, values_at}
+use Rattle.vortex_model_table.specs.ZoneMap.{zone_of, values_at}
 use Rattle.vortex_arrays_model.specs.Layout.{rows_of}
 use Rattle.vortex_arrays_struct.proofs.Parts.{part_rows}
 use Rattle.vortex_table_chunk.proofs.bounds.leaf_bounds.Goals as goal

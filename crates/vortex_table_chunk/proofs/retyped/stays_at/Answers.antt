@@ -1,6 +1,6 @@
 use Rattle.std.proofs.Common.{◌≡◌, ◌<◌, ℕ, List, length, get_or, sym, ap, subst, ◌∙◌}
 use Rattle.vortex_model.specs.Path.{Positions}
-use Rattle.vortex_model.specs.ZoneMap.{values_at}
+use Rattle.vortex_model_table.specs.ZoneMap.{values_at}
 use Rattle.vortex_table_schema.proofs.Places.{positions_so}
 use Rattle.vortex_table_chunk.specs.Chunk.{chunk_rows}
 use Rattle.vortex_table_chunk.specs.declared.zones.bounds.ColumnBounds.{ColumnBounds}

@@ -1,5 +1,5 @@
 use Rattle.std.proofs.Common.{List, ℕ, refl, subst}
-use Rattle.vortex_model.specs.Reply.{Answers}
+use Rattle.vortex_model_table.specs.Reply.{Answers}
 use Rattle.vortex_table_io.specs.Replies.{memory_text, ok_text}
 use Rattle.vortex_table_io.specs.Responses.{Says, SaysLine, response_line}
 use Rattle.vortex_table_io.specs.declared.line_handler.Response.{Response}

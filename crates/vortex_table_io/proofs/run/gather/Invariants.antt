@@ -1,5 +1,5 @@
 use Rattle.std.proofs.Common.{◌≡◌, ℕ, List, ◌++◌, length, Bool, false}
-use Rattle.vortex_model.specs.Reply.{Answers}
+use Rattle.vortex_model_table.specs.Reply.{Answers}
 use Rattle.vortex_table_io.specs.Replies.{FeedOk}
 use Rattle.vortex_table_io.proofs.run.gather.Given as goal
 

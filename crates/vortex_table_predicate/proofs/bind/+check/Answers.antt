@@ -1,5 +1,5 @@
 use Rattle.std.proofs.Common.{rules, sym, ap, ◌∙◌}
-use Rattle.vortex_model.specs.Command.{is_supported_like}
+use Rattle.vortex_model_table.specs.Command.{is_supported_like}
 use Rattle.vortex_dtype_core.specs.View.{type_of}
 use Rattle.vortex_scalar_core.specs.Scalar.{scalar_content}
 use Rattle.vortex_stats_expr.specs.Tree.{comparison_of, is_strict}

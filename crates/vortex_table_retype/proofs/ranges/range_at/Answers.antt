@@ -3,7 +3,7 @@ use Rattle.std.specs.List.{All}
 use Rattle.std.specs.Int.{w128}
 use Rattle.std.proofs.lemmas.Int.{to_z-of_z}
 use Rattle.vortex_model.specs.Path.{Positions, at}
-use Rattle.vortex_model.specs.ZoneMap.{values_at}
+use Rattle.vortex_model_table.specs.ZoneMap.{values_at}
 use Rattle.vortex_arrays_model.specs.Layout.{content_at}
 use Rattle.vortex_arrays_cast.specs.Ranges.{IsBetween}
 use Rattle.vortex_table_chunk.specs.Chunk.{chunk_rows}

@@ -1,7 +1,7 @@
 use Rattle.std.proofs.Common.{◌+◌, ◌<◌, ◌≤◌, sym, ap, subst, ◌∙◌, length, rules, arith}
 use Rattle.std.proofs.lemmas.List.{drop_all}
 use Rattle.vortex_model.specs.Valid.{valid}
-use Rattle.vortex_model.specs.Command.{first_unconvertible}
+use Rattle.vortex_model_table.specs.Command.{first_unconvertible}
 use Rattle.vortex_arrays_model.specs.Layout.{array_type_of, content_at, rows_of}
 use Rattle.vortex_dtype_core.specs.View.{type_of}
 use Rattle.vortex_scalar_value.specs.View.{raw_of}

@@ -1,7 +1,7 @@
 use Rattle.std.proofs.Common.{◌+◌, rules}
 use Rattle.vortex_model.specs.Convert.{converts}
 use Rattle.vortex_model.specs.Refusal.{not_convertible}
-use Rattle.vortex_model.specs.Command.{unless}
+use Rattle.vortex_model_table.specs.Command.{unless}
 use Rattle.vortex_arrays_model.specs.Layout.{array_type_of, content_at}
 use Rattle.vortex_dtype_core.specs.View.{type_of}
 use Rattle.vortex_table_check.specs.Error.{Explains}

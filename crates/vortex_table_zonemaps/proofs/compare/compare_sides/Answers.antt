@@ -1,6 +1,6 @@
 use Rattle.std.proofs.Common.{◌≡◌, sym, ap, subst, ◌∙◌, map}
-use Rattle.vortex_model.specs.Expression.{Comparison}
-use Rattle.vortex_model.specs.Truth.{compared, is_true}
+use Rattle.vortex_model_table.specs.Expression.{Comparison}
+use Rattle.vortex_model_table.specs.Truth.{compared, is_true}
 use Rattle.vortex_stats_expr.specs.Tree.{comparison_of}
 use Rattle.vortex_stats_mask.proofs.Truths.{compared_swapped}
 use Rattle.vortex_table_zonemaps.specs.Side.{IsSideOf}

@@ -1,5 +1,5 @@
 use Rattle.std.proofs.Common.{◌≡◌, drop}
-use Rattle.vortex_model.specs.Table.{length_for}
+use Rattle.vortex_model_table.specs.Table.{length_for}
 use Rattle.vortex_table_check.proofs.lengths.BoundLengths.at.Given as goal
 
 abbrev pub invariant-loop-entry : goal.invariant-loop-entry

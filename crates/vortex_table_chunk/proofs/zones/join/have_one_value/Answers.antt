@@ -1,5 +1,5 @@
 use Rattle.std.proofs.Common.{sym, ap, ◌∙◌, ◌&&◌}
-use Rattle.vortex_model.specs.Statistics.{exact}
+use Rattle.vortex_model_table.specs.Statistics.{exact}
 use Rattle.vortex_table_chunk.proofs.zones.JoinLemmas.{one_value}
 use Rattle.vortex_table_chunk.proofs.zones.join.have_one_value.Goals as goal
 

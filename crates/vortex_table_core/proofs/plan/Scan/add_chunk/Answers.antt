@@ -1,11 +1,10 @@
-use Rattle.std.proofs.Common.{◌≡◌, ◌∙◌, ◌+◌, ◌++◌, map, ap, refl}
-use Rattle.vortex_model.specs.Scan.{Outcome, is_skipped, is_whole, saturated}
-use Rattle.vortex_scalar_core.specs.Scalar.{scalar_content}
-use Rattle.vortex_table_schema.specs.Answer.{answer_of}
+use Rattle.std.proofs.Common.{◌≡◌, ◌∙◌, ◌+◌, ◌++◌, ap, refl}
+use Rattle.vortex_model_table.specs.Scan.{Outcome, is_skipped, is_whole, saturated}
+use Rattle.vortex_table_select.specs.Selected.{rows_in, cut_rows}
 use Rattle.vortex_table_chunk.specs.Chunk.{chunk_rows}
 use Rattle.vortex_table_chunk.proofs.ProvenAlike.{is_there}
 use Rattle.vortex_table_core.specs.Outcome.{outcome_of}
-use Rattle.vortex_table_core.specs.Plan.{question_in}
+use Rattle.vortex_table_core.specs.Plan.{question_in, answer_by}
 use Rattle.vortex_table_core.specs.Progress.{outcome_to, found_rows, push_if, tested_rows, proofs_at}
 use Rattle.vortex_table_core.proofs.Added.{added, stopped}
 use Rattle.vortex_table_core.proofs.plan.Scan.add_chunk.Goals as goal
@@ -18,8 +17,8 @@ returns-clause-found c =
     let q = question_in plan in
     let o : Outcome = outcome_to q rows in
     let out : outcome_of c.outcome-outcome.result ≡ o = c.outcome-outcome.ensures in
-    added q c.args.number rows o (answer_of old) _
-    (c.in_ok-find_rows.ensures.rows ∙ ap (λ p. map scalar_content old.rows.items ++ found_rows q p rows) out)
+    added q c.args.number rows o (answer_by plan old) _
+    (c.in_ok-find_rows.ensures.rows ∙ ap (λ p. cut_rows plan.prepared.now.cut (rows_in old.selections.items) ++ found_rows q p rows) out)
     refl
     (c.in_ok-push_if.ensures ∙ ap (λ t. push_if t c.args.number old.skipped.items) (c.is_skipped.ensures ∙ ap is_skipped out))
     (c.in_ok-push_if-2.ensures ∙ ap (λ t. push_if t c.args.number old.whole.items) (c.is_whole.ensures ∙ ap is_whole out))

@@ -1,12 +1,11 @@
 use Rattle.std.proofs.Common.{◌≡◌, refl, sym, ap, ◌∙◌, ◌+◌, ◌*◌, map, Option, Some, None}
 use Rattle.std.specs.Prelude.{is_some, option_map}
-use Rattle.vortex_model.specs.Table.{bound_length}
-use Rattle.vortex_model.specs.Scan.{saturated, one_if, is_many}
-use Rattle.vortex_table_schema.specs.Answer.{answer_of}
+use Rattle.vortex_model_table.specs.Table.{bound_length}
+use Rattle.vortex_model_table.specs.Scan.{saturated, one_if, is_many}
 use Rattle.vortex_table_chunk.specs.Chunk.{chunk_rows}
 use Rattle.vortex_table_chunk.proofs.ProvenAlike.{is_there}
 use Rattle.vortex_table_core.specs.Group.{chunks_of}
-use Rattle.vortex_table_core.specs.Plan.{table_in, question_in}
+use Rattle.vortex_table_core.specs.Plan.{table_in, question_in, answer_by}
 use Rattle.vortex_table_core.specs.Progress.{group_proofs}
 use Rattle.vortex_table_chunk.specs.Formed.{is_formed}
 use Rattle.vortex_table_core.proofs.Added.{stopped}
@@ -25,7 +24,7 @@ returns-then-skipped-clause-found c =
     let formed = formed_in (is_formed (bound_length t) t.kind) g all plan.table.now.formed in
     let tried : one_if (is_some plan.prepared.now.proofs.falsifier) * one_if (is_some g.joined) ≡ group_proofs (question_in plan) (is_many (map chunk_rows own)) =
     (λ i. one_if (is_there _ _ _ c.requires.plan.prepared.falsifier i) * one_if ((as_there (λ v. v.items) g.joined ∙ many_if plan c.requires.plan g own formed c.requires.group _ c.requires.group.statistics) i)) in
-    group_skipped plan c.requires.plan g own formed c.requires.group (answer_of old) _ (sym (c.is_skipped-skipped.ensures own formed c.requires.group) ∙ c.if-skipped.true)
+    group_skipped plan c.requires.plan g own formed c.requires.group (answer_by plan old) _ (sym (c.is_skipped-skipped.ensures own formed c.requires.group) ∙ c.if-skipped.true)
     c.requires.counted refl refl c.in_ok-push_numbers.ensures refl refl
     (c.saturating_add-answer.ensures ∙ stopped (old.proofs + c.proofs_at_group.result) ∙ ap (λ m. saturated (old.proofs + m)) (c.proofs_at_group.ensures ∙ tried))
 
@@ -36,12 +35,11 @@ returns-clause-found c =
     let formed = formed_in (is_formed (bound_length t) t.kind) g all plan.table.now.formed in
     let tried : one_if (is_some plan.prepared.now.proofs.falsifier) * one_if (is_some g.joined) ≡ group_proofs (question_in plan) (is_many (map chunk_rows own)) =
     (λ i. one_if (is_there _ _ _ c.requires.plan.prepared.falsifier i) * one_if ((as_there (λ v. v.items) g.joined ∙ many_if plan c.requires.plan g own formed c.requires.group _ c.requires.group.statistics) i)) in
-    let a = answer_of old in
+    let a = answer_by plan old in
     let proofs : c.saturating_add-answer.result ≡ saturated (old.proofs + group_proofs (question_in plan) (is_many (map chunk_rows own))) =
     c.saturating_add-answer.ensures ∙ stopped (old.proofs + c.proofs_at_group.result) ∙ ap (λ m. saturated (old.proofs + m)) (c.proofs_at_group.ensures ∙ tried) in
-    let mid = answer_of (record {
-      rows = old.rows;
-      dtype = old.dtype;
+    let mid = answer_by plan (record {
+      selections = old.selections;
       skipped = old.skipped;
       whole = old.whole;
       rows_tested = old.rows_tested;

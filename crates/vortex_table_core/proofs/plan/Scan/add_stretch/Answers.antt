@@ -1,11 +1,10 @@
 use Rattle.std.proofs.Common.{◌≡◌, sym, ap, subst, ◌∙◌, length, map, true, arith}
 use Rattle.std.specs.List.{list_all}
 use Rattle.std.proofs.lemmas.List.{length-take}
-use Rattle.vortex_model.specs.Table.{bound_length}
-use Rattle.vortex_table_schema.specs.Answer.{answer_of}
+use Rattle.vortex_model_table.specs.Table.{bound_length}
 use Rattle.vortex_table_chunk.specs.Chunk.{chunk_rows}
 use Rattle.vortex_table_chunk.specs.Formed.{is_formed}
-use Rattle.vortex_table_core.specs.Plan.{table_in, question_in, falsified_in}
+use Rattle.vortex_table_core.specs.Plan.{table_in, question_in, answer_by, falsified_in}
 use Rattle.vortex_table_core.specs.Progress.{outcome_to, with_chunks}
 use Rattle.vortex_table_core.proofs.Groups.{formed_among}
 use Rattle.vortex_table_core.proofs.plan.Scan.add_stretch.Goals as goal
@@ -20,4 +19,4 @@ pub returns-clause-found : goal.returns-clause-found
 returns-clause-found c =
     let q = question_in c.args.self.now in
     c.in_ok-add_chunks.ensures.found
-    ∙ ap (λ cs. with_chunks q (outcome_to q) c.args.first (map chunk_rows cs) (answer_of c.args.answer.now)) c.chunks_in-chunks.ensures
+    ∙ ap (λ cs. with_chunks q (outcome_to q) c.args.first (map chunk_rows cs) (answer_by c.args.self.now c.args.answer.now)) c.chunks_in-chunks.ensures

@@ -1,10 +1,7 @@
-use Rattle.std.proofs.Common.{◌≡◌, ap, sym, ◌∙◌, ◌+◌, ◌∷◌, map, drop, length, rules, arith}
-use Rattle.vortex_dtype_core.specs.View.{type_of}
-use Rattle.vortex_model.specs.Cut.{cut_type}
-use Rattle.vortex_scalar_core.specs.Scalar.{scalar_content}
+use Rattle.std.proofs.Common.{◌≡◌, ap, sym, ◌∙◌, ◌+◌, ◌∷◌, drop, length, arith}
 use Rattle.vortex_table_blocks.specs.Blocks.{left_in}
-use Rattle.vortex_table_schema.specs.Answer.{answer_of}
-use Rattle.vortex_table_core.specs.Plan.{table_in, question_in}
+use Rattle.vortex_table_select.specs.Selected.{rows_in, cut_rows}
+use Rattle.vortex_table_core.specs.Plan.{answer_by}
 use Rattle.vortex_table_core.proofs.Stretches.{waiting_start, one_waits, group_next, none_if}
 use Rattle.vortex_table_core.proofs.Walked.{there, is_there, behind}
 use Rattle.vortex_table_core.proofs.plan.Scan.run.Goals as goal
@@ -12,14 +9,13 @@ use Rattle.vortex_table_core.proofs.plan.Scan.run.Goals as goal
 pub loop-group-init : goal.loop-group-init
 loop-group-init c =
     let plan = c.args.self.now in
-    let kind : type_of c.in_ok-clone.field-0 ≡ cut_type (question_in plan).paths (table_in plan).kind = search (rules, c.in_ok-clone.ensures.cases, c.requires.prepared.cut_kind) in
     let none : length c.new.result.items ≡ 0 = ap length c.new.ensures.items in
     record {
       index = 0;
       left = c.walk-groups.ensures;
       waiting = waiting_start plan _ (λ i. record {
-        rows = map scalar_content (c.new.ensures.items i);
-        kind = kind i;
+        rows = cut_rows plan.prepared.now.cut (rows_in (c.new.ensures.items i));
+        kind = c.requires.prepared.cut_kind i;
         skipped = c.new-2.ensures.items i;
         whole = c.new-3.ensures.items i;
         rows_tested = 0;
@@ -38,8 +34,8 @@ loop-group-preserved-then-is_some c =
       index = j + 1;
       left = behind all j g left here;
       waiting =
-          group_next plan j c.loop-group.first c.loop-group.count (answer_of c.loop-group.answer) (answer_of c.add_stretch.new.answer) i.waiting c.in_ok-add_stretch.ensures.found
-          g (answer_of c.add_group.new.answer) (there all j g left here) (is_there all j g left here) c.in_ok-add_group.ensures.found;
+          group_next plan j c.loop-group.first c.loop-group.count (answer_by plan c.loop-group.answer) (answer_by plan c.add_stretch.new.answer) i.waiting c.in_ok-add_stretch.ensures.found
+          g (answer_by plan c.add_group.new.answer) (there all j g left here) (is_there all j g left here) c.in_ok-add_group.ensures.found;
       typed = c.in_ok-add_group.ensures.typed;
     }
 
@@ -53,7 +49,7 @@ loop-group-preserved c =
       index = j + 1;
       left = behind all j g left here;
       waiting =
-          one_waits plan c.requires j c.loop-group.first c.loop-group.count (answer_of c.loop-group.answer) i.waiting
+          one_waits plan c.requires j c.loop-group.first c.loop-group.count (answer_by plan c.loop-group.answer) i.waiting
           g (there all j g left here) (is_there all j g left here) (none_if (λ v. v.items) g.joined (sym c.is_some.ensures ∙ c.if-is_some.false));
       typed = i.typed;
     }

@@ -1,7 +1,7 @@
 use Rattle.std.below.core.proofs.iter.Serving.{as_err}
 use Rattle.std.proofs.Common.{◌≡◌, None, rules, subst, sym, arith}
 use Rattle.vortex_model.specs.Kept.{type_fault}
-use Rattle.vortex_model.specs.Command.{append_array, refusal}
+use Rattle.vortex_model_table.specs.Command.{append_array, refusal}
 use Rattle.vortex_dtype_core.specs.View.{type_of}
 use Rattle.vortex_arrays_model.specs.Layout.{array_type_of, rows_of}
 use Rattle.vortex_table_core.specs.Arrays.{arrays_of, IsTakenAs}

@@ -4,7 +4,7 @@ use Rattle.std.specs.Cow.{cow_slice_items}
 use Rattle.vortex_model.specs.Content.{content_of}
 use Rattle.vortex_model.specs.Refusal.{or_else}
 use Rattle.vortex_model.specs.Kept.{type_fault}
-use Rattle.vortex_model.specs.Command.{append, refusal, first_invalid}
+use Rattle.vortex_model_table.specs.Command.{append, refusal, first_invalid}
 use Rattle.vortex_dtype_core.specs.View.{type_of}
 use Rattle.vortex_scalar_value.specs.View.{raw_in}
 use Rattle.vortex_arrays_model.specs.Layout.{rows_of}

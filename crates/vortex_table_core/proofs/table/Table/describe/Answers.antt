@@ -1,7 +1,7 @@
 use Rattle.std.proofs.Common.{◌<◌, refl, sym, subst, map, length, get_or, arith}
 use Rattle.std.proofs.lemmas.Grind.{common_steps}
 use Rattle.vortex_dtype_core.specs.View.{type_of}
-use Rattle.vortex_model.specs.Reply.{Describes}
+use Rattle.vortex_model_table.specs.Reply.{Describes}
 use Rattle.vortex_table_chunk.specs.Chunk.{chunk_rows}
 use Rattle.vortex_table_chunk.specs.Joined.{IsJoined, rows_in}
 use Rattle.vortex_table_chunk.specs.zones.Join.{zone_in}

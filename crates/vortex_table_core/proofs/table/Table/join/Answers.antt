@@ -1,6 +1,6 @@
 use Rattle.std.proofs.Common.{◌≡◌, sym, ap, subst, ◌∙◌, ℕ, ◌+◌, ◌<◌, ◌++◌, List, map, suc, take, drop, get_or, length, add-one, arith}
 use Rattle.std.specs.Prelude.{slice_set}
-use Rattle.vortex_model.specs.Command.{joined_at}
+use Rattle.vortex_model_table.specs.Command.{joined_at}
 use Rattle.vortex_dtype_core.specs.View.{type_of}
 use Rattle.vortex_table_core.specs.Group.{AreGroups, IsOneGroup}
 use Rattle.vortex_table_core.specs.TableView.{table_of}

@@ -3,7 +3,7 @@ use Rattle.std.specs.List.{list_all}
 use Rattle.std.proofs.lemmas.List.{length-map, map-append}
 use Rattle.std.proofs.lemmas.List.Folds.{list_all-append}
 use Rattle.std.proofs.lemmas.List.Sums.{sum_by-append}
-use Rattle.vortex_model.specs.Table.{rows_of as table_rows}
+use Rattle.vortex_model_table.specs.Table.{rows_of as table_rows}
 use Rattle.vortex_arrays_model.specs.Layout.{len_of, array_type_of, rows_of}
 use Rattle.vortex_arrays_model.proofs.RowsLemmas.{row_count as rows_counted}
 use Rattle.vortex_dtype_core.specs.View.{type_of}

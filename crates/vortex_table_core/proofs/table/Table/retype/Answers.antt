@@ -1,7 +1,7 @@
 use Rattle.std.proofs.Common.{◌≡◌, ap, sym, subst, ◌∙◌, map, None, is_none}
 use Rattle.vortex_model.specs.Kept.{type_fault}
-use Rattle.vortex_model.specs.Table.{rows_of}
-use Rattle.vortex_model.specs.Command.{first_unconvertible}
+use Rattle.vortex_model_table.specs.Table.{rows_of}
+use Rattle.vortex_model_table.specs.Command.{first_unconvertible}
 use Rattle.vortex_dtype_core.specs.View.{type_of}
 use Rattle.vortex_table_schema.specs.Leaves.{leaf_positions}
 use Rattle.vortex_table_chunk.proofs.EqualLeaves.{leaves_same}

@@ -2,7 +2,7 @@ use Rattle.std.proofs.Common.{◌≡◌, None, rules, sym, ap, subst, ◌∙◌,
 use Rattle.std.proofs.lemmas.Result.{IfOk-weaker, IfErr-weaker}
 use Rattle.vortex_model.specs.Content.{content_of}
 use Rattle.vortex_model.specs.Kept.{type_fault}
-use Rattle.vortex_model.specs.Command.{first_invalid, first_unconvertible}
+use Rattle.vortex_model_table.specs.Command.{first_invalid, first_unconvertible}
 use Rattle.vortex_dtype_core.specs.View.{type_of}
 use Rattle.vortex_scalar_value.specs.View.{raw_in}
 use Rattle.vortex_arrays_model.specs.Layout.{array_type_of, rows_of}

@@ -1,5 +1,5 @@
 use Rattle.std.proofs.Common.{ap, ◌∙◌, ◌+◌, drop, map, rules, arith}
-use Rattle.vortex_model.specs.Command.{first_unconvertible}
+use Rattle.vortex_model_table.specs.Command.{first_unconvertible}
 use Rattle.vortex_table_check.specs.Error.{Explains}
 use Rattle.vortex_table_chunk.specs.Chunk.{chunk_rows}
 use Rattle.vortex_table_chunk.specs.Formed.{is_formed}

@@ -1,6 +1,6 @@
 use Rattle.std.proofs.Common.{◌≡◌, map, take, drop, true}
 use Rattle.std.specs.List.{list_all}
-use Rattle.vortex_model.specs.Command.{first_unconvertible}
+use Rattle.vortex_model_table.specs.Command.{first_unconvertible}
 use Rattle.vortex_table_chunk.specs.Chunk.{chunk_rows, row_count}
 use Rattle.vortex_table_chunk.specs.Formed.{is_formed}
 use Rattle.vortex_table_retype.specs.Retyping.{source_of, target_of, lengths_of}

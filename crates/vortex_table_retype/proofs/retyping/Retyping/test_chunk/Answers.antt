@@ -1,5 +1,5 @@
 use Rattle.std.proofs.Common.{ap, sym, subst, ◌∙◌, rules}
-use Rattle.vortex_model.specs.Command.{first_unconvertible}
+use Rattle.vortex_model_table.specs.Command.{first_unconvertible}
 use Rattle.vortex_table_check.specs.Error.{Explains}
 use Rattle.vortex_table_chunk.specs.Chunk.{chunk_rows}
 use Rattle.vortex_table_chunk.proofs.Formed.{of_type}

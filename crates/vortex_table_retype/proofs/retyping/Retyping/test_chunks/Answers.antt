@@ -1,5 +1,5 @@
 use Rattle.std.proofs.Common.{ap, ◌∙◌, ◌+◌, drop, rules, arith}
-use Rattle.vortex_model.specs.Command.{first_unconvertible}
+use Rattle.vortex_model_table.specs.Command.{first_unconvertible}
 use Rattle.vortex_table_check.specs.Error.{Explains}
 use Rattle.vortex_table_retype.specs.Retyping.{source_of, target_of}
 use Rattle.vortex_table_retype.proofs.ConvertedRows.{all_rows, within, count_more, chunk_tested, chunk_passed}

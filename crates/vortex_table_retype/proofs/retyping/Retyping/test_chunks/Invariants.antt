@@ -1,5 +1,5 @@
 use Rattle.std.proofs.Common.{◌≡◌, take, drop}
-use Rattle.vortex_model.specs.Command.{first_unconvertible}
+use Rattle.vortex_model_table.specs.Command.{first_unconvertible}
 use Rattle.vortex_table_chunk.specs.Chunk.{row_count}
 use Rattle.vortex_table_retype.specs.Retyping.{source_of, target_of}
 use Rattle.vortex_table_retype.proofs.ConvertedRows.{all_rows}

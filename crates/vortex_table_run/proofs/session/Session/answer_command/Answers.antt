@@ -14,3 +14,6 @@ returns-in-Retype c = rw c.in-Retype.is (c.answer_retype.ensures c.args.out.now.
 
 pub returns-in-Compact : goal.returns-in-Compact
 returns-in-Compact c = rw c.in-Compact.is (c.answer_compact.ensures c.args.out.now.items)
+
+pub returns-in-AppendArray : goal.returns-in-AppendArray
+returns-in-AppendArray c = rw c.in-AppendArray.is (c.answer_append_array.ensures c.args.out.now.items)

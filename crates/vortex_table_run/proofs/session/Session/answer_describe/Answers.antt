@@ -1,8 +1,8 @@
 use Rattle.std.proofs.Common.{refl, ap}
 use Rattle.std.specs.Prelude.{option_map}
-use Rattle.vortex_model.specs.Command.{describe}
+use Rattle.vortex_model_table.specs.Command.{describe}
 use Rattle.vortex_model.specs.Refusal.{no_table}
-use Rattle.vortex_model.specs.Reply.{refused, described}
+use Rattle.vortex_model_table.specs.Reply.{refused, described}
 use Rattle.vortex_dtype_path.specs.View.{steps_of}
 use Rattle.vortex_table_core.specs.TableView.{table_of}
 use Rattle.vortex_table_run.specs.CommandAnswers.{error_answer}

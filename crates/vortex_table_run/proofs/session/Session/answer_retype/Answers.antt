@@ -1,8 +1,8 @@
 use Rattle.std.proofs.Common.{Some, Err, refl, ap}
 use Rattle.std.specs.Prelude.{option_map}
-use Rattle.vortex_model.specs.Command.{retype}
+use Rattle.vortex_model_table.specs.Command.{retype}
 use Rattle.vortex_model.specs.Refusal.{no_table}
-use Rattle.vortex_model.specs.Reply.{refused}
+use Rattle.vortex_model_table.specs.Reply.{refused}
 use Rattle.vortex_dtype_core.specs.View.{type_of}
 use Rattle.vortex_table_core.specs.TableView.{table_of}
 use Rattle.vortex_table_run.specs.CommandAnswers.{error_answer}

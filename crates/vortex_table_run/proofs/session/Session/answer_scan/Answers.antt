@@ -1,10 +1,10 @@
 use Rattle.std.proofs.Common.{map, refl, ap}
 use Rattle.std.specs.Prelude.{option_map}
-use Rattle.vortex_model.specs.Command.{scan}
+use Rattle.vortex_model_table.specs.Command.{scan}
 use Rattle.vortex_model.specs.Refusal.{no_table}
-use Rattle.vortex_model.specs.Reply.{refused, found}
+use Rattle.vortex_model_table.specs.Reply.{refused, found}
 use Rattle.vortex_dtype_path.specs.View.{steps_of}
-use Rattle.vortex_table_schema.specs.Answer.{answer_of}
+use Rattle.vortex_table_select.specs.Selected.{answer_in}
 use Rattle.vortex_table_core.specs.TableView.{table_of}
 use Rattle.vortex_table_run.specs.CommandAnswers.{error_answer}
 use Rattle.vortex_table_run.specs.State.{table_in}
@@ -21,8 +21,8 @@ returns-in_default c =
 pub returns-in-Ok-write_found : goal.returns-in-Ok-write_found
 returns-in-Ok-write_found c =
     let there = ap (option_map table_of) c.in-Some.is in (
-      found (answer_of c.in-Ok.answer),
-      scan_found (table_in c.args.self.now) (table_of c.in-Some.table) (map steps_of c.args.paths.now) c.args.predicate.now (answer_of c.in-Ok.answer)
+      found (answer_in c.in-Ok.answer),
+      scan_found (table_in c.args.self.now) (table_of c.in-Some.table) (map steps_of c.args.paths.now) c.args.predicate.now (answer_in c.in-Ok.answer)
           there c.in-Ok.ensures.accepted c.in-Ok.ensures.found,
       c.in-Ok-write_found.ensures,
     )

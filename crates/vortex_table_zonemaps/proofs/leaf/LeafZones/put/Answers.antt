@@ -1,4 +1,4 @@
-use Rattle.vortex_model.specs.Expression.{min, max, null_count}
+use Rattle.vortex_model_table.specs.Expression.{min, max, null_count}
 use Rattle.vortex_table_zonemaps.specs.Zones.{leaf_stat}
 use Rattle.vortex_table_zonemaps.proofs.Held.{zones_kept, zone_put, as_told}
 use Rattle.vortex_table_zonemaps.proofs.leaf.LeafZones.put.Goals as goal

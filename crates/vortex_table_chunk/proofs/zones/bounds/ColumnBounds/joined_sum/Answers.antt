@@ -1,7 +1,7 @@
 use Rattle.std.proofs.Common.{sym, ◌∙◌}
 use Rattle.vortex_dtype_ptype.specs.Numbers.{int_kind_in}
 use Rattle.vortex_dtype_ptype.specs.View.{number_kind_of}
-use Rattle.vortex_model.specs.ZoneMap.{joined_total}
+use Rattle.vortex_model_table.specs.ZoneMap.{joined_total}
 use Rattle.vortex_scalar_value.specs.Numbers.{integer_of}
 use Rattle.vortex_table_chunk.specs.zones.Sums.{int_kind_of, known_sum}
 use Rattle.vortex_table_chunk.proofs.zones.JoinLemmas.{total_joined}

@@ -1,5 +1,0 @@
-use Rattle.vortex_model.proofs.Batches.{appended_answers}
-use Rattle.vortex_model.proofs.laws.appends_answer_behind.Goals as goal
-
-pub returns : goal.returns
-returns c = appended_answers

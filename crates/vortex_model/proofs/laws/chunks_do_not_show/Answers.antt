@@ -1,5 +1,0 @@
-use Rattle.vortex_model.proofs.Batches.{eq_answers}
-use Rattle.vortex_model.proofs.laws.chunks_do_not_show.Goals as goal
-
-pub returns : goal.returns
-returns c = eq_answers

@@ -1,5 +1,0 @@
-use Rattle.vortex_model.proofs.GroupSkipping.{group_honest}
-use Rattle.vortex_model.proofs.laws.group_binders_are_honest.Goals as goal
-
-pub returns : goal.returns
-returns c = group_honest

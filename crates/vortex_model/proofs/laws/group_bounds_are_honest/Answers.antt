@@ -1,5 +1,0 @@
-use Rattle.vortex_model.proofs.Groups.{honest_bounds}
-use Rattle.vortex_model.proofs.laws.group_bounds_are_honest.Goals as goal
-
-pub returns : goal.returns
-returns c = honest_bounds

@@ -1,6 +1,0 @@
-use Rattle.std.proofs.Common.{[], ◌∷◌}
-use Rattle.vortex_model.proofs.Answers.{uncut_kind, root_keeps}
-use Rattle.vortex_model.proofs.laws.root_type_is_whole.Goals as goal
-
-pub returns : goal.returns
-returns c = λ k. uncut_kind ([] ∷ []) root_keeps [] k

@@ -1,5 +1,0 @@
-use Rattle.vortex_model.proofs.Honesty.{sound_satisfier}
-use Rattle.vortex_model.proofs.laws.satisfiers_are_sound.Goals as goal
-
-pub returns : goal.returns
-returns c = sound_satisfier

@@ -1,5 +1,0 @@
-use Rattle.vortex_model.proofs.Skipping.{asked_sound, skipped_holds_none}
-use Rattle.vortex_model.proofs.laws.skipped_chunks_hold_none.Goals as goal
-
-pub returns : goal.returns
-returns c = λ t e chunk asked rows h. skipped_holds_none t e (asked_sound t e asked) chunk rows h

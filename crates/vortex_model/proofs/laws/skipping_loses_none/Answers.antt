@@ -1,5 +1,0 @@
-use Rattle.vortex_model.proofs.Skipping.{asked_sound, all_found}
-use Rattle.vortex_model.proofs.laws.skipping_loses_none.Goals as goal
-
-pub returns : goal.returns
-returns c = λ t e asked rows. all_found t e (asked_sound t e asked) t.chunks rows

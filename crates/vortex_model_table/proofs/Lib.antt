@@ -1,0 +1,4 @@
+pub mod Chains
+pub mod ContentOrder
+pub mod Equality
+pub mod Examples

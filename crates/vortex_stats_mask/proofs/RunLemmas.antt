@@ -1,0 +1,36 @@
+-- Masks whose rows are told one by one.
+use Rattle.std.proofs.Common.{◌≡◌, ℕ, ◌+◌, ◌*◌, ◌<◌, ◌≤◌, ◌≢◌, inl, inr, Result, Ok, Err, IfOk, List, [], ◌∷◌, Bool, false, length, get_or, set, map, replicate, refl, sym, ap, subst, ◌∙◌, arith}
+use Rattle.std.proofs.lemmas.Bool.{cases_eq}
+use Rattle.std.proofs.lemmas.List.{ext_get_or, get_or-map, get_or-set_same, get_or-set_other, length-map, length-set, length-replicate}
+use Rattle.vortex_stats_mask.specs.Runs.{Says}
+
+pub said_none : (P : ℕ → Bool → Type 0) (many : ℕ) → Says P (replicate many false) 0 many
+said_none P many = record { rows = λ i l. absurd (omega arith); count = length-replicate many false }
+
+pub said_more : (P : ℕ → Bool → Type 0) (mask : List Bool) (first j many : ℕ) (b : Bool) → first + j < many → P (first + j) b → Says P mask (first + j) many → Says P (set mask (first + j) b) (first + (j + 1)) many
+said_more P mask first j many b l holds s = record {
+  rows = λ i h. elim (cases_eq i (first + j)) [
+    | inl e ↦ subst (λ k. P k (get_or (set mask (first + j) b) k false)) (sym e) (subst (P (first + j)) (sym (get_or-set_same mask (first + j) b false (omega (arith, s.count)))) holds)
+    | inr d ↦ subst (P i) (sym (get_or-set_other mask (first + j) i b false d)) (s.rows i (omega arith))
+  ];
+  count = length-set mask (first + j) b ∙ s.count;
+}
+
+-- as far as the same place, told by another sum
+pub said_to : (P : ℕ → Bool → Type 0) (mask : List Bool) (n m many : ℕ) → n ≡ m → Says P mask n many → Says P mask m many
+said_to P mask n m many e s = subst (λ k. Says P mask k many) e s
+
+pub ruleset said = (said_none, said_more, said_to)
+
+-- what two facts of a result tell together
+pub both_tell : {V E : Type 0} (r : Result V E) (P Q R : V → Type 0) → IfOk r P → IfOk r Q → ((v : V) → P v → Q v → R v) → IfOk r R
+both_tell (Ok v) P Q R p q f = f v p q
+both_tell (Err e) P Q R p q f = tt
+
+-- what each row says makes the mask
+pub told_all : {A : Type 0} (f : A → Bool) (xs : List A) (bs : List Bool) → length bs ≡ length xs → ((i : ℕ) (d : A) → i < length xs → get_or bs i false ≡ f (get_or xs i d)) → bs ≡ map f xs
+told_all f [] bs e h = ext_get_or false bs [] e (λ k l. let m : k < 0 = subst (λ n. k < n) e l in absurd (omega (arith, m)))
+told_all f (x ∷ xs) bs e h =
+    ext_get_or false bs (map f (x ∷ xs)) (e ∙ sym (length-map (x ∷ xs) f)) (λ k l.
+    let m : k < length (x ∷ xs) = subst (λ n. k < n) e l in
+    h k x m ∙ sym (get_or-map f (x ∷ xs) k x false m))

@@ -1,0 +1,40 @@
+//! Tests of rows one by one, in runs of sixteen without a branch.
+ghost use Rattle.std.specs.Prelude.{◌≡◌, ◌<◌, ◌≤◌, ◌+◌, ◌^◌, ℕ, false, length, slice_index_or, IfOk};
+ghost use Rattle.vortex_stats_mask.specs.Runs.{Says};
+
+use std::alloc::{AllocError, Global};
+
+/// For each of so many rows what `f` says of it.
+#[tactic(auto, using(crate::proofs::RunLemmas::said))]
+pub(crate) fn test_rows<F: Fn(usize) -> bool>(
+    alloc: Global,
+    len: usize,
+    f: F,
+) -> Result<Vec<bool>, AllocError>
+    requires { (i : ℕ) → i < len → F.pre f i }
+    ensures count { IfOk result (λ mask. length mask.items ≡ len) }
+    ensures rows { IfOk result
+        (λ mask. (i : ℕ) → i < len → F.post f i (slice_index_or mask.items i false)) }
+{
+    let mut mask = vec![in alloc; false; len]?;
+    let runs = len / 16;
+    for k in 0..runs {
+        test_run(&mut mask, &f, 16 * k, 16);
+    }
+    test_run(&mut mask, &f, 16 * runs, len - 16 * runs);
+    Ok(mask)
+}
+
+// So many rows from one on, where those before it are tested.
+#[tactic(auto, using(crate::proofs::RunLemmas::said))]
+#[inline(always)]
+fn test_run<F: Fn(usize) -> bool>(mask: &mut Vec<bool>, f: &F, first: usize, n: usize)
+    requires room { first + n ≤ length mask.old.items }
+    requires calls { (j : ℕ) → j < n → F.pre f.now (first + j) }
+    requires before { Says (λ i b. F.post f.now i b) mask.old.items first (length mask.old.items) }
+    ensures { Says (λ i b. F.post f.now i b) mask.new.items (first + n) (length mask.old.items) }
+{
+    for j in 0..n {
+        mask[first + j] = f(first + j);
+    }
+}

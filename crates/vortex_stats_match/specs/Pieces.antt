@@ -1,0 +1,32 @@
+-- How the piece of a LIKE pattern before its first % meets a text.
+use Rattle.std.specs.Prelude.{◌≡◌, ◌<◌, ◌≤◌, ℕ, List, length, true, false}
+use Rattle.std.specs.Prelude.{Option, Some, None}
+use denote.Ref.{Bor}
+use Rattle.vortex_model_table.specs.Like.{some_end}
+use Rattle.vortex_stats_match.specs.Bytes.{byte_matches}
+use Rattle.vortex_stats_match.specs.declared.matching.Piece.{Piece}
+use Rattle.vortex_stats_match.specs.declared.matching.Piece.TheVariants.{Differs, IsWhole, Wildcard}
+
+-- A % stands behind the piece. The text matches the pattern exactly where some end of what is left
+-- matches what stands behind the %, and a later place of the piece brings nothing more.
+pub record IsWildcard (form value behind left : List ℕ) : Type 0 where
+  pub here : byte_matches form value ≡ some_end (byte_matches behind) left
+  pub later : some_end (byte_matches form) value ≡ some_end (byte_matches behind) left
+  pub shorter : length behind < length form
+  pub no_longer : length left ≤ length value
+
+-- what it says that a pattern and a text meet so
+abbrev pub Meets : List ℕ → List ℕ → Piece → Type 0
+Meets form value Differs = byte_matches form value ≡ false
+Meets form value IsWhole = byte_matches form value ≡ true
+Meets form value (Wildcard behind left) = IsWildcard form value behind.now left.now
+
+-- an end of the text matches the form exactly where one of what is left does, and none does where
+-- nothing is left
+pub record IsPlace (form value left : List ℕ) : Type 0 where
+  pub ends : some_end (byte_matches form) value ≡ some_end (byte_matches form) left
+  pub no_longer : length left ≤ length value
+
+abbrev pub GoesOn : List ℕ → List ℕ → Option (Bor (List ℕ)) → Type 0
+GoesOn form value None = some_end (byte_matches form) value ≡ false
+GoesOn form value (Some left) = IsPlace form value left.now

@@ -1,0 +1,184 @@
+//! LIKE patterns and texts, byte by byte.
+//!
+//! `%` stands for any run of characters, the empty one too, `_` for any one character, and each
+//! other character for itself, so letters keep their case. Nothing is allocated or decoded: a
+//! character is a byte and those that go on with it. A pattern is met piece by piece, where a piece
+//! ends at a `%`: since the next piece may stand anywhere further on, the first place where a piece
+//! fits is as good as each later one, and no earlier piece is tried again. So the time is at worst
+//! the length of the text times that of the pattern. The byte that a piece begins with is searched
+//! for, unless it is a sign.
+ghost use Rattle.std.specs.Prelude.{◌≡◌, option_copied};
+ghost use Rattle.memchr.specs.Find.{IsFirstByte, is_byte};
+ghost use Rattle.vortex_model_table.specs.Like.{some_end};
+ghost use Rattle.vortex_stats_match.specs.Bytes.{goes_on, past_char, left_by, byte_matches};
+ghost use Rattle.vortex_stats_match.specs.Pieces.{Meets, GoesOn};
+
+use memchr::memchr;
+
+/// How a pattern meets a text, up to the first `%` of the pattern.
+enum Piece<'a, 'b> {
+    /// The text begins otherwise, or goes on where the pattern ends.
+    Differs,
+    /// Pattern and text end together, without a `%`.
+    IsWhole,
+    /// A `%` stands here: the pattern behind it, and what is left of the text.
+    Wildcard { pattern: &'a [u8], text: &'b [u8] },
+}
+
+// Whether the byte goes on with a character, and begins none.
+fn goes_on(byte: u8) -> bool
+    ensures { result ≡ goes_on byte }
+{
+    !(byte < 128) && byte < 192
+}
+
+// The text from the next beginning of a character on.
+fn past_char(text: &[u8]) -> &[u8]
+    ensures { result.now ≡ past_char text.now }
+{
+    let mut left = text;
+    while let Some((byte, rest)) = left.split_first() {
+        if goes_on(*byte) {
+            left = rest;
+        } else {
+            return left;
+        }
+    }
+    left
+}
+
+// What the sign, no `%`, leaves of the text. `None` where the text doesn't begin so.
+fn left_by(sign: u8, text: &[u8]) -> Option<&[u8]>
+    ensures { option_copied result ≡ left_by sign text.now }
+{
+    match text.split_first() {
+        None => None,
+        Some((byte, rest)) => {
+            if sign == b'_' {
+                if goes_on(*byte) {
+                    None
+                } else {
+                    Some(past_char(rest))
+                }
+            } else if sign == *byte {
+                Some(rest)
+            } else {
+                None
+            }
+        }
+    }
+}
+
+// Goes along pattern and text as far as the first `%`.
+fn meet<'a, 'b>(pattern: &'a [u8], text: &'b [u8]) -> Piece<'a, 'b>
+    ensures { Meets pattern.now text.now result }
+{
+    let mut signs = pattern;
+    let mut left = text;
+    while let Some((sign, behind)) = signs.split_first() {
+        if *sign == b'%' {
+            return Piece::Wildcard {
+                pattern: behind,
+                text: left,
+            };
+        }
+        match left_by(*sign, left) {
+            None => return Piece::Differs,
+            Some(rest) => left = rest,
+        }
+        signs = behind;
+    }
+    if left.is_empty() {
+        Piece::IsWhole
+    } else {
+        Piece::Differs
+    }
+}
+
+// Where the byte first stands, by a look at each byte.
+fn find_near(sign: u8, text: &[u8]) -> Option<usize>
+    ensures { IsFirstByte (is_byte sign) text.now result }
+{
+    for i in 0..text.len() {
+        if text[i] == sign {
+            return Some(i);
+        }
+    }
+    None
+}
+
+// Where the byte first stands. In a short text a look at each byte is faster than a search.
+fn find(sign: u8, text: &[u8]) -> Option<usize>
+    ensures { IsFirstByte (is_byte sign) text.now result }
+{
+    if text.len() < 32 {
+        find_near(sign, text)
+    } else {
+        memchr(sign, text)
+    }
+}
+
+// The text from the first place on where the first sign of the pattern stands: no end before it
+// matches.
+fn next_place<'t>(pattern: &[u8], text: &'t [u8]) -> Option<&'t [u8]>
+    ensures { GoesOn pattern.now text.now result }
+{
+    match pattern.split_first() {
+        None => Some(text),
+        Some((sign, _)) => {
+            if *sign == b'%' {
+                return Some(text);
+            }
+            if *sign == b'_' {
+                return Some(text);
+            }
+            match find(*sign, text) {
+                None => None,
+                Some(place) => Some(&text[place..]),
+            }
+        }
+    }
+}
+
+// Whether some end of the text, the whole and the empty one too, matches the pattern.
+fn has_end_like(pattern: &[u8], text: &[u8]) -> bool
+    ensures { result ≡ some_end (byte_matches pattern.now) text.now }
+{
+    let mut pattern = pattern;
+    let mut text = text;
+    loop {
+        // A pattern that ends in % takes all that is left.
+        if pattern.is_empty() {
+            return true;
+        }
+        let Some(place) = next_place(pattern, text) else {
+            return false;
+        };
+        match meet(pattern, place) {
+            Piece::IsWhole => return true,
+            Piece::Wildcard {
+                pattern: behind,
+                text: left,
+            } => {
+                pattern = behind;
+                text = left;
+            }
+            Piece::Differs => match place.split_first() {
+                None => return false,
+                Some((_, rest)) => text = rest,
+            },
+        }
+    }
+}
+
+/// Whether the bytes match the LIKE pattern, where both are taken as UTF-8. A backslash stands for
+/// itself here; SQL engines take it as an escape.
+pub fn are_like(pattern: &[u8], text: &[u8]) -> bool
+    ensures { result ≡ byte_matches pattern.now text.now }
+{
+    match meet(pattern, text) {
+        Piece::Differs => false,
+        Piece::IsWhole => true,
+        Piece::Wildcard { pattern, text } => has_end_like(pattern, text),
+    }
+}

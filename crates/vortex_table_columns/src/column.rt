@@ -1,0 +1,158 @@
+//! A column of a leaf type that grows cell by cell.
+ghost use Rattle.std.specs.Prelude.{◌≡◌, ◌∷◌, ◌++◌, [], true, Some, IfOk, OnOk};
+ghost use Rattle.vortex_model.specs.Content.{Raw, raw_null};
+ghost use Rattle.vortex_dtype_ptype.specs.View.{number_kind_of};
+ghost use Rattle.vortex_dtype_core.specs.View.{type_of};
+ghost use Rattle.vortex_scalar_value.specs.Numbers.{holds_number};
+ghost use Rattle.vortex_table_columns.specs.Cells.{IsColumn};
+ghost use Rattle.vortex_table_columns.specs.Columns.{column_type, cells_of, boolean_cell, number_cell, text_cell, Takes};
+
+use crate::DoesNotFit;
+use crate::cells::{of_booleans, of_integers};
+use crate::text::TextCells;
+use std::alloc::Global;
+use vortex_arrays_core::array::ArrayRef;
+use vortex_dtype_core::dtype::DType;
+use vortex_dtype_ptype::nullability::Nullability;
+use vortex_dtype_ptype::ptype::PType;
+use vortex_scalar_value::pvalue::PValue;
+
+/// A column of truth values, of integers of a kind or of texts. A null may be pushed to any column:
+/// whether null can be is asked when it becomes an array.
+#[derive(Drop)]
+pub enum ColumnBuilder {
+    /// Truth values.
+    Booleans(Nullability, Vec<Option<bool>>),
+    /// Integers of a kind.
+    Integers(PType, Nullability, Vec<Option<i128>>),
+    /// Texts.
+    Texts(Nullability, TextCells),
+}
+
+// One number more, which is to be in the range of the kind.
+fn push_in_range(
+    cells: &mut Vec<Option<i128>>,
+    ptype: PType,
+    number: i128,
+) -> Result<(), DoesNotFit>
+    ensures held { OnOk result (holds_number (number_kind_of ptype) number ≡ true) }
+    ensures pushed { OnOk result (cells.new.items ≡ cells.old.items ++ Some number ∷ []) }
+{
+    match PValue::of(ptype, number) {
+        Some(_) => {
+            cells.push(Some(number))?;
+            Ok(())
+        }
+        None => Err(DoesNotFit),
+    }
+}
+
+impl ColumnBuilder {
+    /// A column of the type without cells. Types other than those of truth values, integers and
+    /// texts have none.
+    #[tactic(auto, using(vortex_dtype_core::proofs::Views::one_level))]
+    pub fn new(alloc: Global, dtype: &DType) -> Result<ColumnBuilder, DoesNotFit>
+        ensures kind { IfOk result (λ column. column_type column ≡ type_of dtype.now) }
+        ensures empty { IfOk result (λ column. cells_of column ≡ []) }
+    {
+        match dtype {
+            DType::Bool(nullability) => {
+                Ok(ColumnBuilder::Booleans(*nullability, Vec::new(alloc)))
+            }
+            DType::Primitive(ptype, nullability) => {
+                Ok(ColumnBuilder::Integers(*ptype, *nullability, Vec::new(alloc)))
+            }
+            DType::Utf8(nullability) => {
+                Ok(ColumnBuilder::Texts(*nullability, TextCells::new(alloc)))
+            }
+            DType::Null | DType::Decimal(_, _) | DType::Binary(_) => Err(DoesNotFit),
+            DType::List(_, _) | DType::FixedSizeList(_, _, _) => Err(DoesNotFit),
+            DType::Map(_, _) | DType::Struct(_, _) | DType::Union(_, _) => Err(DoesNotFit),
+            DType::Variant(_) | DType::Extension(_) => Err(DoesNotFit),
+        }
+    }
+
+    /// One null more.
+    #[tactic(auto, using(crate::proofs::ColumnLemmas::taken))]
+    pub fn push_null(&mut self) -> Result<(), DoesNotFit>
+        ensures { OnOk result (Takes self.old raw_null self.new) }
+    {
+        match self {
+            ColumnBuilder::Booleans(_, cells) => {
+                cells.push(None)?;
+                Ok(())
+            }
+            ColumnBuilder::Integers(_, _, cells) => {
+                cells.push(None)?;
+                Ok(())
+            }
+            ColumnBuilder::Texts(_, texts) => {
+                texts.push_null()?;
+                Ok(())
+            }
+        }
+    }
+
+    /// One truth value more.
+    #[tactic(auto, using(crate::proofs::ColumnLemmas::taken))]
+    pub fn push_boolean(&mut self, truth: bool) -> Result<(), DoesNotFit>
+        ensures { OnOk result ((cell : Raw)
+            × (boolean_cell (column_type self.old) truth ≡ Some cell)
+            × Takes self.old cell self.new) }
+    {
+        match self {
+            ColumnBuilder::Booleans(_, cells) => {
+                cells.push(Some(truth))?;
+                Ok(())
+            }
+            ColumnBuilder::Integers(_, _, _) | ColumnBuilder::Texts(_, _) => Err(DoesNotFit),
+        }
+    }
+
+    /// One number more, which is to be in the range of the kind.
+    #[tactic(auto, using(crate::proofs::ColumnLemmas::taken))]
+    pub fn push_number(&mut self, number: i128) -> Result<(), DoesNotFit>
+        ensures { OnOk result ((cell : Raw)
+            × (number_cell (column_type self.old) number ≡ Some cell)
+            × Takes self.old cell self.new) }
+    {
+        match self {
+            ColumnBuilder::Integers(ptype, _, cells) => {
+                push_in_range(cells, *ptype, number)?;
+                Ok(())
+            }
+            ColumnBuilder::Booleans(_, _) | ColumnBuilder::Texts(_, _) => Err(DoesNotFit),
+        }
+    }
+
+    /// One text more.
+    #[tactic(auto, using(crate::proofs::ColumnLemmas::taken))]
+    pub fn push_text(&mut self, text: &str) -> Result<(), DoesNotFit>
+        ensures { OnOk result ((cell : Raw)
+            × (text_cell (column_type self.old) text.now ≡ Some cell)
+            × Takes self.old cell self.new) }
+    {
+        match self {
+            ColumnBuilder::Texts(_, texts) => {
+                texts.push(text)?;
+                Ok(())
+            }
+            ColumnBuilder::Booleans(_, _) | ColumnBuilder::Integers(_, _, _) => Err(DoesNotFit),
+        }
+    }
+
+    /// The cells as an array. A null doesn't fit where null can't be.
+    pub fn finish(self, alloc: Global) -> Result<ArrayRef, DoesNotFit>
+        ensures { IfOk result (λ array. IsColumn (column_type self) (cells_of self) array) }
+    {
+        match self {
+            ColumnBuilder::Booleans(nullability, cells) => {
+                of_booleans(alloc, nullability, cells.as_slice())
+            }
+            ColumnBuilder::Integers(ptype, nullability, cells) => {
+                of_integers(alloc, ptype, nullability, cells.as_slice())
+            }
+            ColumnBuilder::Texts(nullability, texts) => texts.finish(alloc, nullability),
+        }
+    }
+}

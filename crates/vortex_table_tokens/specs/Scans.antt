@@ -1,0 +1,50 @@
+-- What the tokens of a scan's paths and predicate begin with.
+use Rattle.std.specs.Prelude.{◌≡◌, suc, true, Option, Some, None, if◌then◌else◌}
+use Rattle.json.specs.Token.{Token}
+use Rattle.serde_json.specs.Data.{Data, array, Items, item}
+use Rattle.serde_json.specs.Events.{items_len}
+use Rattle.vortex_model.specs.LogicalType.{LogicalType}
+use Rattle.vortex_model.specs.Content.{Raw, content_of}
+use Rattle.vortex_model.specs.Valid.{valid}
+use Rattle.vortex_model.specs.Path.{Step}
+use Rattle.vortex_model_table.specs.Expression.{Expression, literal}
+use Rattle.vortex_table_request.specs.Parsed.{keeps_whole}
+use Rattle.vortex_table_request.specs.FormNames.{has_size}
+use Rattle.vortex_table_request.specs.Where.{step_in, leaf_in, unary_in, binary_in, between_in, predicate_in}
+use Rattle.vortex_table_request.specs.declared.forms.Form.TheVariants as form
+use Rattle.vortex_table_request.specs.declared.forms.Leaf.{Leaf}
+use Rattle.vortex_table_request.specs.declared.forms.Unary.{Unary}
+use Rattle.vortex_table_request.specs.declared.forms.Binary.{Binary}
+use Rattle.vortex_table_tokens.specs.Begins.{IsOne}
+
+abbrev pub IsPredicate : Expression → Data → Type 0
+IsPredicate e d = predicate_in d ≡ Some e
+
+-- the token alone is this step of a path
+abbrev pub IsStep : Token → Step → Type 0
+IsStep t s = (d : Data) × IsOne t d × (keeps_whole d ≡ true) × (step_in d ≡ Some s)
+
+-- a literal of a type, where the value is valid
+abbrev pub literal_with : LogicalType → Raw → Option Expression
+literal_with k r = if valid k r then Some (literal k (content_of r)) else None
+
+-- ---- items that complete an array, whatever its name and the operands before them are
+
+abbrev pub EndsLeaf : Leaf → Expression → Items → Type 0
+EndsLeaf l e ds = (name : Data) → (has_size (form.Leaf l) (suc (items_len ds)) ≡ true)
+    × (leaf_in l (array (item name ds)) ≡ Some e)
+
+abbrev pub EndsUnary : Unary → Expression → Expression → Items → Type 0
+EndsUnary u x e ds = (name a : Data)
+    → (has_size (form.Unary u) (suc (suc (items_len ds))) ≡ true)
+    × (unary_in u x (array (item name (item a ds))) ≡ Some e)
+
+abbrev pub EndsBinary : Binary → Expression → Expression → Expression → Items → Type 0
+EndsBinary o x y e ds = (name a b : Data)
+    → (has_size (form.Binary o) (suc (suc (suc (items_len ds)))) ≡ true)
+    × (binary_in o x y (array (item name (item a (item b ds)))) ≡ Some e)
+
+abbrev pub EndsRange : Expression → Expression → Expression → Expression → Items → Type 0
+EndsRange x lo hi e ds = (name a b c : Data)
+    → (has_size form.Between (suc (suc (suc (suc (items_len ds))))) ≡ true)
+    × (between_in x lo hi (array (item name (item a (item b (item c ds))))) ≡ Some e)

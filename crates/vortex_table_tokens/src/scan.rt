@@ -1,0 +1,64 @@
+//! Scans from tokens.
+ghost use Rattle.std.specs.Prelude.{◌≡◌, ◌∷◌, map, codes, option_and_then, Some, IfOk, OnOk};
+ghost use Rattle.json.specs.Token.{begin_object, key, string};
+ghost use Rattle.serde_json.specs.Find.{as_array};
+ghost use Rattle.vortex_dtype_path.specs.View.{steps_of};
+ghost use Rattle.vortex_table_request.specs.Line.{command_in};
+ghost use Rattle.vortex_table_request.specs.View.{shown, HasHintsOf};
+ghost use Rattle.vortex_table_request.specs.Where.{paths_in};
+ghost use Rattle.vortex_table_tokens.specs.Scans.{IsPredicate};
+ghost use Rattle.vortex_table_tokens.specs.Values.{HasValue, HasMember};
+
+use crate::give_up::GiveUp;
+use crate::paths::take_paths;
+use crate::predicates::take_predicate;
+use crate::tokens::{take_key, take_object, take_object_end, take_text};
+use json::Reader;
+use std::alloc::Global;
+use vortex_dtype_path::path::FieldPath;
+use vortex_stats_expr::expression::Expression;
+use vortex_table_request::Command;
+
+/// How deep a member of a line may nest.
+const MEMBER_DEPTH: usize = 126;
+
+// The verb, where it is a scan's.
+fn take_head(reader: &mut Reader<'_>) -> Result<(), GiveUp>
+    ensures { OnOk result (reader.old ≡ begin_object ∷ key (codes "cmd")
+        ∷ string (codes "scan") ∷ reader.new) }
+{
+    take_object(reader)?;
+    take_key(reader, "cmd")?;
+    take_text(reader, "scan")
+}
+
+fn take_cut(alloc: Global, reader: &mut Reader<'_>) -> Result<Vec<FieldPath>, GiveUp>
+    ensures { IfOk result (λ paths. HasMember (codes "paths") 126 reader.old
+        (λ d. option_and_then paths_in (as_array d) ≡ Some (map steps_of paths.items))
+        reader.new) }
+{
+    take_key(reader, "paths")?;
+    let paths = take_paths(alloc, reader)?;
+    Ok(paths)
+}
+
+fn take_where(alloc: Global, reader: &mut Reader<'_>) -> Result<Expression, GiveUp>
+    ensures { IfOk result (λ predicate.
+        HasMember (codes "where") 126 reader.old (IsPredicate predicate) reader.new) }
+{
+    take_key(reader, "where")?;
+    let predicate = take_predicate(alloc, reader, MEMBER_DEPTH)?;
+    Ok(predicate)
+}
+
+/// A scan whose keys are in order.
+pub(crate) fn take_scan(alloc: Global, reader: &mut Reader<'_>) -> Result<Command, GiveUp>
+    ensures { IfOk result (λ command. HasValue 127 reader.old
+        (λ d. (command_in d ≡ Some (shown command)) × HasHintsOf d command) reader.new) }
+{
+    take_head(reader)?;
+    let paths = take_cut(alloc, reader)?;
+    let predicate = take_where(alloc, reader)?;
+    take_object_end(reader)?;
+    Ok(Command::Scan { paths, predicate })
+}

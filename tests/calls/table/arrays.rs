@@ -1,0 +1,284 @@
+//! Arrays that are appended, compactions, and how the chunks of hinted appends lie.
+
+use crate::checks::Checks;
+use crate::layouts::{answered, holds, numbers, record_of, records, told, valid_where};
+use crate::make::{cell, column_at, integers, number, scan};
+use std::alloc::{AllocError, Global};
+use vortex_arrays::{ArrayLayout, ArrayRef, DictArray, ListViewArray, Validity};
+use vortex_dtype::{BufferString, DType, Nullability, PType};
+use vortex_scalar::{Scalar, ScalarConstructors, ScalarValue};
+use vortex_table::expr::{eq, gt, gt_eq};
+use vortex_table::table::{Layout, ScanAnswer, Table, TableError};
+
+/// The lists of 1, 2, 3 and of 2, 3, which overlap.
+fn overlapping(alloc: Global) -> Result<ArrayRef, TableError> {
+    let elements = numbers(alloc, &[1i32, 2, 3], Validity::NonNullable)?;
+    let offsets = numbers(alloc, &[0u32, 1], Validity::NonNullable)?;
+    let sizes = numbers(alloc, &[3u8, 2], Validity::NonNullable)?;
+    let views = ListViewArray::try_new(alloc, elements, offsets, sizes, Validity::NonNullable);
+    Ok(answered(views)?.into_array())
+}
+
+/// A table of the array's type, with the array as its only chunk.
+fn table_of(alloc: Global, array: ArrayRef) -> Result<Table, TableError> {
+    let mut table = Table::create(alloc, array.dtype().clone()?, 16, &[])?;
+    table.append_array(array)?;
+    Ok(table)
+}
+
+/// The column of this number in a chunk.
+fn column_in(table: &Table, chunk: usize, number: usize) -> Option<&ArrayRef> {
+    match table.chunk(chunk)?.layout() {
+        ArrayLayout::Struct(_, fields, _, _) => fields.get(number),
+        _ => None,
+    }
+}
+
+/// Whether the first column of the chunk is of list views with these elements, offsets and sizes.
+fn has_views(table: &Table, elements: &[i128], offsets: &[i128], sizes: &[i128]) -> bool {
+    match column_in(table, 0, 0).map(|column| column.layout()) {
+        Some(ArrayLayout::ListView(all, starts, counts, _, _)) => {
+            holds(all, elements) && holds(starts, offsets) && holds(counts, sizes)
+        }
+        _ => false,
+    }
+}
+
+/// Whether the rows are the two lists.
+fn are_lists(answer: &ScanAnswer) -> bool {
+    answer.rows.len() == 2
+        && is_list(&answer.rows[0], &[1, 2, 3])
+        && is_list(&answer.rows[1], &[2, 3])
+}
+
+/// Whether the row is a record of the list of these numbers.
+fn is_list(row: &Scalar, items: &[i128]) -> bool {
+    let Some(ScalarValue::Tuple(cells)) = row.value() else {
+        return false;
+    };
+    let Some(ScalarValue::Tuple(list)) = &cells[0] else {
+        return false;
+    };
+    let mut same = cells.len() == 1 && list.len() == items.len();
+    for i in 0..list.len().min(items.len()) {
+        same = same
+            && match &list[i] {
+                Some(ScalarValue::Primitive(item)) => item.get() == items[i],
+                _ => false,
+            };
+    }
+    same
+}
+
+/// Lists that overlap are kept as they lie, and stand end to end once they are compacted.
+pub fn lists_are_compacted(alloc: Global, checks: &mut Checks<'_>) -> Result<(), TableError> {
+    let array = records(alloc, "l", overlapping(alloc)?, Validity::NonNullable)?;
+    let mut table = table_of(alloc, array)?;
+    let all = eq(alloc, number(1)?, number(1)?)?;
+    let answer = scan(alloc, &table, &all)?;
+    checks.holds("lists: counts", answer.rows_tested == 2 && answer.proofs == 1);
+    checks.holds("lists: rows", are_lists(&answer));
+    checks.holds("as they lie", has_views(&table, &[1, 2, 3], &[0, 1], &[3, 2]));
+    table.compact()?;
+    let answer = scan(alloc, &table, &all)?;
+    checks.holds("compacted: counts", answer.rows_tested == 2 && answer.proofs == 1);
+    checks.holds("compacted: rows", are_lists(&answer));
+    checks.holds("end to end", has_views(&table, &[1, 2, 3, 2, 3], &[0, 3], &[3, 2]));
+    table.compact()?;
+    checks.holds("once more", has_views(&table, &[1, 2, 3, 2, 3], &[0, 3], &[3, 2]));
+    checks.holds("chunks", table.chunk(1).is_none() && table.chunk(usize::MAX).is_none());
+    Ok(())
+}
+
+/// What stands under a null record is no value.
+pub fn values_under_null_are_not_read(
+    alloc: Global,
+    checks: &mut Checks<'_>,
+) -> Result<(), TableError> {
+    let valid = valid_where(alloc, &[false, true])?;
+    let inner = numbers(alloc, &[1000i32, 7], Validity::NonNullable)?;
+    let inner = records(alloc, "q", inner, valid)?;
+    let table = table_of(alloc, records(alloc, "p", inner, Validity::NonNullable)?)?;
+    let above = gt(alloc, column_at(alloc, &["p", "q"])?, number(100)?)?;
+    let answer = scan(alloc, &table, &above)?;
+    checks.holds("under null: rows", answer.rows.is_empty() && answer.rows_tested == 0);
+    checks.holds("under null: skipped", answer.skipped.as_slice() == [0].as_slice());
+    let above = gt(alloc, column_at(alloc, &["p", "q"])?, number(6)?)?;
+    let answer = scan(alloc, &table, &above)?;
+    checks.holds("beside null", answer.rows.len() == 1 && answer.rows_tested == 2);
+    Ok(())
+}
+
+/// An array of another width is laid out anew where it fits, and refused by its first row that
+/// doesn't; no rows make no chunk.
+pub fn arrays_convert(alloc: Global, checks: &mut Checks<'_>) -> Result<(), TableError> {
+    let dtype = record_of(alloc, "a", integers())?;
+    let mut table = Table::create(alloc, dtype, 16, &[])?;
+    let none = numbers(alloc, &[0i64; 0], Validity::NonNullable)?;
+    table.append_array(records(alloc, "x", none, Validity::NonNullable)?)?;
+    checks.holds("no rows", table.chunk_count() == 0 && table.is_empty());
+    let wide = numbers(alloc, &[1i64, 2], Validity::NonNullable)?;
+    table.append_array(records(alloc, "x", wide, Validity::NonNullable)?)?;
+    checks.holds(
+        "another width",
+        match column_in(&table, 0, 0) {
+            Some(column) => *column.dtype() == integers() && holds(column, &[1, 2]),
+            None => false,
+        },
+    );
+    let wide = numbers(alloc, &[3i64, 2_147_483_648], Validity::NonNullable)?;
+    let far = table.append_array(records(alloc, "x", wide, Validity::NonNullable)?);
+    is_refused(checks, "a number that doesn't fit", far, TableError::NotConvertible(1))?;
+    let bare = table.append_array(numbers(alloc, &[1i32], Validity::NonNullable)?);
+    is_refused(checks, "no records", bare, TableError::NotARecord)?;
+    checks.holds("the table stays", table.chunk_count() == 1 && table.len() == 2);
+    Ok(())
+}
+
+/// Counts a command that is to be refused by this error. Refused memory is handed on.
+fn is_refused(
+    checks: &mut Checks<'_>,
+    name: &str,
+    outcome: Result<(), TableError>,
+    wanted: TableError,
+) -> Result<(), TableError> {
+    if outcome == Err(TableError::Memory) {
+        return outcome;
+    }
+    checks.holds(name, outcome == Err(wanted));
+    Ok(())
+}
+
+/// Appends a row for each number, by this hint.
+fn append_numbers(
+    alloc: Global,
+    table: &mut Table,
+    items: &[i32],
+    hint: Layout,
+) -> Result<(), TableError> {
+    let dtype = record_of(alloc, "a", integers())?;
+    let mut values = Vec::new(alloc);
+    for item in items {
+        values.push(Some(ScalarValue::Tuple(Vec::from_array(alloc, [cell(*item)])?)))?;
+    }
+    table.append_owned(&dtype, values, &[hint])
+}
+
+/// Hints that fit are taken, and one that doesn't gives a plain column.
+pub fn hints_are_taken(alloc: Global, checks: &mut Checks<'_>) -> Result<(), TableError> {
+    let mut table = Table::create(alloc, record_of(alloc, "a", integers())?, 16, &[])?;
+    append_numbers(alloc, &mut table, &[5, 5, 5], Layout::Constant)?;
+    append_numbers(alloc, &mut table, &[5, 6], Layout::Constant)?;
+    append_numbers(alloc, &mut table, &[7, 8, 7], Layout::Dictionary)?;
+    checks.holds(
+        "a constant",
+        match column_in(&table, 0, 0).map(|column| column.layout()) {
+            Some(ArrayLayout::Constant(_, len)) => *len == 3,
+            _ => false,
+        },
+    );
+    checks.holds(
+        "unequal rows are plain",
+        match column_in(&table, 1, 0).map(|column| column.layout()) {
+            Some(ArrayLayout::Primitive(_, _)) => true,
+            _ => false,
+        },
+    );
+    checks.holds(
+        "a dictionary",
+        match column_in(&table, 2, 0).map(|column| column.layout()) {
+            Some(ArrayLayout::Dict(codes, values, _)) => {
+                holds(codes, &[0, 1, 0]) && holds(values, &[7, 8]) && has_codes(codes, PType::U8)
+            }
+            _ => false,
+        },
+    );
+    let answer = scan(alloc, &table, &gt_eq(alloc, column_at(alloc, &["a"])?, number(6)?)?)?;
+    checks.holds("their rows", answer.rows.len() == 4 && answer.rows_tested == 5);
+    checks.holds("the constant is skipped", answer.skipped.as_slice() == [0].as_slice());
+    Ok(())
+}
+
+fn has_codes(codes: &ArrayRef, ptype: PType) -> bool {
+    *codes.dtype() == DType::Primitive(ptype, Nullability::NonNullable)
+}
+
+/// Of its parts each is another text.
+const LETTERS: &str = "abcdefghijklmnopqrstuvwxyz";
+
+/// The first so many different texts, as rows.
+fn different(alloc: Global, n: usize) -> Result<Vec<Option<ScalarValue>>, AllocError> {
+    let mut values = Vec::new(alloc);
+    for start in 0..LETTERS.len() {
+        for end in start + 1..=LETTERS.len() {
+            if values.len() < n {
+                let text = BufferString::from_static(&LETTERS[start..end]);
+                let cells = Vec::from_array(alloc, [Some(ScalarValue::Utf8(text))])?;
+                values.push(Some(ScalarValue::Tuple(cells)))?;
+            }
+        }
+    }
+    Ok(values)
+}
+
+/// 256 different texts have codes of one byte, 257 of two.
+pub fn codes_are_narrow(alloc: Global, checks: &mut Checks<'_>) -> Result<(), TableError> {
+    let dtype = record_of(alloc, "s", DType::Utf8(Nullability::NonNullable))?;
+    let mut table = Table::create(alloc, dtype.clone()?, 16, &[])?;
+    let counts = [(256, PType::U8), (257, PType::U16)];
+    for (number, (n, ptype)) in counts.iter().enumerate() {
+        table.append_owned(&dtype, different(alloc, *n)?, &[Layout::Dictionary])?;
+        let right = match column_in(&table, number, 0).map(|column| column.layout()) {
+            Some(ArrayLayout::Dict(codes, values, _)) => {
+                values.len() == *n && codes.len() == *n && has_codes(codes, *ptype)
+            }
+            _ => false,
+        };
+        checks.holds_at("codes of so many texts", *n, right);
+    }
+    Ok(())
+}
+
+/// What is known of a dictionary comes from the values that its codes name, and nothing else.
+pub fn dictionaries_are_described(
+    alloc: Global,
+    checks: &mut Checks<'_>,
+) -> Result<(), TableError> {
+    let valid = valid_where(alloc, &[true, true, true, false])?;
+    let values = numbers(alloc, &[9i32, 1, 5, 0], valid)?;
+    let codes = numbers(alloc, &[1u8, 2, 1, 3], Validity::NonNullable)?;
+    let array = answered(DictArray::try_new(alloc, codes, values))?.into_array();
+    let table = table_of(alloc, records(alloc, "a", array, Validity::NonNullable)?)?;
+    let all = told(alloc, &table, &["a"], 0)?;
+    checks.holds("a dictionary is described", all == [Some(1), Some(5), Some(1), Some(7), Some(0)]);
+    let above = gt(alloc, column_at(alloc, &["a"])?, number(5)?)?;
+    let answer = scan(alloc, &table, &above)?;
+    checks.holds(
+        "a value that no row has",
+        answer.skipped.len() == 1 && answer.rows_tested == 0 && answer.proofs == 1,
+    );
+    let above = gt(alloc, column_at(alloc, &["a"])?, number(4)?)?;
+    let answer = scan(alloc, &table, &above)?;
+    checks.holds(
+        "a value that one row has",
+        answer.rows.len() == 1 && answer.rows_tested == 4 && answer.proofs == 1,
+    );
+    let values = numbers(alloc, &[4i32, 4], Validity::NonNullable)?;
+    let codes = numbers(alloc, &[0u8, 1], Validity::NonNullable)?;
+    let array = answered(DictArray::try_new(alloc, codes, values))?.into_array();
+    let table = table_of(alloc, records(alloc, "a", array, Validity::NonNullable)?)?;
+    let all = told(alloc, &table, &["a"], 0)?;
+    checks.holds("equal values", all == [Some(4), Some(4), Some(0), Some(8), Some(1)]);
+    Ok(())
+}
+
+/// A constant under a null record is null there.
+pub fn constants_are_described(alloc: Global, checks: &mut Checks<'_>) -> Result<(), TableError> {
+    let six = Scalar::primitive(6i32, Nullability::NonNullable);
+    let inner = ArrayRef::of_constant(alloc, six, 3)?;
+    let inner = records(alloc, "q", inner, valid_where(alloc, &[true, false, true])?)?;
+    let table = table_of(alloc, records(alloc, "p", inner, Validity::NonNullable)?)?;
+    let all = told(alloc, &table, &["p", "q"], 0)?;
+    checks.holds("a constant that is described", all == [Some(6), Some(6), Some(1), Some(12), Some(0)]);
+    Ok(())
+}
