@@ -6,8 +6,9 @@ paths.py [--lines N] [--seed S] [PROGRAM]    PROGRAM is crates/colscan/out/colsc
                                              is given
 
 A line that begins with `{"cmd":"append",` is read token by token, as far as it is of that form:
-into columns where each field is a truth value, an integer or a text, and into rows otherwise. Where
-a cell doesn't fit its column, in the first row or a later one, the line is read by its JSON value.
+into columns where the leaves of its type are truth values, integers and texts and its lists of one
+size are short, and into rows otherwise. Where a cell doesn't fit its column, in the first row or a
+later one, the line is read by its JSON value.
 The same line behind a space says the same, and is read by its JSON value. So each session of random
 appends is run twice, once with a space before each append, and both have to answer alike, byte for
 byte. Before each append stands a `create` of its type, and behind it a scan of all rows.
@@ -43,8 +44,8 @@ ODD = '{} [] [[]] "" {"a":1} null true false nul True " NaN'.split()
 SPOILERS = b'{}[]",:0-+.eE\\u \x00\x1f\x80\xc3\xff'
 
 
-def record(names, *children):
-    return '{"kind":"struct","names":[%s],"children":[%s]}' % (names, ",".join(children))
+def record(names, *children, more=""):
+    return '{"kind":"struct"%s,"names":[%s],"children":[%s]}' % (more, names, ",".join(children))
 
 
 def kind(name, more=""):
@@ -54,7 +55,8 @@ def kind(name, more=""):
 NULLABLE = ',"nullable":true'
 # Types of rows, each with a form of its rows: `i` stands for a number, `s` for a text, `b` for
 # bytes, `t` for a truth value, `n`, `m` and `u` for null or a number, a text or a truth value, `I`
-# for an array of numbers and `S` for one of texts. By the last types a line is refused.
+# for an array of numbers, `S` for one of texts and `R` for one of records of a text and a number or
+# null. What stands in braces may be null. By the last types a line is refused.
 FORMS = [
     (record('"a"', kind("i8")), "[i]"),
     (record('"a"', kind("i64")), "[i]"),
@@ -71,7 +73,28 @@ FORMS = [
     (record('"l"', kind("list", ',"children":[%s]' % kind("i32"))), "[I]"),
     (record('"l"', kind("list", NULLABLE + ',"children":[%s]' % kind("utf8", NULLABLE))), "[S]"),
     (record('"f"', kind("fixed_size_list", ',"size":2,"children":[%s]' % kind("u32"))), "[[i,i]]"),
+    (
+        record('"f"', kind("fixed_size_list", NULLABLE + ',"size":65,"children":[%s]'
+               % kind("bool"))),
+        "[{[%s]}]" % ",".join("t" * 65),
+    ),
     (record('"p","q"', record('"a","b"', kind("i32"), kind("utf8")), kind("bool")), "[[i,s],t]"),
+    (
+        record('"p","q"', record('"a","b"', kind("i32"), kind("utf8", NULLABLE), more=NULLABLE),
+               record('"r"', record('"t"', kind("bool", NULLABLE)))),
+        "[{[i,m]},[[u]]]",
+    ),
+    (
+        record('"l","f"', kind("list", NULLABLE + ',"children":[%s]' % record('"s","i"',
+               kind("utf8"), kind("i64", NULLABLE), more=NULLABLE)),
+               kind("fixed_size_list", NULLABLE + ',"size":2,"children":[%s]' % kind("i16"))),
+        "[R,{[i,i]}]",
+    ),
+    (
+        record('"p"', record('"l","f"', kind("list", ',"children":[%s]' % kind("i8")),
+               kind("fixed_size_list", ',"size":1,"children":[%s]' % kind("bool")), more=NULLABLE)),
+        "[{[I,[t]]}]",
+    ),
     (record(""), "[]"),
     (record('"a","a"', kind("u8"), kind("f32")), "[i,n]"),
     (kind("list", ',"children":[%s]' % kind("i32")), "I"),
@@ -120,11 +143,23 @@ class Lines:
             "u": lambda: self.chance.choice(["true", "false"]),
             "I": lambda: self.items(self.number),
             "S": lambda: self.items(self.text),
+            "R": lambda: self.items(lambda: self.row("{[s,n]}")),
         }[sign]()
 
+    def row(self, form):
+        """A value of this form."""
+        while "{" in form:
+            front, _, rest = form.rpartition("{")
+            inside, _, behind = rest.partition("}")
+            form = front + ("N" if self.one_in(4) else inside) + behind
+        signs = {"N": lambda: "null"}
+        return "".join(
+            signs.get(it, lambda: self.value(it))() if it.isalpha() else it for it in form
+        )
+
     def rows(self, form):
-        row = lambda: "".join(self.value(it) if it.isalpha() else it for it in form)
-        return "[%s]" % ",".join(row() for _ in range(self.chance.randrange(5)))
+        rows = (self.row(form) for _ in range(self.chance.randrange(5)))
+        return "[%s]" % ",".join(rows)
 
     def members(self, dtype, form):
         """Those of an append in another order, doubled, lacking, or with others between them."""

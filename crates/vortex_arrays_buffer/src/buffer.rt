@@ -96,12 +96,18 @@ impl<T: Copy + Drop> Buffer<T> {
         requires { All (λ i. i < length self.now) places.now }
         ensures { IfOk result (λ b. map Some b ≡ map (slice_get self.now) places.now) }
     {
-        let mut items = Vec::with_capacity(alloc, places.len())?;
-        for i in 0..places.len() {
-            items.push(self.get(places[i]))?;
-        }
+        let mine = self.as_slice();
+        let items = places.iter().map(|i| item_at(mine, *i)).collect(alloc)?;
         Buffer::from_vec(items)
     }
+}
+
+/// The item at a place.
+fn item_at<T: Copy + Drop>(items: &[T], i: usize) -> T
+    requires { i < length items.now }
+    ensures { Some result ≡ slice_get items.now i }
+{
+    items[i]
 }
 
 impl<T: Drop> Clone for Buffer<T> {

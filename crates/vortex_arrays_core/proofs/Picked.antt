@@ -1,6 +1,9 @@
 -- What is picked from an array's parts.
-use Rattle.std.proofs.Common.{◌≡◌, ◌<◌, ◌≤◌, ◌+◌, ◌-◌, ◌*◌, ℕ, Bool, true, false, cond, List, [], ℤ, pos, negsuc, length, get_or, slice_range, Option, Some, None, refl, sym, ap, subst, ◌∙◌, arith}
-use Rattle.std.specs.List.{All}
+use Rattle.std.proofs.Common.{◌≡◌, ◌<◌, ◌≤◌, ◌+◌, ◌-◌, ◌*◌, ℕ, Bool, true, false, cond, List, [], ℤ, pos, negsuc, length, map, get_or, slice_range, Option, Some, None, refl, sym, ap, subst, ◌∙◌, arith}
+use Rattle.std.specs.List.{All, zip}
+use Rattle.std.specs.Prelude.{◌&&◌}
+use Rattle.std.proofs.lemmas.List.{length-map, get_or-map}
+use Rattle.std.proofs.lemmas.Slice.Zip.{length-zip, get_or-zip}
 use Rattle.std.proofs.lemmas.Nat.{mul-le}
 use Rattle.vortex_model.specs.LogicalType.{LogicalType, IntKind, integer_type, Nullability, non_nullable, nullable, is_nullable, IsNullable, nullability_of, either_nullable}
 use Rattle.vortex_model.specs.Content.{Content, null, integer}
@@ -9,6 +12,7 @@ use Rattle.vortex_arrays_model.specs.Layout.{Strings, Layout, bools, numbers, st
 use Rattle.vortex_arrays_model.specs.Parts.{AreWithin}
 use Rattle.vortex_arrays_buffer.specs.Places.{IsPlace}
 use Rattle.vortex_arrays_model.specs.Picks.{Picks, PicksValid, PicksSomeValid, position_of, is_valid_some}
+use Rattle.vortex_arrays_model.specs.Column.{IsValidInBoth}
 use Rattle.vortex_arrays_model.proofs.ValidRows.{rows_valid}
 use Rattle.vortex_arrays_model.proofs.PicksLemmas.{picks_all, picks_same, picks_bools, picks_numbers, picks_strings, picks_constant, picks_dictionary, picks_fixed_lists_from, picks_list_views_from, picks_records, get_or-part, length-part, All-part}
 use Rattle.vortex_arrays_model.proofs.SomeLemmas.{picks_some_dictionary}
@@ -117,7 +121,58 @@ taken_by_array v m n f a bs e made many same = subst (λ b. PicksSomeValid v (by
   bits = λ i l. same i l;
 })
 
-pub ruleset rows_taken = (either_first, either_second, not_nullable, taken_required, taken_all_valid, taken_all_null)
+-- numbers as positions are null where their validity says
+told : (b : Bool) (z : ℤ) → b ≡ is_valid_some required (position_of (cond b (integer z) null))
+told true z = refl
+told false z = refl
+
+as_before : (m : Nullability) → m ≡ either_nullable m non_nullable
+as_before non_nullable = refl
+as_before nullable = refl
+
+is_nullable_too : (m : Nullability) → is_nullable m ≡ true → m ≡ either_nullable m nullable
+is_nullable_too non_nullable e = cc
+is_nullable_too nullable e = refl
+
+-- where no row is null, the rows are null whose position is
+pub taken_by_nulls : (c : Layout) (k : IntKind) (xs : List ℤ) (w u : Valid) → c ≡ numbers k xs w → IsSound c → u ≡ w → PicksSomeValid required u (nullability_of (array_type_of c)) (len_of c) (λ i. position_of (content_at c i))
+taken_by_nulls c k xs w u e s d =
+    let h : IsSound (numbers k xs w) = subst IsSound e s in
+    let same : PicksSomeValid required w (nullability_by w) (length xs) (λ i. position_of (content_at (numbers k xs w) i)) = record {
+      fits = h.1;
+      nullability = as_before (nullability_by w);
+      bits = λ i l. told (is_valid w i) (get_or xs i (pos 0));
+    } in
+    subst (λ x. PicksSomeValid required u (nullability_of (array_type_of x)) (len_of x) (λ i. position_of (content_at x i))) (sym e)
+    (subst (λ v. PicksSomeValid required v (nullability_by w) (length xs) (λ i. position_of (content_at (numbers k xs w) i))) (sym d) same)
+
+pub taken_by_nulls_too : (c : Layout) (k : IntKind) (xs : List ℤ) (w u : Valid) → c ≡ numbers k xs w → IsSound c → is_nullable (nullability_of (array_type_of c)) ≡ true → u ≡ w → PicksSomeValid all_valid u (nullability_of (array_type_of c)) (len_of c) (λ i. position_of (content_at c i))
+taken_by_nulls_too c k xs w u e s n d =
+    let h : IsSound (numbers k xs w) = subst IsSound e s in
+    let can : is_nullable (nullability_by w) ≡ true = subst (λ x. is_nullable (nullability_of (array_type_of x)) ≡ true) e n in
+    let same : PicksSomeValid all_valid w (nullability_by w) (length xs) (λ i. position_of (content_at (numbers k xs w) i)) = record {
+      fits = h.1;
+      nullability = is_nullable_too (nullability_by w) can;
+      bits = λ i l. told (is_valid w i) (get_or xs i (pos 0)) ∙ sym (valid_alike (position_of (content_at (numbers k xs w) i)));
+    } in
+    subst (λ x. PicksSomeValid all_valid u (nullability_of (array_type_of x)) (len_of x) (λ i. position_of (content_at x i))) (sym e)
+    (subst (λ v. PicksSomeValid all_valid v (nullability_by w) (length xs) (λ i. position_of (content_at (numbers k xs w) i))) (sym d) same)
+
+pub ruleset rows_taken = (either_first, either_second, not_nullable, taken_required, taken_all_valid, taken_all_null, taken_by_nulls, taken_by_nulls_too)
+
+-- packed bits met
+pub bits_met : (a b r : Layout) (xs ys zs : List Bool) → a ≡ bools xs required → b ≡ bools ys required → length ys ≡ length xs → r ≡ bools zs required → zs ≡ map (λ p. p.0 && p.1) (zip xs ys) → IsValidInBoth (by_array a) (by_array b) (by_array r) (len_of a)
+bits_met a b r xs ys zs e d same made m =
+    let many : length (zip xs ys) ≡ length xs = length-zip xs ys ∙ omega (arith, same) in
+    let met : IsValidInBoth (by_array (bools xs required)) (by_array (bools ys required)) (by_array (bools zs required)) (length xs) = record {
+      fits = (tt, ap length m ∙ length-map (zip xs ys) (λ p. p.0 && p.1) ∙ many, refl);
+      nullability = refl;
+      bits = λ i l. ap (λ z. get_or z i false) m ∙ get_or-map (λ p. p.0 && p.1) (zip xs ys) i (false, false) false (omega (arith, many, l))
+          ∙ ap (λ p. p.0 && p.1) (get_or-zip xs ys i (false, false) l (omega (arith, same, l)));
+    } in
+    subst (λ x. IsValidInBoth (by_array x) (by_array b) (by_array r) (len_of x)) (sym e)
+    (subst (λ y. IsValidInBoth (by_array (bools xs required)) (by_array y) (by_array r) (length xs)) (sym d)
+    (subst (λ z. IsValidInBoth (by_array (bools xs required)) (by_array (bools ys required)) (by_array z) (length xs)) (sym made) met))
 
 code_of_place : (n : ℕ) (z : ℤ) → IsPlace n z → IsCode n (integer z)
 code_of_place n (pos i) h = h

@@ -86,21 +86,20 @@ impl Validity {
             Validity::NonNullable => Ok(Validity::NonNullable),
             Validity::AllValid => Ok(Validity::AllValid),
             Validity::AllInvalid => Ok(Validity::AllInvalid),
-            Validity::Array(bits) => Ok(Validity::Array(gather_booleans(alloc, bits, positions)?)),
+            Validity::Array(bits) => Ok(Validity::Array(truths_at(alloc, bits, positions)?)),
         }
     }
 }
 
 /// Whether true stands at each of the positions.
-fn gather_booleans(
-    alloc: Global,
-    array: &ArrayRef,
-    positions: &[usize],
-) -> Result<ArrayRef, AllocError>
+fn truths_at(alloc: Global, array: &ArrayRef, positions: &[usize]) -> Result<ArrayRef, AllocError>
     requires { All (λ i. i < len_of array.now) positions.now }
     ensures { IfOk result (λ r. PicksValid (by_array array.now) (by_array r) (length positions.now)
         (λ i. slice_index_or positions.now i 0)) }
 {
+    if let ArrayLayout::Bool(bits, Validity::NonNullable) = &array.data.layout {
+        return ArrayRef::of_bools(alloc, bits.gather(alloc, positions)?, Validity::NonNullable);
+    }
     let bits = BitBuffer::collect_bool(alloc, positions.len(), |i| array.truth(positions[i]))?;
     ArrayRef::of_bools(alloc, bits, Validity::NonNullable)
 }
@@ -197,10 +196,7 @@ fn gather_fields(
 fn position_codes(alloc: Global, positions: &[usize]) -> Result<ArrayRef, AllocError>
     ensures { IfOk result (λ codes. codes ≡ numbers u64 (map pos positions.now) required) }
 {
-    let codes = positions
-        .iter()
-        .map(|position| *position as u64)
-        .collect(alloc)?;
+    let codes = positions.iter().map(|i| *i as u64).collect(alloc)?;
     let codes = PrimitiveBuffer::U64(Buffer::from_vec(codes)?);
     ArrayRef::of_numbers(alloc, codes, Validity::NonNullable)
 }

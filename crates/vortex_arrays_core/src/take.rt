@@ -104,10 +104,15 @@ impl Validity {
             (nullability_of (array_type_of indices.now)) (len_of indices.now)
             (λ i. position_of (content_at indices.now i))) }
     {
-        if indices.dtype().is_nullable() {
-            return self.array_at(alloc, indices, len);
-        }
         indices.is_sound();
+        if indices.dtype().is_nullable() {
+            return match (self, &indices.data.layout) {
+                (Validity::AllInvalid, _) => Ok(Validity::AllInvalid),
+                (Validity::NonNullable, ArrayLayout::Primitive(_, nulls)) => Ok(nulls.clone()?),
+                (Validity::AllValid, ArrayLayout::Primitive(_, nulls)) => Ok(nulls.clone()?),
+                _ => self.array_at(alloc, indices, len),
+            };
+        }
         match self {
             Validity::NonNullable => Ok(Validity::NonNullable),
             Validity::AllValid => Ok(Validity::AllValid),

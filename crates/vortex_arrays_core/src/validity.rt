@@ -6,7 +6,7 @@ ghost use Rattle.vortex_arrays_model.specs.Column.{IsValidInBoth};
 ghost use Rattle.vortex_arrays_core.specs.LayoutOf.{valid_of};
 ghost use Rattle.vortex_arrays_core.specs.Faults.{IsValidityFault};
 
-use crate::array::{ArrayRef, Validity};
+use crate::array::{ArrayLayout, ArrayRef, Validity};
 use std::alloc::{AllocError, Global};
 use vortex_arrays_buffer::BitBuffer;
 use vortex_arrays_view::error::ArrayError;
@@ -59,14 +59,8 @@ impl Validity {
             (valid_of both) len) }
     {
         match (self, other) {
-            (Validity::NonNullable, _) => {
-                let both = other.clone()?;
-                Ok(both)
-            }
-            (_, Validity::NonNullable) => {
-                let both = self.clone()?;
-                Ok(both)
-            }
+            (Validity::NonNullable, _) => Ok(other.clone()?),
+            (_, Validity::NonNullable) => Ok(self.clone()?),
             (Validity::AllInvalid, _) => Ok(Validity::AllInvalid),
             (_, Validity::AllInvalid) => Ok(Validity::AllInvalid),
             (Validity::AllValid, Validity::AllValid) => Ok(Validity::AllValid),
@@ -99,6 +93,11 @@ fn true_in_both(alloc: Global, mine: &ArrayRef, theirs: &ArrayRef) -> Result<Arr
     ensures { IfOk result (λ both. IsValidInBoth (by_array mine.now) (by_array theirs.now)
         (by_array both) (len_of mine.now)) }
 {
+    if let ArrayLayout::Bool(ours, Validity::NonNullable) = &mine.data.layout {
+        if let ArrayLayout::Bool(others, Validity::NonNullable) = &theirs.data.layout {
+            return ArrayRef::of_bools(alloc, ours.and(alloc, others)?, Validity::NonNullable);
+        }
+    }
     let bits = BitBuffer::collect_bool(alloc, mine.len(), |i| mine.truth(i) && theirs.truth(i))?;
     ArrayRef::of_bools(alloc, bits, Validity::NonNullable)
 }

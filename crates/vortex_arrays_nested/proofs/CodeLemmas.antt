@@ -1,11 +1,10 @@
 -- Codes one after the other.
-use Rattle.std.proofs.Common.{◌≡◌, ◌<◌, ◌≤◌, ◌+◌, ◌↔◌, ℕ, Bool, true, false, IsTrue, List, length, inl, inr, sym, subst, arith}
+use Rattle.std.proofs.Common.{◌≡◌, ◌<◌, ◌↔◌, Bool, true, false, IsTrue, List, length, sym, subst}
 use Rattle.std.specs.List.{All}
-use Rattle.std.proofs.lemmas.Bool.{cases_eq}
 use Rattle.std.proofs.lemmas.List.Elements.{All-get_or, All-from_get_or}
 use Rattle.vortex_arrays_view.specs.declared.error.ArrayError.{ArrayError}
 use Rattle.vortex_arrays_view.specs.declared.error.ArrayError.TheVariants.{Memory}
-use Rattle.vortex_arrays_model.specs.Layout.{Layout, dictionary, len_of, array_type_of, content_at, IsInteger, IsCode, IsSound, AllReferenced}
+use Rattle.vortex_arrays_model.specs.Layout.{Layout, dictionary, len_of, array_type_of, IsInteger, IsSound, AllReferenced}
 use Rattle.vortex_arrays_model.specs.Referenced.{MarksReferenced}
 use Rattle.vortex_arrays_model.proofs.ReferencedLemmas.{all_marked, all_referenced}
 use Rattle.vortex_arrays_nested.specs.Faults.{IsCodesFault, IsDictFault}
@@ -16,29 +15,6 @@ use Rattle.vortex_arrays_nested.specs.Shapes.{codes_in, values_in}
 pub dict_fault : (e : ArrayError) (c v : Layout) → IsCodesFault e c v → IsDictFault e c v
 dict_fault Memory c v h = tt
 dict_fault e c v h = h
-
--- the first n codes are null or below m
-pub record AreCodes (c : Layout) (n m : ℕ) : Type 0 where
-  pub code : (i : ℕ) → i < n → IsCode m (content_at c i)
-
-pub codes_none : (c : Layout) (m : ℕ) → AreCodes c 0 m
-codes_none c m = record { code = λ i l. absurd (omega arith) }
-
-pub codes_more : (c : Layout) (n m : ℕ) → AreCodes c n m → IsCode m (content_at c n) → AreCodes c (n + 1) m
-codes_more c n m h k = record {
-  code = λ i l. elim (cases_eq i n) [
-    | inl e ↦ subst (λ j. IsCode m (content_at c j)) (sym e) k
-    | inr o ↦ h.code i (omega arith)
-  ];
-}
-
-pub codes_all : (c : Layout) (n m : ℕ) → len_of c ≤ n → AreCodes c n m → AreWithin c m
-codes_all c n m e h = λ i l. h.code i (omega arith)
-
-pub codes_not : (c : Layout) (i m : ℕ) → i < len_of c → (IsCode m (content_at c i) → ⊥) → AreWithin c m → ⊥
-codes_not c i m l other h = other (h i l)
-
-pub ruleset codes = (codes_none, codes_more, codes_all, codes_not)
 
 -- a dictionary whose flag is false says nothing of which values are named
 pub unflagged : (c v : Layout) → IsSound c → IsSound v → IsInteger (array_type_of c) → AreWithin c (len_of v) → IsSound (dictionary c v false)

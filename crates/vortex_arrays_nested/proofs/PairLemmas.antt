@@ -14,7 +14,7 @@ offset_numbers k xs all_null h = absurd h
 offset_numbers k xs (by_array a) h = absurd h
 
 -- offsets that are numbers are never null
-not_null : (o : Layout) (k : IntKind) (xs : List ℤ) (v : Valid) → IsOffsets (array_type_of o) → numbers k xs v ≡ o → numbers k xs required ≡ o
+pub not_null : (o : Layout) (k : IntKind) (xs : List ℤ) (v : Valid) → IsOffsets (array_type_of o) → numbers k xs v ≡ o → numbers k xs required ≡ o
 not_null o k xs v h e = ap (λ u. numbers k xs u) (sym (offset_numbers k xs v (subst (λ x. IsOffsets (array_type_of x)) (sym e) h))) ∙ e
 
 pub by_numbers : (n : ℕ) (o s : Layout) (k j : IntKind) (xs ys : List ℤ) (v w : Valid) (b : Bool) → IsOffsets (array_type_of o) → IsOffsets (array_type_of s) → numbers k xs v ≡ o → numbers j ys w ≡ s → (IsTrue b ↔ AllLieWithin n xs ys) → (IsTrue b ↔ LieWithin n o s)

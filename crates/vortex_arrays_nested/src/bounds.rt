@@ -4,16 +4,35 @@ ghost use Rattle.vortex_arrays_model.specs.Layout.{len_of, array_type_of, number
 ghost use Rattle.vortex_arrays_model.specs.Trimmed.{AreBounds};
 ghost use Rattle.vortex_arrays_nested.specs.ListViews.{LieWithin};
 
-use vortex_arrays_core::array::ArrayRef;
+use crate::reach::{numbers_bounds, numbers_total};
+use vortex_arrays_core::array::{ArrayLayout, ArrayRef};
 use vortex_arrays_core::scalar::view_at;
 
 /// The least offset and the greatest end of the lists, which lie within so many elements.
-#[tactic(auto, using(crate::proofs::BoundsLemmas::bounds))]
 pub(crate) fn element_bounds(
     offsets: &ArrayRef,
     sizes: &ArrayRef,
     count: usize,
 ) -> Option<(usize, usize)>
+    requires offsets { IsOffsets (array_type_of offsets.now) }
+    requires sizes { IsOffsets (array_type_of sizes.now) }
+    requires many { len_of sizes.now ≡ len_of offsets.now }
+    requires views { LieWithin count offsets.now sizes.now }
+    ensures bounds { MatchOption result (len_of offsets.now ≡ 0)
+        (λ b. AreBounds offsets.now sizes.now b.0 b.1) }
+    ensures within { IfSome result (λ b. b.1 ≤ count) }
+{
+    if let ArrayLayout::Primitive(mine, _) = offsets.layout() {
+        if let ArrayLayout::Primitive(theirs, _) = sizes.layout() {
+            return numbers_bounds(mine, theirs, count);
+        }
+    }
+    rows_bounds(offsets, sizes, count)
+}
+
+/// The least offset and the greatest end, of arrays of any layout, row by row.
+#[tactic(auto, using(crate::proofs::BoundsLemmas::bounds))]
+fn rows_bounds(offsets: &ArrayRef, sizes: &ArrayRef, count: usize) -> Option<(usize, usize)>
     requires offsets { IsOffsets (array_type_of offsets.now) }
     requires sizes { IsOffsets (array_type_of sizes.now) }
     requires many { len_of sizes.now ≡ len_of offsets.now }
@@ -37,8 +56,22 @@ pub(crate) fn element_bounds(
 }
 
 /// How many elements the lists have together, and the greatest number where they have more.
-#[tactic(auto, using(crate::proofs::BoundsLemmas::more_elements))]
 pub(crate) fn total_size(offsets: &ArrayRef, sizes: &ArrayRef, count: usize) -> usize
+    requires offsets { IsOffsets (array_type_of offsets.now) }
+    requires sizes { IsOffsets (array_type_of sizes.now) }
+    requires many { len_of sizes.now ≡ len_of offsets.now }
+    requires views { LieWithin count offsets.now sizes.now }
+    ensures { result ≡ min (sum_by number_in (rows_of sizes.now)) (2 ^ 64 - 1) }
+{
+    match sizes.layout() {
+        ArrayLayout::Primitive(items, _) => numbers_total(items),
+        _ => rows_total(offsets, sizes, count),
+    }
+}
+
+/// How many elements the lists have together, of arrays of any layout, row by row.
+#[tactic(auto, using(crate::proofs::BoundsLemmas::more_elements))]
+fn rows_total(offsets: &ArrayRef, sizes: &ArrayRef, count: usize) -> usize
     requires offsets { IsOffsets (array_type_of offsets.now) }
     requires sizes { IsOffsets (array_type_of sizes.now) }
     requires many { len_of sizes.now ≡ len_of offsets.now }

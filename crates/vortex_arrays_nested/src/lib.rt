@@ -7,5 +7,6 @@ pub mod dict_array;
 pub mod fixed_size_list;
 pub mod list_view;
 mod pairs;
+mod reach;
 pub mod referenced;
 mod views;

@@ -1,11 +1,12 @@
 -- The items of runs.
-use Rattle.std.proofs.Common.{◌≡◌, ◌<◌, ◌≤◌, ◌+◌, ◌-◌, ℕ, zero, suc, pos, List, [], ◌∷◌, ◌++◌, length, take, drop, map, get_or, refl, sym, ap, ◌∙◌, append_assoc, drop-cons, arith}
+use Rattle.std.proofs.Common.{◌≡◌, ◌<◌, ◌≤◌, ◌+◌, ◌-◌, ℕ, zero, suc, pos, Bool, false, List, [], ◌∷◌, ◌++◌, length, take, drop, map, get_or, set, replicate, refl, sym, ap, ◌∙◌, append_assoc, drop-cons, arith}
 use Rattle.std.specs.List.{range_with_len}
-use Rattle.std.proofs.lemmas.List.{append-nil, take_more, take_all, map-append, take-map, drop-map, length-map, length-drop, get_or-drop}
+use Rattle.std.proofs.lemmas.List.{append-nil, take_more, take_more_set, take_all, take-append-drop, map-append, take-map, drop-map, length-map, length-drop, length-append, length-set, length-replicate, get_or-drop}
 use Rattle.std.proofs.lemmas.List.Concat.{flat_map-append}
 use Rattle.vortex_arrays_rebuild.specs.declared.runs.Run.{Run}
 use Rattle.vortex_arrays_rebuild.specs.Runs.{positions_of, positions_in, items_of_run, items_in, FitWithin}
-use Rattle.vortex_arrays_rebuild.proofs.CopyLemmas.{run_within}
+use Rattle.vortex_arrays_rebuild.proofs.CopyLemmas.{run_within, positions_more}
+use Rattle.vortex_arrays_rebuild.proofs.RunLemmas.{length_added}
 
 -- one run more is copied
 pub items_pushed : {A : Type 0} (xs ys zs : List A) (runs : List Run) (i : ℕ) (r : Run) → ys ≡ items_in xs (take i runs) → i < length runs → r ≡ get_or runs i r → zs ≡ ys ++ items_of_run xs r → zs ≡ items_in xs (take (i + 1) runs)
@@ -24,8 +25,6 @@ pub items_all : {A : Type 0} (xs : List A) (runs : List Run) (n : ℕ) → lengt
 items_all xs runs n h = ap (items_in xs) (take_all n runs h)
 
 pub ruleset copied = (items_more, items_all, run_within)
-
-pub ruleset gathered = (items_pushed, items_all, run_within)
 
 -- ---- the items at the positions
 
@@ -59,13 +58,65 @@ naturals_many xs = length-map xs pos
 
 pub ruleset naturals = (naturals_copied, naturals_many)
 
--- ---- bits, one after the other
+-- ---- bits, written where they are to stand
 
--- one item more of a run
-pub item_more : {A : Type 0} (xs ys zs os : List A) (x d : A) (at n : ℕ) → ys ≡ os ++ take n (drop at xs) → at + n < length xs → x ≡ get_or xs (at + n) d → zs ≡ ys ++ x ∷ [] → zs ≡ os ++ take (n + 1) (drop at xs)
-item_more xs ys zs os x d at n h l e more =
-    let inside : n < length (drop at xs) = omega (arith, length-drop at xs) in
-    let there : get_or (drop at xs) n d ≡ x = get_or-drop at xs n d ∙ sym e in
-    more ∙ ap (λ t. t ++ x ∷ []) h ∙ append_assoc os (take n (drop at xs)) (x ∷ []) ∙ ap (λ t. os ++ t) (sym (take_more (drop at xs) n d inside ∙ ap (λ y. take n (drop at xs) ++ y ∷ []) there))
+-- the first n bits of a run are written from a place on
+pub record Put (old xs now : List Bool) (at from n : ℕ) : Type 0 where
+  pub front : take (at + n) now ≡ take at old ++ take n (drop from xs)
+  pub same : length now ≡ length old
 
-pub ruleset added = (item_more)
+pub put_none : (old xs : List Bool) (at from : ℕ) → Put old xs old at from 0
+put_none old xs at from =
+    let none : at + 0 ≡ at = omega arith in
+    record { front = ap (λ k. take k old) none ∙ sym (append-nil (take at old)); same = refl }
+
+pub put_more : (old xs now : List Bool) (at from n m : ℕ) (x : Bool) → at + m ≤ length old → n < m → from + m ≤ length xs → x ≡ get_or xs (from + n) false → Put old xs now at from n → Put old xs (set now (at + n) x) at from (n + 1)
+put_more old xs now at from n m x room l fits e p =
+    let next : at + (n + 1) ≡ at + n + 1 = omega arith in
+    let inside : n < length (drop from xs) = omega (arith, length-drop from xs) in
+    let place : at + n < length now = omega (arith, p.same) in
+    let there : get_or (drop from xs) n false ≡ x = get_or-drop from xs n false ∙ sym e in
+    record {
+      front = ap (λ k. take k (set now (at + n) x)) next ∙ take_more_set now (at + n) x place
+          ∙ ap (λ ys. ys ++ x ∷ []) p.front ∙ append_assoc (take at old) (take n (drop from xs)) (x ∷ [])
+          ∙ ap (λ ys. take at old ++ ys) (sym (take_more (drop from xs) n false inside ∙ ap (λ y. take n (drop from xs) ++ y ∷ []) there));
+      same = length-set now (at + n) x ∙ p.same;
+    }
+
+pub put_all : (old xs now : List Bool) (at from n m : ℕ) → n ≡ m → Put old xs now at from n → take (at + m) now ≡ take at old ++ take m (drop from xs)
+put_all old xs now at from n m e p = ap (λ k. take (at + k) now) (sym e) ∙ p.front ∙ ap (λ k. take at old ++ take k (drop from xs)) e
+
+-- the bits of the first i runs are written before a place
+pub record Written (xs now : List Bool) (runs : List Run) (i next : ℕ) : Type 0 where
+  pub front : take next now ≡ items_in xs (take i runs)
+  pub counted : next ≡ length (positions_in (take i runs))
+  pub same : length now ≡ length (positions_in runs)
+
+pub written_none : (xs : List Bool) (runs : List Run) (n : ℕ) → n ≡ length (positions_in runs) → Written xs (replicate n false) runs 0 0
+written_none xs runs n e = record { front = refl; counted = refl; same = length-replicate n false ∙ e }
+
+counted_more : (runs : List Run) (i next : ℕ) (r : Run) → i < length runs → r ≡ get_or runs i r → next ≡ length (positions_in (take i runs)) → next + r.len ≡ length (positions_in (take (i + 1) runs))
+counted_more runs i next r l e h = ap (λ n. n + r.len) h ∙ sym (ap length (positions_more runs i r l e) ∙ length_added (positions_in (take i runs)) r.start r.len)
+
+pub written_more : (xs old now : List Bool) (runs : List Run) (i next : ℕ) (r : Run) → i < length runs → r ≡ get_or runs i r → take (next + r.len) now ≡ take next old ++ items_of_run xs r → length now ≡ length old → Written xs old runs i next → Written xs now runs (i + 1) (next + r.len)
+written_more xs old now runs i next r l e front same w = record {
+  front = items_pushed xs (take next old) (take (next + r.len) now) runs i r w.front l e front;
+  counted = counted_more runs i next r l e w.counted;
+  same = same ∙ w.same;
+}
+
+-- there is room for one run more
+pub room_left : (xs now : List Bool) (runs : List Run) (i next : ℕ) (r : Run) → i < length runs → r ≡ get_or runs i r → Written xs now runs i next → next + r.len ≤ length now
+room_left xs now runs i next r l e w =
+    let more = counted_more runs i next r l e w.counted in
+    let whole : length (positions_in runs) ≡ length (positions_in (take (i + 1) runs)) + length (positions_in (drop (i + 1) runs)) =
+    ap (λ rs. length (positions_in rs)) (sym (take-append-drop (i + 1) runs)) ∙ ap length (flat_map-append positions_of (take (i + 1) runs) (drop (i + 1) runs)) ∙ length-append (positions_in (take (i + 1) runs)) (positions_in (drop (i + 1) runs)) in
+    omega (arith, more, whole, w.same)
+
+pub written_all : (xs now : List Bool) (runs : List Run) (i next : ℕ) → length runs ≤ i → Written xs now runs i next → now ≡ items_in xs runs
+written_all xs now runs i next h w =
+    let all = ap (λ rs. length (positions_in rs)) (take_all i runs h) in
+    let full : length now ≤ next = omega (arith, w.same, w.counted, all) in
+    sym (take_all next now full) ∙ w.front ∙ ap (items_in xs) (take_all i runs h)
+
+pub ruleset written = (written_none, written_more, written_all, run_within)

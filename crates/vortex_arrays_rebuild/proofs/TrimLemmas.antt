@@ -1,8 +1,9 @@
 -- A view with some of its elements.
-use Rattle.std.proofs.Common.{◌≡◌, ◌<◌, ◌≤◌, ◌+◌, ◌-◌, ◌≤ℤ◌, ℕ, ℤ, suc, pos, Bool, true, List, [], ◌∷◌, ◌++◌, length, map, take, get_or, Option, Some, None, refl, sym, ap, subst, ◌∙◌, arith}
-use Rattle.std.specs.List.{All}
+use Rattle.std.proofs.Common.{◌≡◌, ◌<◌, ◌≤◌, ◌+◌, ◌-◌, ◌≤ℤ◌, ℕ, ℤ, suc, pos, Bool, true, List, length, map, get_or, Option, Some, None, refl, sym, ap, subst, ◌∙◌, arith}
+use Rattle.std.specs.List.{All, range_with_len}
 use Rattle.std.proofs.lemmas.Int.{ints}
-use Rattle.std.proofs.lemmas.List.{length-map, get_or-map, map-append, take_more, take_all}
+use Rattle.std.proofs.lemmas.List.{length-map, get_or-map}
+use Rattle.std.proofs.lemmas.List.FromFn.{fill_by_all}
 use Rattle.std.proofs.lemmas.List.Elements.{All-from_get_or}
 use Rattle.vortex_model.specs.LogicalType.{LogicalType, integer_type, non_nullable, IntKind, u8, u16, u32, u64, i8, i16, i32, i64}
 use Rattle.vortex_model.specs.Content.{Content, integer}
@@ -181,16 +182,14 @@ pub ruleset tested = (tested_in)
 pub lowered_held : (k : IntKind) (xs : List ℕ) (by i : ℕ) → All (HasNatural (integral k)) xs → i < length xs → HasNatural (integral k) (get_or xs i 0 - by)
 lowered_held k xs by i h l = lower_held k (get_or xs i 0) (get_or xs i 0 - by) (h i 0 l) (omega arith)
 
--- one number more
-pub lowered_more : {X : Type 0} (number : X → ℤ) (ys : List X) (xs : List ℕ) (by i : ℕ) (y : X) → map number ys ≡ map (λ x. pos (x - by)) (take i xs) → i < length xs → number y ≡ pos (get_or xs i 0 - by) → map number (ys ++ y ∷ []) ≡ map (λ x. pos (x - by)) (take (i + 1) xs)
-lowered_more number ys xs by i y h l e =
-    map-append number ys (y ∷ []) ∙ (λ j. h j ++ e j ∷ []) ∙ sym (map-append (λ x. pos (x - by)) (take i xs) (get_or xs i 0 ∷ []))
-    ∙ ap (map (λ x. pos (x - by))) (sym (take_more xs i 0 l))
+-- the numbers by their places
+pub lowered_by_place : (xs : List ℕ) (by : ℕ) → map (λ x. pos (x - by)) xs ≡ map (λ i. pos (get_or xs i 0 - by)) (range_with_len 0 (length xs))
+lowered_by_place xs by = fill_by_all (λ i. pos (get_or xs i 0 - by)) (map (λ x. pos (x - by)) xs) (length xs) (pos 0) (length-map xs (λ x. pos (x - by))) (λ i l. get_or-map (λ x. pos (x - by)) xs i 0 (pos 0) l)
 
 -- all numbers
-pub lowered_all : {X : Type 0} (number : X → ℤ) (k j : IntKind) (zs : List ℤ) (b ys : List X) (xs : List ℕ) (by i : ℕ) (a r : Layout) → r ≡ a → a ≡ numbers j zs required → IsSound a → j ≡ k → zs ≡ map number b → b ≡ ys → map number ys ≡ map (λ x. pos (x - by)) (take i xs) → length xs ≤ i → HasLowered (integral k) xs by r
-lowered_all number k j zs b ys xs by i a r e m s p q u h l =
-    let all : zs ≡ map (λ x. pos (x - by)) xs = q ∙ ap (map number) u ∙ h ∙ ap (map (λ x. pos (x - by))) (take_all i xs l) in
+pub lowered_all : {X : Type 0} (number : X → ℤ) (k j : IntKind) (zs : List ℤ) (b ys : List X) (xs : List ℕ) (by : ℕ) (a r : Layout) → r ≡ a → a ≡ numbers j zs required → IsSound a → j ≡ k → zs ≡ map number b → b ≡ ys → map number ys ≡ map (λ x. pos (x - by)) xs → HasLowered (integral k) xs by r
+lowered_all number k j zs b ys xs by a r e m s p q u h =
+    let all : zs ≡ map (λ x. pos (x - by)) xs = q ∙ ap (map number) u ∙ h in
     (subst IsSound (sym e) s, e ∙ m ∙ (λ t. numbers (p t) (all t) required))
 
-pub ruleset lowering = (lowered_held, lowered_more, only_memory)
+pub ruleset lowering = (lowered_held, only_memory)

@@ -1,5 +1,5 @@
 //! The items of runs, copied range after range.
-ghost use Rattle.std.specs.Prelude.{◌≡◌, ◌++◌, length, IfOk, OnOk};
+ghost use Rattle.std.specs.Prelude.{◌≡◌, ◌≤◌, ◌+◌, ◌++◌, length, take, IfOk};
 ghost use Rattle.vortex_arrays_buffer.specs.PrimitiveBuffers.{integers_of, kind_of_numbers};
 ghost use Rattle.vortex_arrays_rebuild.specs.Runs.{items_in, items_of_run, LiesWithin};
 
@@ -69,7 +69,7 @@ pub(crate) fn copy_numbers(
 }
 
 /// The bits of the runs.
-#[tactic(auto, using(crate::proofs::ItemLemmas::gathered))]
+#[tactic(auto, using(crate::proofs::ItemLemmas::written))]
 pub(crate) fn copy_bits(
     alloc: Global,
     bits: &BitBuffer,
@@ -78,23 +78,26 @@ pub(crate) fn copy_bits(
     requires { runs.now.limit ≡ length bits.now }
     ensures { IfOk result (λ copied. copied ≡ items_in bits.now runs.now.list.items) }
 {
-    let mut copied: Vec<bool> = Vec::with_capacity(alloc, runs.len)?;
+    let mut copied = vec![in alloc; false; runs.len]?;
+    let mut next = 0;
     for i in 0..runs.list.len() {
-        push_bits(&mut copied, bits, runs.list[i])?;
+        let run = runs.list[i];
+        put_bits(&mut copied, next, bits, run);
+        next += run.len;
     }
     BitBuffer::from_bools(alloc, &copied)
 }
 
-// Adds the bits of a run.
-#[tactic(auto, using(crate::proofs::ItemLemmas::added))]
-fn push_bits(copied: &mut Vec<bool>, bits: &BitBuffer, run: Run) -> Result<(), AllocError>
-    requires { LiesWithin (length bits.now) run }
-    ensures { OnOk result
-        (copied.new.items ≡ copied.old.items ++ items_of_run bits.now run) }
+// Writes the bits of a run from a place on.
+fn put_bits(copied: &mut Vec<bool>, at: usize, bits: &BitBuffer, run: Run)
+    requires room { at + run.len ≤ length copied.old.items }
+    requires within { LiesWithin (length bits.now) run }
+    ensures front { take (at + run.len) copied.new.items
+        ≡ take at copied.old.items ++ items_of_run bits.now run }
+    ensures same { length copied.new.items ≡ length copied.old.items }
 {
     let _count = bits.len();
     for j in 0..run.len {
-        copied.push(bits.value(run.start + j))?;
+        copied[at + j] = bits.value(run.start + j);
     }
-    Ok(())
 }

@@ -54,11 +54,7 @@ fn naturals_in(alloc: Global, numbers: &PrimitiveBuffer) -> Result<Vec<usize>, A
 fn naturals_of<T: NativePType>(alloc: Global, items: &[T]) -> Result<Vec<usize>, AllocError>
     ensures { IfOk result (λ indices. indices.items ≡ map natural (map T.integer items.now)) }
 {
-    let mut indices = Vec::with_capacity(alloc, items.len())?;
-    for item in items {
-        indices.push(natural_of(*item))?;
-    }
-    Ok(indices)
+    items.iter().map(|item| natural_of(*item)).collect(alloc)
 }
 
 // The number, and 0 in place of one below it.

@@ -1,5 +1,5 @@
 //! List views without the elements that lie before or behind all lists.
-ghost use Rattle.std.specs.Prelude.{◌≡◌, pos, IfOk, IfErr, IsTrue, All};
+ghost use Rattle.std.specs.Prelude.{◌≡◌, ◌<◌, ◌-◌, pos, length, map, slice_index_or, IfOk, IfErr, IsTrue, All};
 ghost use Rattle.vortex_dtype_ptype.specs.Numbers.{integral, is_integral};
 ghost use Rattle.vortex_dtype_ptype.specs.View.{number_kind_of};
 ghost use Rattle.vortex_arrays_view.specs.declared.error.ArrayError.TheVariants.{Memory};
@@ -16,7 +16,7 @@ ghost use Rattle.vortex_arrays_rebuild.specs.Trims.{
 };
 
 use crate::read::read_indices;
-use std::alloc::Global;
+use std::alloc::{AllocError, Global};
 use vortex_arrays_buffer::buffer::Buffer;
 use vortex_arrays_buffer::element::Element;
 use vortex_arrays_buffer::primitive_buffer::PrimitiveBuffer;
@@ -135,13 +135,31 @@ fn lower<T: Element>(alloc: Global, starts: &[usize], by: usize) -> Result<Array
     ensures made { IfOk result (λ r. HasLowered (integral T.kind) starts.now by r) }
     ensures refused { IfErr result (λ e. e ≡ Memory) }
 {
-    let mut lowered: Vec<T> = Vec::with_capacity(alloc, starts.len())?;
-    for i in 0..starts.len() {
-        lowered.push(number_of(starts[i].saturating_sub(by)))?;
-    }
+    let lowered: Vec<T> = lower_each(alloc, starts, by)?;
     let items = PrimitiveBuffer::from_buffer(Buffer::from_vec(lowered)?);
     let array = PrimitiveArray::try_new(alloc, items, Validity::NonNullable)?;
     Ok(array.into_array())
+}
+
+// The numbers as those of a native type, each lowered.
+fn lower_each<T: Element>(alloc: Global, starts: &[usize], by: usize) -> Result<Vec<T>, AllocError>
+    requires { All (HasNatural (integral T.kind)) starts.now }
+    ensures { IfOk result (λ lowered. map T.integer lowered.items
+        ≡ map (λ x. pos (x - by)) starts.now) }
+{
+    (0..starts.len())
+        .map(|i| lowered_at(starts, i, by))
+        .collect(alloc)
+}
+
+// The number at a place, lowered.
+#[tactic(auto, using(crate::proofs::TrimLemmas::lowering))]
+fn lowered_at<T: Element>(starts: &[usize], i: usize, by: usize) -> T
+    requires place { i < length starts.now }
+    requires held { All (HasNatural (integral T.kind)) starts.now }
+    ensures { T.integer result ≡ pos (slice_index_or starts.now i 0 - by) }
+{
+    number_of(starts[i].saturating_sub(by))
 }
 
 // A number that the kind has.

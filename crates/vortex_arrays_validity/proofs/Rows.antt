@@ -1,6 +1,7 @@
 -- Rows as bits.
 use Rattle.std.proofs.Common.{◌≡◌, ◌<◌, ◌+◌, ◌∙◌, ◌↔◌, ◌++◌, ℕ, List, [], ◌∷◌, Bool, true, false, not, length, map, replicate, All, ◌||◌, slice_index_or, IsTrue, refl, sym, ap, subst, arith}
 use Rattle.std.proofs.lemmas.List.{length-replicate, get_or-replicate, length-map, get_or-map}
+use Rattle.std.proofs.lemmas.List.Elements.{All-from_get_or}
 use Rattle.std.proofs.lemmas.List.FromFn.{fill_by_all, get_or-map-range_with_len, length-map-range_with_len, map-range_with_len_more}
 use Rattle.vortex_model.specs.LogicalType.{boolean_type, nullable, non_nullable, either_nullable, is_nullable, Nullability}
 use Rattle.vortex_model.specs.Content.{Content, boolean}
@@ -89,6 +90,14 @@ one_more v n = map-range_with_len_more (is_valid v) 0 n n (omega arith)
 pub counted : (a : Layout) (n : ℕ) (b : Bool) → HasLength (by_array a) n →
     (IsTrue b ↔ NoneNull (by_array a) (len_of a)) → IsTrue b ↔ NoneNull (by_array a) n
 counted a n b h e = subst (λ m. IsTrue b ↔ NoneNull (by_array a) m) h.1 e
+
+-- packed bits that are all true
+pub all_packed : (a : Layout) (bits : List Bool) (b : Bool) → a ≡ bools bits required →
+    (IsTrue b ↔ All (λ x. x ≡ true) bits) → IsTrue b ↔ NoneNull (by_array a) (len_of a)
+all_packed a bits b e h = subst (λ x. IsTrue b ↔ NoneNull (by_array x) (len_of x)) (sym e) (
+  λ t. λ i l. h.0 t i false l,
+  λ none. h.1 (All-from_get_or (λ x. x ≡ true) bits false (λ i l. none i l)),
+)
 
 -- an array of its bits says the same
 pub executed : (a : Layout) (n : ℕ) (bits : List Bool) (w : Valid) → HasLength (by_array a) n →

@@ -1,5 +1,5 @@
 //! Arrays of truth values without null, read and made as packed bits.
-ghost use Rattle.std.specs.Prelude.{◌≡◌, ◌<◌, ◌↔◌, ℕ, length, IsTrue, IfOk};
+ghost use Rattle.std.specs.Prelude.{◌≡◌, ◌<◌, ◌↔◌, ℕ, true, length, All, IsTrue, IfOk};
 ghost use Rattle.vortex_model.specs.LogicalType.{nullable};
 ghost use Rattle.vortex_arrays_model.specs.Layout.{bools, required, by_array, len_of, nullability_by, is_valid, HasLength};
 ghost use Rattle.vortex_arrays_core.specs.LayoutOf.{valid_of};
@@ -50,8 +50,28 @@ fn collected(alloc: Global, rows: &ArrayRef) -> Result<BitBuffer, AllocError>
     Ok(bits)
 }
 
-/// Whether each row is true, of an array of truth values without null.
+/// Whether each row is true, of an array of truth values without null. Packed bits are counted.
 pub fn are_true(rows: &ArrayRef) -> bool
+    ensures { IsTrue result ↔ NoneNull (by_array rows.now) (len_of rows.now) }
+{
+    if let ArrayLayout::Bool(bits, validity) = rows.layout() {
+        if let Validity::NonNullable = validity {
+            return are_all_set(bits);
+        }
+    }
+    is_each_true(rows)
+}
+
+/// Whether each bit is true.
+#[tactic(auto, using(vortex_arrays_buffer::proofs::Positions::kept))]
+fn are_all_set(bits: &BitBuffer) -> bool
+    ensures { IsTrue result ↔ All (λ b. b ≡ true) bits.now }
+{
+    bits.true_count() == bits.len()
+}
+
+/// Whether each row is true, of an array of any layout, row by row.
+fn is_each_true(rows: &ArrayRef) -> bool
     ensures { IsTrue result ↔ NoneNull (by_array rows.now) (len_of rows.now) }
 {
     for i in 0..rows.len() {

@@ -1,4 +1,6 @@
+pub mod Changed
 pub mod Comparing
+pub mod Kept
 pub mod Literals
 pub mod Orders
 pub mod RunLemmas

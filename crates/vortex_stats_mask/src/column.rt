@@ -5,6 +5,7 @@ ghost use Rattle.vortex_arrays_buffer.specs.PrimitiveBuffers.{integers_of};
 ghost use Rattle.vortex_stats_mask.specs.Columns.{values_of, contents_of, are_bools, are_numbers, are_texts, are_binaries};
 
 use bytes::Bytes;
+use vortex_arrays_buffer::bit_buffer::BitBuffer;
 use vortex_arrays_buffer::primitive_buffer::PrimitiveBuffer;
 use vortex_arrays_view::view::BinaryView;
 
@@ -84,9 +85,9 @@ impl<'a> Items<'a> {
     }
 }
 
-/// A leaf column: its values, and which of them are valid. No validity means all.
+/// A leaf column: its values, and which of them are valid, a bit for each. No validity means all.
 #[derive(Clone, Copy)]
 pub struct Column<'a> {
     pub items: Items<'a>,
-    pub validity: Option<&'a [bool]>,
+    pub validity: Option<&'a BitBuffer>,
 }

@@ -129,5 +129,5 @@ pub fn compare_literal(
         (column_of column.now)) }
 {
     let mask = compare_items(alloc, comparison, &column.items, literal)?;
-    keep_valid(alloc, mask, column.validity)
+    Ok(keep_valid(mask, column.validity))
 }

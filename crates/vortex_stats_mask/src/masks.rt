@@ -1,9 +1,10 @@
 //! Masks: a truth value for each row, a byte each.
-ghost use Rattle.std.specs.Prelude.{◌≡◌, ◌&&◌, ◌||◌, not, map, replicate, false, IfOk};
-ghost use Rattle.std.specs.List.{zip};
-ghost use Rattle.vortex_stats_mask.specs.Columns.{kept};
+ghost use Rattle.std.specs.Prelude.{◌≡◌, ◌≤◌, ◌<◌, ◌&&◌, ◌||◌, not, map, replicate, length, false, slice_index_or, List, Bool, IfOk};
+ghost use Rattle.std.specs.List.{zip, list_any, slice_range};
+ghost use Rattle.vortex_stats_mask.specs.Columns.{kept, kept_first};
 
 use std::alloc::{AllocError, Global};
+use vortex_arrays_buffer::bit_buffer::BitBuffer;
 
 /// The rows that both masks have.
 pub fn both(alloc: Global, xs: &[bool], ys: &[bool]) -> Result<Vec<bool>, AllocError>
@@ -15,14 +16,28 @@ pub fn both(alloc: Global, xs: &[bool], ys: &[bool]) -> Result<Vec<bool>, AllocE
         .collect(alloc)
 }
 
-/// The rows that one of the masks has.
-pub fn either(alloc: Global, xs: &[bool], ys: &[bool]) -> Result<Vec<bool>, AllocError>
-    ensures { IfOk result (λ mask. mask.items ≡ map (λ p. p.0 || p.1) (zip xs.now ys.now)) }
+/// The rows of a mask that another has too. The mask becomes the answer, with no new memory.
+pub fn both_into(mask: Vec<bool>, rows: &[bool]) -> Vec<bool>
+    ensures { result.items ≡ map (λ p. p.0 && p.1) (zip mask.items rows.now) }
 {
-    xs.iter()
-        .zip(ys.iter())
-        .map(|(x, y)| *x | *y)
-        .collect(alloc)
+    let mut mask = mask;
+    mask.truncate(rows.len());
+    for i in 0..mask.len() {
+        mask[i] = mask[i] & rows[i];
+    }
+    mask
+}
+
+/// The rows that a mask or another has. The mask becomes the answer, with no new memory.
+pub fn either_into(mask: Vec<bool>, rows: &[bool]) -> Vec<bool>
+    ensures { result.items ≡ map (λ p. p.0 || p.1) (zip mask.items rows.now) }
+{
+    let mut mask = mask;
+    mask.truncate(rows.len());
+    for i in 0..mask.len() {
+        mask[i] = mask[i] | rows[i];
+    }
+    mask
 }
 
 /// The rows that the mask hasn't.
@@ -39,16 +54,83 @@ pub fn no_rows(alloc: Global, len: usize) -> Result<Vec<bool>, AllocError>
     Ok(vec![in alloc; false; len]?)
 }
 
-/// The valid rows of a mask.
-pub fn keep_valid(
-    alloc: Global,
-    mask: Vec<bool>,
-    validity: Option<&[bool]>,
-) -> Result<Vec<bool>, AllocError>
-    ensures { IfOk result (λ all. all.items ≡ kept validity.entry mask.items) }
+/// The valid rows of a mask. The mask becomes the answer, with no new memory.
+pub fn keep_valid(mask: Vec<bool>, validity: Option<&BitBuffer>) -> Vec<bool>
+    ensures { result.items ≡ kept validity.entry mask.items }
 {
     match validity {
-        Some(valid) => both(alloc, valid, &mask),
-        None => Ok(mask),
+        Some(valid) => {
+            let mut mask = mask;
+            mask.truncate(valid.len());
+            keep_bits(mask, valid)
+        }
+        None => mask,
     }
+}
+
+// The rows of a mask whose bits are true.
+fn keep_bits(mask: Vec<bool>, bits: &BitBuffer) -> Vec<bool>
+    requires { length mask.items ≤ length bits.now }
+    ensures { result.items ≡ map (λ p. p.0 && p.1) (zip mask.items bits.now) }
+{
+    let mut mask = mask;
+    let runs = mask.len() / 16;
+    for k in 0..runs {
+        keep_run(&mut mask, bits, 16 * k, 16 * k + 16);
+    }
+    let len = mask.len();
+    keep_rows(&mut mask, bits, 16 * runs, len);
+    mask
+}
+
+// Keeps the rows of a run whose bits are true. Most runs of a mask have no row, which is seen of
+// all its rows at once, and then no bit is looked at.
+#[inline(always)]
+fn keep_run(mask: &mut Vec<bool>, bits: &BitBuffer, from: usize, to: usize)
+    requires order { from ≤ to }
+    requires within { to ≤ length mask.old.items }
+    requires beside { length mask.old.items ≤ length bits.now }
+    ensures count { length mask.new.items ≡ length mask.old.items }
+    ensures rows { (all : List Bool) → mask.old.items ≡ kept_first from bits.now all
+        → mask.new.items ≡ kept_first to bits.now all }
+{
+    if has_row(mask, from, to) {
+        keep_rows(mask, bits, from, to);
+    }
+}
+
+// Whether a mask has a row from one to another. All are looked at, so that there is no branch.
+#[inline(always)]
+fn has_row(mask: &[bool], from: usize, to: usize) -> bool
+    requires order { from ≤ to }
+    requires within { to ≤ length mask.now }
+    ensures { result ≡ list_any (λ row. row) (slice_range mask.now from to) }
+{
+    let mut found = false;
+    for i in from..to {
+        found |= mask[i];
+    }
+    found
+}
+
+fn keep_rows(mask: &mut Vec<bool>, bits: &BitBuffer, from: usize, to: usize)
+    requires order { from ≤ to }
+    requires within { to ≤ length mask.old.items }
+    requires beside { length mask.old.items ≤ length bits.now }
+    ensures count { length mask.new.items ≡ length mask.old.items }
+    ensures rows { (all : List Bool) → mask.old.items ≡ kept_first from bits.now all
+        → mask.new.items ≡ kept_first to bits.now all }
+{
+    for i in from..to {
+        mask[i] = is_kept(mask[i], bits, i);
+    }
+}
+
+// Whether a row of a mask has a true bit. Both are read, since a branch on rows in no order costs
+// more.
+fn is_kept(row: bool, bits: &BitBuffer, i: usize) -> bool
+    requires { i < length bits.now }
+    ensures { result ≡ (row && slice_index_or bits.now i false) }
+{
+    row & bits.value(i)
 }

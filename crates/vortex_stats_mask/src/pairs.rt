@@ -250,6 +250,6 @@ pub fn compare_columns(
         (zip (column_of left.now) (column_of right.now))) }
 {
     let mask = pair_items(alloc, comparison, &left.items, &right.items)?;
-    let mask = keep_valid(alloc, mask, left.validity)?;
-    keep_valid(alloc, mask, right.validity)
+    let mask = keep_valid(mask, left.validity);
+    Ok(keep_valid(mask, right.validity))
 }

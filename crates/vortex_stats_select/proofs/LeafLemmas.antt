@@ -1,8 +1,7 @@
 -- The rows of arrays that are laid out plain, as leaf columns.
 use Rattle.std.proofs.Common.{◌≡◌, sym, ap, subst, ◌∙◌, ℕ, ℤ, pos, Bool, true, false, cond, List, [], length, map, get_or, Option, Some, None}
-use Rattle.std.specs.Prelude.{MatchOption, Vec}
+use Rattle.std.specs.Prelude.{MatchOption}
 use Rattle.std.specs.List.{zip, range_with_len}
-use Rattle.std.specs.declared.alloc.Global.{Global}
 use Rattle.std.proofs.lemmas.List.{length-map, get_or-map}
 use Rattle.std.proofs.lemmas.List.FromFn.{fill_by_all}
 use Rattle.vortex_model.specs.LogicalType.{IntKind}
@@ -17,8 +16,8 @@ by_position : {X Y : Type 0} (f : X → Y) (d : X) (xs : List X) → map f xs �
 by_position f d xs = fill_by_all (λ i. f (get_or xs i d)) (map f xs) (length xs) (f d) (length-map xs f) (λ k l. get_or-map f xs k d (f d) l)
 
 -- values that are null where they are not valid
-pub leaf_made : {X : Type 0} (f : X → Content) (d : X) (xs : List X) (v : Valid) (o : Option (Vec Bool Global)) →
-    MatchOption o ((i : ℕ) → is_valid v i ≡ true) (λ rows. rows.items ≡ map (is_valid v) (range_with_len 0 (length xs))) →
+pub leaf_made : {X : Type 0} (f : X → Content) (d : X) (xs : List X) (v : Valid) (o : Option (List Bool)) →
+    MatchOption o ((i : ℕ) → is_valid v i ≡ true) (λ rows. rows ≡ map (is_valid v) (range_with_len 0 (length xs))) →
     shown_by o (map f xs) ≡ map (λ i. cond (is_valid v i) (f (get_or xs i d)) null) (range_with_len 0 (length xs))
 leaf_made f d xs v None h =
     by_position f d xs ∙ (λ j. map (λ i. cond (sym (h i) j) (f (get_or xs i d)) null) (range_with_len 0 (length xs)))
@@ -26,14 +25,14 @@ leaf_made f d xs v (Some rows) h =
     (λ j. map (λ p. shown_at p.0 p.1) (zip (h j) (by_position f d xs j)))
     ∙ paired shown_at (is_valid v) (λ i. f (get_or xs i d)) (range_with_len 0 (length xs))
 
-module _ (v : Valid) (n : ℕ) (o : Option (Vec Bool Global)) (told : MatchOption o ((i : ℕ) → is_valid v i ≡ true) (λ rows. rows.items ≡ map (is_valid v) (range_with_len 0 n))) where
+module _ (v : Valid) (n : ℕ) (o : Option (List Bool)) (told : MatchOption o ((i : ℕ) → is_valid v i ≡ true) (λ rows. rows ≡ map (is_valid v) (range_with_len 0 n))) where
   pub bools_shown : (bits : List Bool) → length bits ≡ n → shown_by o (map boolean bits) ≡ rows_of (bools bits v)
-  bools_shown bits e = leaf_made boolean false bits v o (subst (λ n. MatchOption o ((i : ℕ) → is_valid v i ≡ true) (λ rows. rows.items ≡ map (is_valid v) (range_with_len 0 n))) (sym e) told)
+  bools_shown bits e = leaf_made boolean false bits v o (subst (λ n. MatchOption o ((i : ℕ) → is_valid v i ≡ true) (λ rows. rows ≡ map (is_valid v) (range_with_len 0 n))) (sym e) told)
 
   pub numbers_shown : (k : IntKind) (zs : List ℤ) → length zs ≡ n → shown_by o (map integer zs) ≡ rows_of (numbers k zs v)
-  numbers_shown k zs e = leaf_made integer (pos 0) zs v o (subst (λ n. MatchOption o ((i : ℕ) → is_valid v i ≡ true) (λ rows. rows.items ≡ map (is_valid v) (range_with_len 0 n))) (sym e) told)
+  numbers_shown k zs e = leaf_made integer (pos 0) zs v o (subst (λ n. MatchOption o ((i : ℕ) → is_valid v i ≡ true) (λ rows. rows ≡ map (is_valid v) (range_with_len 0 n))) (sym e) told)
 
   pub strings_shown : (s : Strings) (vs bs : List (List ℕ)) → length vs ≡ n → shown_by o (map (string_content s) (map (λ x. value_of x bs) vs)) ≡ rows_of (strings s vs bs v)
   strings_shown s vs bs e =
       ap (shown_by o) (through (string_content s) (λ x. value_of x bs) vs)
-      ∙ leaf_made (λ x. string_content s (value_of x bs)) [] vs v o (subst (λ n. MatchOption o ((i : ℕ) → is_valid v i ≡ true) (λ rows. rows.items ≡ map (is_valid v) (range_with_len 0 n))) (sym e) told)
+      ∙ leaf_made (λ x. string_content s (value_of x bs)) [] vs v o (subst (λ n. MatchOption o ((i : ℕ) → is_valid v i ≡ true) (λ rows. rows ≡ map (is_valid v) (range_with_len 0 n))) (sym e) told)

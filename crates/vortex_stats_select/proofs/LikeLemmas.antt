@@ -1,8 +1,7 @@
 -- LIKE of the rows of a column of texts.
 use Rattle.std.proofs.Common.{◌≡◌, refl, sym, ap, ◌∙◌, subst, ℕ, suc, ◌+◌, ◌<◌, Bool, true, false, not, ◌&&◌, List, [], ◌∷◌, length, get_or, map, IsUtf8, arith}
-use Rattle.std.specs.Prelude.{if◌then◌else◌, Some, None, Vec}
+use Rattle.std.specs.Prelude.{if◌then◌else◌, Some, None}
 use Rattle.std.specs.List.{zip, range_with_len}
-use Rattle.std.specs.declared.alloc.Global.{Global}
 use Rattle.vortex_model.specs.Content.{Content, null, boolean, text}
 use Rattle.vortex_model_table.specs.Like.{has_backslash, is_like}
 use Rattle.vortex_model_table.specs.Truth.{liked}
@@ -108,13 +107,13 @@ module _ (want negated : Bool) (form : List ℕ) (u : IsUtf8 form) (plain : has_
       ∙ all_shown want negated form (λ x. value_of x bs) vs plain
       ∙ ap (map (λ c. is_wanted want (liked c (text form) negated))) (strings_shown v (length vs) None told texts vs bs refl)
 
-  pub valid_liked : (rows : Vec Bool Global) → rows.items ≡ map (is_valid v) (range_with_len 0 (length vs)) →
-      map (λ p. p.0 && p.1) (zip rows.items (map (wanted_match want negated) (map (λ x. byte_matches form (value_of x bs)) vs)))
+  pub valid_liked : (rows : List Bool) → rows ≡ map (is_valid v) (range_with_len 0 (length vs)) →
+      map (λ p. p.0 && p.1) (zip rows (map (wanted_match want negated) (map (λ x. byte_matches form (value_of x bs)) vs)))
       ≡ map (λ c. is_wanted want (liked c (text form) negated)) (rows_of (strings texts vs bs v))
   valid_liked rows told =
-      on_valid form u (wanted_match want negated) (λ x. value_of x bs) rows.items vs
+      on_valid form u (wanted_match want negated) (λ x. value_of x bs) rows vs
       (subst (λ r. AreTexts (λ x. value_of x bs) r vs) (sym told) (texts_of (is_valid v) (λ x. value_of x bs) 0 vs (λ i l e. (sound.0 i l (ap (is_valid v) (omega arith) ∙ e)).1)))
-      ∙ some_shown want negated form (λ x. value_of x bs) rows.items vs plain
+      ∙ some_shown want negated form (λ x. value_of x bs) rows vs plain
       ∙ ap (map (λ c. is_wanted want (liked c (text form) negated))) (strings_shown v (length vs) (Some rows) told texts vs bs refl)
 
 pub like_wanted : (want negated : Bool) (form : List ℕ) (is : Positions) (rows cs : List Content) → cs ≡ values_at is rows →

@@ -1,5 +1,5 @@
 -- Comparisons of operands.
-use Rattle.std.proofs.Common.{◌≡◌, sym, ap, ◌∙◌, ℕ, true, false, List, length, map, replicate, Option, option_copied, Bor}
+use Rattle.std.proofs.Common.{◌≡◌, refl, sym, ap, ◌∙◌, ℕ, zero, suc, Bool, true, false, List, ◌∷◌, length, map, replicate, Option, option_copied, Bor}
 use Rattle.std.specs.List.{zip, range_with_len}
 use Rattle.std.proofs.lemmas.Simd.{splat_is_map}
 use Rattle.std.proofs.lemmas.List.FromFn.{length-range_with_len}
@@ -37,6 +37,18 @@ true_wanted op ps = λ i. map (λ p. wanted_true (compared op p.0 p.1) i) ps
 
 pub false_wanted : (op : Comparison) (ps : List (Content × Content)) → map (λ p. is_true (compared (negated op) p.0 p.1)) ps ≡ map (λ p. is_wanted false (compared op p.0 p.1)) ps
 false_wanted op ps = λ i. map (λ p. sym (wanted_false op p.0 p.1) i) ps
+
+-- and of each row with one value
+pub true_wanted_with : (op : Comparison) (d : Content) (cs : List Content) → map (λ c. is_true (compared op c d)) cs ≡ map (λ c. is_wanted true (compared op c d)) cs
+true_wanted_with op d cs = λ i. map (λ c. wanted_true (compared op c d) i) cs
+
+pub false_wanted_with : (op : Comparison) (d : Content) (cs : List Content) → map (λ c. is_true (compared (negated op) c d)) cs ≡ map (λ c. is_wanted false (compared op c d)) cs
+false_wanted_with op d cs = λ i. map (λ c. sym (wanted_false op c d) i) cs
+
+-- a test of one value for all rows
+pub tested_alike : (test : Content → Bool) (c : Content) (n : ℕ) → replicate n (test c) ≡ map test (replicate n c)
+tested_alike test c zero = refl
+tested_alike test c (suc n) = ap (λ bs. test c ∷ bs) (tested_alike test c n)
 
 -- a value that is lent
 pub lent : (v : Option ScalarValue) (o : Option (Bor ScalarValue)) → option_copied o ≡ v → raw_at o ≡ raw_in v

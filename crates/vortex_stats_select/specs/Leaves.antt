@@ -1,7 +1,6 @@
 -- The rows of leaf columns.
-use Rattle.std.specs.Prelude.{List, map, Option, Some, None, Bool, Vec}
+use Rattle.std.specs.Prelude.{List, map, Option, Some, None, Bool}
 use Rattle.std.specs.List.{zip}
-use Rattle.std.specs.declared.alloc.Global.{Global}
 use Rattle.vortex_model.specs.Content.{Content, boolean, integer, text, byte_string}
 use Rattle.vortex_arrays_view.specs.Views.{value_of}
 use Rattle.vortex_arrays_buffer.specs.PrimitiveBuffers.{integers_of}
@@ -19,9 +18,9 @@ leaf_values (Binaries views buffers) =
     map byte_string (map (λ v. value_of v buffers.value.items) views)
 
 -- the values, of which those that are not valid are null
-abbrev pub shown_by : Option (Vec Bool Global) → List Content → List Content
+abbrev pub shown_by : Option (List Bool) → List Content → List Content
 shown_by None cs = cs
-shown_by (Some vs) cs = map (λ p. shown_at p.0 p.1) (zip vs.items cs)
+shown_by (Some vs) cs = map (λ p. shown_at p.0 p.1) (zip vs cs)
 
 abbrev pub leaf_rows : Leaf → List Content
 leaf_rows leaf = shown_by leaf.validity (leaf_values leaf.items)

@@ -17,7 +17,7 @@ use vortex_scalar_value::scalar_value::ScalarValue;
 use vortex_stats_bind::value::{compare_values, read};
 use vortex_stats_expr::operator::Comparison;
 use vortex_stats_mask::compare::compare_literal;
-use vortex_stats_mask::masks::{both, either};
+use vortex_stats_mask::masks::{both_into, either_into};
 use vortex_stats_mask::pairs::compare_columns;
 use vortex_stats_mask::turned::{negated, swapped};
 
@@ -50,6 +50,48 @@ fn compare_coded(
 {
     let mask = compare_literal(alloc, comparison, &values.as_column(), literal)?;
     spread(alloc, &mask, &codes.as_column())
+}
+
+// Which rows of an operand stand so to a literal.
+fn compare_operand(
+    alloc: Global,
+    comparison: Comparison,
+    operand: &Operand,
+    literal: Option<&ScalarValue>,
+    len: usize,
+) -> Result<Vec<bool>, AllocError>
+    ensures { IfOk result (λ mask. mask.items
+        ≡ map (λ c. is_true (compared (comparison_of comparison) c (content_at literal.entry)))
+        (operand_rows operand.now len)) }
+{
+    match operand {
+        Operand::Column(x) => compare_literal(alloc, comparison, &x.as_column(), literal),
+        Operand::Value(x) => compare_constants(alloc, comparison, x.as_ref(), literal, len),
+        Operand::Dictionary(codes, values) => {
+            compare_coded(alloc, comparison, codes, values, literal)
+        }
+    }
+}
+
+// For which rows the comparison of an operand with a literal has the wanted truth.
+pub(crate) fn compare_wanted_with(
+    alloc: Global,
+    comparison: Comparison,
+    want: bool,
+    operand: &Operand,
+    literal: Option<&ScalarValue>,
+    len: usize,
+) -> Result<Vec<bool>, AllocError>
+    ensures { IfOk result (λ mask. mask.items ≡ map
+        (λ c. is_wanted want (compared (comparison_of comparison) c (content_at literal.entry)))
+        (operand_rows operand.now len)) }
+{
+    let comparison = if want {
+        comparison
+    } else {
+        negated(comparison)
+    };
+    compare_operand(alloc, comparison, operand, literal, len)
 }
 
 // A mask that is told.
@@ -126,19 +168,13 @@ pub(crate) fn compare_wanted(
 }
 
 // For which rows AND has the wanted truth, where two masks tell it of its parts. OR is AND of the
-// other truths.
-pub(crate) fn join(
-    alloc: Global,
-    want: bool,
-    left: &[bool],
-    right: &[bool],
-) -> Result<Vec<bool>, AllocError>
-    ensures { IfOk result (λ mask. mask.items
-        ≡ map (λ p. joined_by want p.0 p.1) (zip left.now right.now)) }
+// other truths. The mask of the left part becomes the answer.
+pub(crate) fn join(want: bool, left: Vec<bool>, right: &[bool]) -> Vec<bool>
+    ensures { result.items ≡ map (λ p. joined_by want p.0 p.1) (zip left.items right.now) }
 {
     if want {
-        both(alloc, left, right)
+        both_into(left, right)
     } else {
-        either(alloc, left, right)
+        either_into(left, right)
     }
 }

@@ -10,7 +10,7 @@ use crate::validity::valid_rows_of;
 use bytes::Bytes;
 use std::alloc::{AllocError, Global};
 use std::rc::Rc;
-use vortex_arrays_buffer::{Buffer, PrimitiveBuffer};
+use vortex_arrays_buffer::{BitBuffer, Buffer, PrimitiveBuffer};
 use vortex_arrays_core::array::{ArrayLayout, ArrayRef, StringKind};
 use vortex_arrays_view::view::BinaryView;
 use vortex_stats_mask::column::{Column, Items, Strings};
@@ -35,11 +35,12 @@ impl Drop for LeafItems {
     }
 }
 
-// A leaf column: its values, and which of them are valid. No validity means all.
+// A leaf column: its values, and which of them are valid, a bit for each, shared with the array
+// that it is of. No validity means all.
 #[derive(Drop)]
 pub(crate) struct Leaf {
     pub(crate) items: LeafItems,
-    pub(crate) validity: Option<Vec<bool>>,
+    pub(crate) validity: Option<BitBuffer>,
 }
 
 impl LeafItems {
@@ -66,7 +67,7 @@ impl Leaf {
         ensures { column_of result ≡ leaf_rows self.now }
     {
         let validity = match &self.validity {
-            Some(rows) => Some(rows.as_slice()),
+            Some(rows) => Some(rows),
             None => None,
         };
         Column {

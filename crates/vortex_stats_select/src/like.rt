@@ -25,7 +25,7 @@ use vortex_arrays_view::view::BinaryView;
 use vortex_scalar_value::scalar_value::ScalarValue;
 use vortex_stats_bind::bound::{BoundNode, BoundTree};
 use vortex_stats_like::matching::has_backslash;
-use vortex_stats_mask::masks::{both, opposite};
+use vortex_stats_mask::masks::{keep_valid, opposite};
 
 // Of the texts that match: for which of them LIKE has the wanted truth.
 #[tactic(auto, using(crate::proofs::LikeLemmas::unturned))]
@@ -68,7 +68,7 @@ fn like_texts(
     let valid = valid_rows_of(alloc, validity, views.len())?;
     match valid {
         None => Ok(mask),
-        Some(rows) => both(alloc, &rows, &mask),
+        Some(rows) => Ok(keep_valid(mask, Some(&rows))),
     }
 }
 

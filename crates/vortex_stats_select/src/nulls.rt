@@ -31,7 +31,7 @@ fn valid_rows(alloc: Global, validity: &Validity, len: usize) -> Result<Vec<bool
         ≡ map (is_valid (valid_of validity.now)) (range_with_len 0 len)) }
 {
     match valid_rows_of(alloc, validity, len)? {
-        Some(rows) => Ok(rows),
+        Some(rows) => rows.to_bools(alloc),
         None => all_rows(alloc, len),
     }
 }

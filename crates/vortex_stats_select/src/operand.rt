@@ -3,7 +3,8 @@ ghost use Rattle.std.specs.Prelude.{◌≡◌, Bool, length, map, IfOk, IfSome};
 ghost use Rattle.vortex_arrays_model.specs.Layout.{dictionary, len_of, rows_of};
 ghost use Rattle.vortex_arrays_model.specs.Parts.{AreWithin};
 ghost use Rattle.vortex_model_table.specs.ZoneMap.{values_at};
-ghost use Rattle.vortex_stats_bind.specs.Bound.{bound_value};
+ghost use Rattle.vortex_scalar_value.specs.View.{content_at};
+ghost use Rattle.vortex_stats_bind.specs.Bound.{fixed, bound_value};
 ghost use Rattle.vortex_stats_select.specs.Operands.{operand_rows};
 
 use crate::columns::Columns;
@@ -30,6 +31,16 @@ impl Drop for Operand {
             Operand::Column(_leaf) => {}
             Operand::Dictionary(_codes, _values) => {}
         }
+    }
+}
+
+// The value of a literal, which is lent, and `None` of any other expression.
+pub(crate) fn literal_of(e: &BoundTree) -> Option<Option<&ScalarValue>>
+    ensures { IfSome result (λ value. e.now ≡ fixed (content_at value)) }
+{
+    match &e.node {
+        BoundNode::Literal(value) => Some(value.as_ref()),
+        _ => None,
     }
 }
 

@@ -2,6 +2,7 @@
 ghost use Rattle.std.specs.Prelude.{◌≡◌, map, option_map, IfOk, IfSome};
 ghost use Rattle.std.specs.List.{zip};
 ghost use Rattle.vortex_model_table.specs.Truth.{compared, kleene_and, end_of};
+ghost use Rattle.vortex_scalar_value.specs.View.{content_at};
 ghost use Rattle.vortex_stats_bind.specs.Bound.{bound_value};
 ghost use Rattle.vortex_stats_expr.specs.Tree.{comparison_of, is_strict};
 ghost use Rattle.vortex_stats_mask.specs.Wanted.{is_wanted, joined_by};
@@ -10,17 +11,59 @@ ghost use Rattle.vortex_stats_select.specs.Wants.{wanted_rows, joined_masks};
 
 use crate::asked::{Asked, is_late, open_behind};
 use crate::columns::Columns;
-use crate::compare::{compare_wanted, join};
+use crate::compare::{compare_wanted, compare_wanted_with, join};
 use crate::like::like_test;
 use crate::nulls::null_test;
-use crate::operand::{Operand, operand_of};
+use crate::operand::{Operand, literal_of, operand_of};
 use std::alloc::{AllocError, Global};
 use vortex_scalar_value::scalar_value::ScalarValue;
 use vortex_stats_bind::bound::{BoundNode, BoundTree};
 use vortex_stats_expr::operator::Comparison;
 use vortex_stats_expr::options::BetweenOptions;
+use vortex_stats_mask::turned::swapped;
 
+// A comparison of two expressions. A literal is read where it stands.
 fn comparison<S: Columns>(
+    alloc: Global,
+    comparison: Comparison,
+    want: bool,
+    left: &BoundTree,
+    right: &BoundTree,
+    columns: &S,
+) -> Result<Option<Vec<bool>>, AllocError>
+    ensures { IfOk result (λ found. IfSome found (λ mask. mask.items
+        ≡ map (λ row. is_wanted want (compared (comparison_of comparison)
+        (bound_value left.now row) (bound_value right.now row))) (S.rows columns.now))) }
+{
+    if let Some(literal) = literal_of(right) {
+        return literal_comparison(alloc, comparison, want, left, literal, columns);
+    }
+    if let Some(literal) = literal_of(left) {
+        return literal_comparison(alloc, swapped(comparison), want, right, literal, columns);
+    }
+    operand_comparison(alloc, comparison, want, left, right, columns)
+}
+
+fn literal_comparison<S: Columns>(
+    alloc: Global,
+    comparison: Comparison,
+    want: bool,
+    input: &BoundTree,
+    literal: Option<&ScalarValue>,
+    columns: &S,
+) -> Result<Option<Vec<bool>>, AllocError>
+    ensures { IfOk result (λ found. IfSome found (λ mask. mask.items
+        ≡ map (λ row. is_wanted want (compared (comparison_of comparison)
+        (bound_value input.now row) (content_at literal.entry))) (S.rows columns.now))) }
+{
+    let Some(operand) = operand_of(alloc, input, columns)? else {
+        return Ok(None);
+    };
+    let mask = compare_wanted_with(alloc, comparison, want, &operand, literal, columns.len())?;
+    Ok(Some(mask))
+}
+
+fn operand_comparison<S: Columns>(
     alloc: Global,
     comparison: Comparison,
     want: bool,
@@ -61,8 +104,60 @@ fn truth<S: Columns>(
     Ok(found)
 }
 
-// BETWEEN is AND of two comparisons.
+// BETWEEN is AND of two comparisons. Where both ends are literals the value is read once.
 fn range_test<S: Columns>(
+    alloc: Global,
+    want: bool,
+    value: &BoundTree,
+    lower: &BoundTree,
+    upper: &BoundTree,
+    options: BetweenOptions,
+    columns: &S,
+) -> Result<Option<Vec<bool>>, AllocError>
+    ensures { IfOk result (λ found. IfSome found (λ mask. mask.items
+        ≡ map (λ row. is_wanted want (kleene_and
+        (compared (end_of (is_strict options.lower_strict)) (bound_value lower.now row)
+        (bound_value value.now row))
+        (compared (end_of (is_strict options.upper_strict)) (bound_value value.now row)
+        (bound_value upper.now row)))) (S.rows columns.now))) }
+{
+    match (literal_of(lower), literal_of(upper)) {
+        (Some(least), Some(greatest)) => {
+            literal_range(alloc, want, value, least, greatest, options, columns)
+        }
+        _ => operand_range(alloc, want, value, lower, upper, options, columns),
+    }
+}
+
+fn literal_range<S: Columns>(
+    alloc: Global,
+    want: bool,
+    input: &BoundTree,
+    lower: Option<&ScalarValue>,
+    upper: Option<&ScalarValue>,
+    options: BetweenOptions,
+    columns: &S,
+) -> Result<Option<Vec<bool>>, AllocError>
+    ensures { IfOk result (λ found. IfSome found (λ mask. mask.items
+        ≡ map (λ row. is_wanted want (kleene_and
+        (compared (end_of (is_strict options.lower_strict)) (content_at lower.entry)
+        (bound_value input.now row))
+        (compared (end_of (is_strict options.upper_strict)) (bound_value input.now row)
+        (content_at upper.entry)))) (S.rows columns.now))) }
+{
+    let Some(operand) = operand_of(alloc, input, columns)? else {
+        return Ok(None);
+    };
+    let len = columns.len();
+    let lower_end = options.lower_strict.to_comparison();
+    let turned = swapped(lower_end);
+    let above = compare_wanted_with(alloc, turned, want, &operand, lower, len)?;
+    let upper_end = options.upper_strict.to_comparison();
+    let below = compare_wanted_with(alloc, upper_end, want, &operand, upper, len)?;
+    Ok(Some(join(want, above, &below)))
+}
+
+fn operand_range<S: Columns>(
     alloc: Global,
     want: bool,
     value: &BoundTree,
@@ -86,28 +181,16 @@ fn range_test<S: Columns>(
     let Some(below) = comparison(alloc, below, want, value, upper, columns)? else {
         return Ok(None);
     };
-    let mask = join(alloc, want, &above, &below)?;
-    Ok(Some(mask))
+    Ok(Some(join(want, above, &below)))
 }
 
 // Of two masks, where both are told.
-fn join_found(
-    alloc: Global,
-    want: bool,
-    left: Option<Vec<bool>>,
-    right: Option<Vec<bool>>,
-) -> Result<Option<Vec<bool>>, AllocError>
-    ensures { IfOk result
-        (λ found. option_map (λ mask. mask.items) found ≡ joined_masks want left right) }
+fn join_found(want: bool, left: Option<Vec<bool>>, right: Option<Vec<bool>>) -> Option<Vec<bool>>
+    ensures { option_map (λ mask. mask.items) result ≡ joined_masks want left right }
 {
-    let Some(left) = left else {
-        return Ok(None);
-    };
-    let Some(right) = right else {
-        return Ok(None);
-    };
-    let mask = join(alloc, want, &left, &right)?;
-    Ok(Some(mask))
+    let left = left?;
+    let right = right?;
+    Some(join(want, left, &right))
 }
 
 // The truths of a test that is no connective and no LIKE, whatever rows are open.
@@ -157,7 +240,7 @@ fn both_parts<S: Columns>(
 {
     let left = select_asked(alloc, first, want, asked, columns)?;
     let right = select_asked(alloc, last, want, open_behind(join, &left), columns)?;
-    join_found(alloc, join, left, right)
+    Ok(join_found(join, left, right))
 }
 
 // As `select`, of the rows that are open. What it tells of the others means nothing.

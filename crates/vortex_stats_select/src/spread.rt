@@ -80,5 +80,5 @@ pub(crate) fn spread(
         (λ rows. rows.items ≡ map (is_marked mask.now) (column_of codes.now)) }
 {
     let rows = spread_items(alloc, mask, &codes.items)?;
-    keep_valid(alloc, rows, codes.validity)
+    Ok(keep_valid(rows, codes.validity))
 }

@@ -1,12 +1,12 @@
-//! Validities, a byte for each row.
+//! Validities, a bit for each row.
 ghost use Rattle.std.specs.Prelude.{◌≡◌, ℕ, true, map, IfOk, MatchOption};
 ghost use Rattle.std.specs.List.{range_with_len};
 ghost use Rattle.vortex_arrays_model.specs.Layout.{is_valid, by_array, len_of, HasLength};
 ghost use Rattle.vortex_arrays_core.specs.LayoutOf.{valid_of};
 
 use std::alloc::{AllocError, Global};
+use vortex_arrays_buffer::BitBuffer;
 use vortex_arrays_core::array::{ArrayLayout, ArrayRef, Validity};
-use vortex_stats_mask::masks::no_rows;
 
 // Which rows of an array of truth values are true, by a look at each row.
 fn looked_up(alloc: Global, rows: &ArrayRef) -> Result<Vec<bool>, AllocError>
@@ -16,20 +16,32 @@ fn looked_up(alloc: Global, rows: &ArrayRef) -> Result<Vec<bool>, AllocError>
     (0..rows.len()).map(|i| rows.truth(i)).collect(alloc)
 }
 
-fn truths_of(alloc: Global, rows: &ArrayRef) -> Result<Vec<bool>, AllocError>
+fn packed(alloc: Global, rows: &ArrayRef) -> Result<BitBuffer, AllocError>
+    ensures { IfOk result (λ truths. truths
+        ≡ map (is_valid (by_array rows.now)) (range_with_len 0 (len_of rows.now))) }
+{
+    let truths = looked_up(alloc, rows)?;
+    BitBuffer::from_bools(alloc, &truths)
+}
+
+// The bits of an array of truth values, which it shares where it is laid out plain.
+fn truths_of(alloc: Global, rows: &ArrayRef) -> Result<BitBuffer, AllocError>
     requires { HasLength (by_array rows.now) (len_of rows.now) }
-    ensures { IfOk result (λ truths. truths.items
+    ensures { IfOk result (λ truths. truths
         ≡ map (is_valid (by_array rows.now)) (range_with_len 0 (len_of rows.now))) }
 {
     match rows.layout() {
-        ArrayLayout::Bool(bits, _) => bits.to_bools(alloc),
-        ArrayLayout::Primitive(_, _) => looked_up(alloc, rows),
-        ArrayLayout::VarBinView(_, _, _, _) => looked_up(alloc, rows),
-        ArrayLayout::Constant(_, _) => looked_up(alloc, rows),
-        ArrayLayout::Dict(_, _, _) => looked_up(alloc, rows),
-        ArrayLayout::FixedSizeList(_, _, _, _) => looked_up(alloc, rows),
-        ArrayLayout::ListView(_, _, _, _, _) => looked_up(alloc, rows),
-        ArrayLayout::Struct(_, _, _, _) => looked_up(alloc, rows),
+        ArrayLayout::Bool(bits, _) => {
+            let truths = bits.clone()?;
+            Ok(truths)
+        }
+        ArrayLayout::Primitive(_, _) => packed(alloc, rows),
+        ArrayLayout::VarBinView(_, _, _, _) => packed(alloc, rows),
+        ArrayLayout::Constant(_, _) => packed(alloc, rows),
+        ArrayLayout::Dict(_, _, _) => packed(alloc, rows),
+        ArrayLayout::FixedSizeList(_, _, _, _) => packed(alloc, rows),
+        ArrayLayout::ListView(_, _, _, _, _) => packed(alloc, rows),
+        ArrayLayout::Struct(_, _, _, _) => packed(alloc, rows),
     }
 }
 
@@ -38,17 +50,17 @@ pub(crate) fn valid_rows_of(
     alloc: Global,
     validity: &Validity,
     len: usize,
-) -> Result<Option<Vec<bool>>, AllocError>
+) -> Result<Option<BitBuffer>, AllocError>
     requires { HasLength (valid_of validity.now) len }
     ensures { IfOk result (λ found. MatchOption found
         ((i : ℕ) → is_valid (valid_of validity.now) i ≡ true)
-        (λ rows. rows.items ≡ map (is_valid (valid_of validity.now)) (range_with_len 0 len))) }
+        (λ rows. rows ≡ map (is_valid (valid_of validity.now)) (range_with_len 0 len))) }
 {
     match validity {
         Validity::NonNullable => Ok(None),
         Validity::AllValid => Ok(None),
         Validity::AllInvalid => {
-            let rows = no_rows(alloc, len)?;
+            let rows = BitBuffer::new_unset(alloc, len)?;
             Ok(Some(rows))
         }
         Validity::Array(rows) => {

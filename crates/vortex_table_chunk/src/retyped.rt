@@ -1,5 +1,6 @@
 //! Chunks whose rows are converted to another type, with the statistics that stay.
-ghost use Rattle.std.specs.Prelude.{◌≡◌, length, true, Some, IfOk, IfSome, IsTrue};
+ghost use Rattle.std.specs.Prelude.{◌≡◌, ◌<◌, ◌+◌, ℕ, List, length, take, true, Some, IfOk, OnOk, IfSome, IsTrue};
+ghost use Rattle.vortex_model.specs.Content.{Content};
 ghost use Rattle.vortex_model.specs.Kept.{is_leaf, is_leaf_at};
 ghost use Rattle.vortex_model.specs.Path.{part_at};
 ghost use Rattle.vortex_model_table.specs.Scan.{kind_at};
@@ -180,15 +181,74 @@ fn all_retyped(
 {
     let mut all = Vec::with_capacity(alloc, leaves.len())?;
     let mut from = 0;
-    for (index, leaf) in leaves.iter().enumerate() {
-        let positions = leaf.as_slice();
-        let max_length = max_lengths[index];
-        from = first_from(&chunk.leaves, from, positions);
-        let old = stays_at(chunk, from, positions, max_length);
-        let bounds = retyped_bounds(alloc, old, array, positions, max_length)?;
-        all.push(bounds)?;
+    for index in 0..leaves.len() {
+        from = first_from(&chunk.leaves, from, leaves[index].as_slice());
+        push_retyped(
+            alloc,
+            &mut all,
+            chunk,
+            from,
+            array,
+            leaves,
+            max_lengths,
+            index,
+        )?;
     }
     Ok(all)
+}
+
+// Adds the statistics of the leaf column with this index to those of the columns before it. `from`
+// is the index that it had in the chunk, if it stays. Integers go straight to their place, and not
+// by way of a result.
+fn push_retyped(
+    alloc: Global,
+    all: &mut Vec<ColumnBounds>,
+    chunk: &Chunk,
+    from: usize,
+    array: &ArrayRef,
+    leaves: &[LeafPath],
+    max_lengths: &[usize],
+    index: usize,
+) -> Result<(), AllocError>
+    requires lengths { length max_lengths.now ≡ length leaves.now }
+    requires leaves { leaves.now ≡ leaf_positions (array_type_of array.now) }
+    requires rows { rows_of array.now ≡ chunk_rows chunk.now }
+    requires within { index < length leaves.now }
+    ensures statistics { OnOk result
+        (AreBoundsOf (take index max_lengths.now) (take index leaves.now) all.old.items
+        (rows_of array.now) → AreBoundsOf (take (index + 1) max_lengths.now)
+        (take (index + 1) leaves.now) all.new.items (rows_of array.now)) }
+    ensures sums { OnOk result
+        (IsTrue (are_sums_of (array_type_of array.now) (take index leaves.now) all.old.items)
+        → IsTrue (are_sums_of (array_type_of array.now) (take (index + 1) leaves.now)
+        all.new.items)) }
+{
+    let positions = leaves[index].as_slice();
+    let max_length = max_lengths[index];
+    let old = stays_at(chunk, from, positions, max_length);
+    if let Some(same) = old {
+        if let Some(bounds) = carried_integers(same, array, positions) {
+            all.push(bounds)?;
+            return Ok(());
+        }
+    }
+    let bounds = retyped_bounds(alloc, old, array, positions, max_length)?;
+    all.push(bounds)?;
+    Ok(())
+}
+
+// The statistics of a column of integers that had these before, and whose sum keeps its type.
+fn carried_integers(old: &ColumnBounds, array: &ArrayRef, leaf: &[usize]) -> Option<ColumnBounds>
+    ensures statistics { IfSome result (λ new. (L : ℕ) (values : List Content)
+        → IsBoundsOf L old.now values → IsBoundsOf L new values) }
+    ensures sums { IfSome result (λ new.
+        int_kind_of new.sum_type ≡ sum_kind (kind_at (array_type_of array.now) leaf.now)) }
+{
+    let dtype = leaf_type(array.dtype(), leaf)?;
+    if !old.has_sum_of(dtype) {
+        return None;
+    }
+    old.in_kind_of(dtype)
 }
 
 // The statistics of a leaf column: from those that it had before, and without them from its rows.

@@ -1,3 +1,5 @@
 pub mod CellLemmas
 pub mod TextLemmas
 pub mod ColumnLemmas
+pub mod NestedLemmas
+pub mod InsideLemmas

@@ -1,3 +1,4 @@
 pub mod Cells
 pub mod Texts
 pub mod Columns
+pub mod Nested

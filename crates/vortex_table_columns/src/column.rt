@@ -141,6 +141,26 @@ impl ColumnBuilder {
         }
     }
 
+    /// One cell more, whatever it is: it is to stand under a null.
+    pub(crate) fn fill(&mut self) -> Result<(), DoesNotFit>
+        ensures { OnOk result ((cell : Raw) × Takes self.old cell self.new) }
+    {
+        match self {
+            ColumnBuilder::Booleans(_, cells) => {
+                cells.push(Some(false))?;
+                Ok(())
+            }
+            ColumnBuilder::Integers(_, _, cells) => {
+                cells.push(Some(0))?;
+                Ok(())
+            }
+            ColumnBuilder::Texts(_, texts) => {
+                texts.push("")?;
+                Ok(())
+            }
+        }
+    }
+
     /// The cells as an array. A null doesn't fit where null can't be.
     pub fn finish(self, alloc: Global) -> Result<ArrayRef, DoesNotFit>
         ensures { IfOk result (λ array. IsColumn (column_type self) (cells_of self) array) }

@@ -1,10 +1,11 @@
-//! Columns that grow cell by cell, and the array of records that they become.
+//! Columns that grow cell by cell, and the arrays that they become.
 #![tactic(auto)]
 
 mod cells;
 pub mod column;
 mod fault;
-pub mod records;
+mod inside;
+pub mod nested;
 pub mod text;
 
 pub use fault::DoesNotFit;

@@ -116,7 +116,7 @@ impl Scan<'_> {
         Ok(())
     }
 
-    // Adds so many neighbouring chunks. Their proofs are evaluated at once.
+    // Adds so many neighbouring chunks. Their proofs are evaluated at once, unless there is none.
     fn add_stretch(
         &self,
         alloc: Global,
@@ -133,6 +133,9 @@ impl Scan<'_> {
         ensures typed { OnOk result
             (AreOfType (table_in self.now).kind answer.new.selections.items) }
     {
+        if count == 0 {
+            return Ok(());
+        }
         let falsified = self.falsified(alloc, first, count)?;
         let chunks = self.chunks_in(first, count);
         self.add_chunks(alloc, first, chunks, &falsified, answer)?;
@@ -178,9 +181,11 @@ impl Scan<'_> {
         ensures typed { IfOk result
             (λ answer. AreOfType (table_in self.now).kind answer.selections.items) }
     {
+        // Most chunks of a scan that statistics serve are skipped.
+        let skipped = Vec::with_capacity(alloc, self.table.chunks.len())?;
         let mut answer = ScanSelection {
             selections: Vec::new(alloc),
-            skipped: Vec::new(alloc),
+            skipped,
             whole: Vec::new(alloc),
             rows_tested: 0,
             proofs: 0,

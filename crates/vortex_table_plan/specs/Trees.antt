@@ -24,4 +24,7 @@ trees_of (origin.BuiltIn k e) = record {
   falsifier = falsifier (type_of k.now) e.now;
   satisfier = satisfier (type_of k.now) e.now;
 }
-trees_of (origin.Given f s) = record { falsifier = f; satisfier = s }
+trees_of (origin.Given given) = record {
+  falsifier = given.value.falsifier;
+  satisfier = given.value.satisfier;
+}

@@ -2,7 +2,7 @@
 //!
 //! Of AND, OR and BETWEEN over comparisons of columns and literals it is made from the predicate
 //! itself, without the tree of the proof. All else is rewritten and then bound.
-ghost use Rattle.std.specs.Prelude.{◌≡◌, IfOk};
+ghost use Rattle.std.specs.Prelude.{◌≡◌, IfOk, option_map};
 ghost use Rattle.vortex_model_table.specs.Expression.{compare, between};
 ghost use Rattle.vortex_model_table.specs.Rewrite.{falsifier, satisfier};
 ghost use Rattle.vortex_dtype_core.specs.View.{type_of};
@@ -38,21 +38,31 @@ pub(crate) fn resolve_proof(
 }
 
 // By the tree of the proof.
-fn bind_any(alloc: Global, dtype: &DType, e: &Expression) -> Result<Option<BoundTree>, AllocError>
-    ensures { IfOk result (λ bound.
-        IsBoundProof (type_of dtype.now) (falsifier (type_of dtype.now) e.now) bound) }
+fn bind_any(
+    alloc: Global,
+    dtype: &DType,
+    e: &Expression,
+) -> Result<Option<Box<BoundTree>>, AllocError>
+    ensures { IfOk result (λ bound. IsBoundProof (type_of dtype.now)
+        (falsifier (type_of dtype.now) e.now) (option_map (λ b. b.value) bound)) }
 {
     let tree = falsify(alloc, dtype, e)?;
-    let bound = resolve_proof(alloc, dtype, &tree)?;
-    Ok(bound)
+    match &tree {
+        Some(proof) => {
+            let bound = bind_proof(alloc, proof, dtype)?;
+            Ok(Some(Box::new(alloc, bound)?))
+        }
+        None => Ok(None),
+    }
 }
 
 fn bind_either(
     alloc: Global,
-    left: Option<BoundTree>,
-    right: Option<BoundTree>,
-) -> Result<Option<BoundTree>, AllocError>
-    ensures { IfOk result (λ bound. bound ≡ either_bound left right) }
+    left: Option<Box<BoundTree>>,
+    right: Option<Box<BoundTree>>,
+) -> Result<Option<Box<BoundTree>>, AllocError>
+    ensures { IfOk result (λ bound. option_map (λ b. b.value) bound
+        ≡ either_bound (option_map (λ b. b.value) left) (option_map (λ b. b.value) right)) }
 {
     match (left, right) {
         (Some(x), Some(y)) => {
@@ -66,10 +76,11 @@ fn bind_either(
 
 fn bind_both(
     alloc: Global,
-    left: Option<BoundTree>,
-    right: Option<BoundTree>,
-) -> Result<Option<BoundTree>, AllocError>
-    ensures { IfOk result (λ bound. bound ≡ both_bound left right) }
+    left: Option<Box<BoundTree>>,
+    right: Option<Box<BoundTree>>,
+) -> Result<Option<Box<BoundTree>>, AllocError>
+    ensures { IfOk result (λ bound. option_map (λ b. b.value) bound
+        ≡ both_bound (option_map (λ b. b.value) left) (option_map (λ b. b.value) right)) }
 {
     match left.zip(right) {
         Some((x, y)) => {
@@ -88,10 +99,10 @@ fn bind_comparison(
     x: &Expression,
     y: &Expression,
     e: &Expression,
-) -> Result<Option<BoundTree>, AllocError>
+) -> Result<Option<Box<BoundTree>>, AllocError>
     requires { e.now ≡ compare (comparison_of comparison) x.now y.now }
-    ensures { IfOk result (λ bound.
-        IsBoundProof (type_of dtype.now) (falsifier (type_of dtype.now) e.now) bound) }
+    ensures { IfOk result (λ bound. IsBoundProof (type_of dtype.now)
+        (falsifier (type_of dtype.now) e.now) (option_map (λ b. b.value) bound)) }
 {
     let Some(left) = side_of(dtype, x) else {
         return bind_any(alloc, dtype, e);
@@ -112,11 +123,11 @@ fn bind_range(
     upper: &Expression,
     options: BetweenOptions,
     e: &Expression,
-) -> Result<Option<BoundTree>, AllocError>
+) -> Result<Option<Box<BoundTree>>, AllocError>
     requires { e.now ≡ between value.now lower.now upper.now (is_strict options.lower_strict)
         (is_strict options.upper_strict) }
-    ensures { IfOk result (λ bound.
-        IsBoundProof (type_of dtype.now) (falsifier (type_of dtype.now) e.now) bound) }
+    ensures { IfOk result (λ bound. IsBoundProof (type_of dtype.now)
+        (falsifier (type_of dtype.now) e.now) (option_map (λ b. b.value) bound)) }
 {
     let Some(inside) = side_of(dtype, value) else {
         return bind_any(alloc, dtype, e);
@@ -135,28 +146,28 @@ fn bind_range(
     Ok(Some(bound))
 }
 
-/// The proof that no row satisfies the predicate, with its columns resolved, where the built-in
-/// rules give one.
-pub(crate) fn bind_falsifier(
+// The proof that no row satisfies the predicate, with its columns resolved, where the built-in
+// rules give one. It is boxed, since what every level of the predicate hands on would be moved.
+fn bind_boxed(
     alloc: Global,
     dtype: &DType,
     e: &Expression,
-) -> Result<Option<BoundTree>, AllocError>
-    ensures { IfOk result (λ bound.
-        IsBoundProof (type_of dtype.now) (falsifier (type_of dtype.now) e.now) bound) }
+) -> Result<Option<Box<BoundTree>>, AllocError>
+    ensures { IfOk result (λ bound. IsBoundProof (type_of dtype.now)
+        (falsifier (type_of dtype.now) e.now) (option_map (λ b. b.value) bound)) }
 {
     match &e.node {
         Node::Literal(_) => bind_any(alloc, dtype, e),
         Node::Column(_) => bind_any(alloc, dtype, e),
         Node::Compare(comparison, x, y) => bind_comparison(alloc, dtype, *comparison, x, y, e),
         Node::And(x, y) => {
-            let left = bind_falsifier(alloc, dtype, x)?;
-            let right = bind_falsifier(alloc, dtype, y)?;
+            let left = bind_boxed(alloc, dtype, x)?;
+            let right = bind_boxed(alloc, dtype, y)?;
             bind_either(alloc, left, right)
         }
         Node::Or(x, y) => {
-            let left = bind_falsifier(alloc, dtype, x)?;
-            let right = bind_falsifier(alloc, dtype, y)?;
+            let left = bind_boxed(alloc, dtype, x)?;
+            let right = bind_boxed(alloc, dtype, y)?;
             bind_both(alloc, left, right)
         }
         Node::Not(_) => bind_any(alloc, dtype, e),
@@ -172,6 +183,35 @@ pub(crate) fn bind_falsifier(
     }
 }
 
+/// The proof that no row satisfies the predicate, with its columns resolved, where the built-in
+/// rules give one.
+pub(crate) fn bind_falsifier(
+    alloc: Global,
+    dtype: &DType,
+    e: &Expression,
+) -> Result<Option<BoundTree>, AllocError>
+    ensures { IfOk result (λ bound.
+        IsBoundProof (type_of dtype.now) (falsifier (type_of dtype.now) e.now) bound) }
+{
+    match bind_boxed(alloc, dtype, e)? {
+        Some(bound) => Ok(Some(Box::into_inner(bound))),
+        None => Ok(None),
+    }
+}
+
+// By the tree of the proof.
+fn bind_any_satisfier(
+    alloc: Global,
+    dtype: &DType,
+    e: &Expression,
+) -> Result<Option<BoundTree>, AllocError>
+    ensures { IfOk result (λ bound.
+        IsBoundProof (type_of dtype.now) (satisfier (type_of dtype.now) e.now) bound) }
+{
+    let tree = satisfy(alloc, dtype, e)?;
+    resolve_proof(alloc, dtype, &tree)
+}
+
 /// The proof that every row satisfies the predicate, with its columns resolved, where the built-in
 /// rules give one.
 pub(crate) fn bind_satisfier(
@@ -182,7 +222,19 @@ pub(crate) fn bind_satisfier(
     ensures { IfOk result (λ bound.
         IsBoundProof (type_of dtype.now) (satisfier (type_of dtype.now) e.now) bound) }
 {
-    let tree = satisfy(alloc, dtype, e)?;
-    let bound = resolve_proof(alloc, dtype, &tree)?;
-    Ok(bound)
+    match &e.node {
+        Node::Literal(_) => bind_any_satisfier(alloc, dtype, e),
+        Node::Column(_) => Ok(None),
+        Node::Compare(_, _, _) => Ok(None),
+        Node::And(_, _) => Ok(None),
+        Node::Or(_, _) => Ok(None),
+        Node::Not(_) => Ok(None),
+        Node::IsNull(_) => bind_any_satisfier(alloc, dtype, e),
+        Node::IsNotNull(_) => bind_any_satisfier(alloc, dtype, e),
+        Node::IsNan(_) => bind_any_satisfier(alloc, dtype, e),
+        Node::Between(_, _, _, _) => Ok(None),
+        Node::Like(_, _, _) => Ok(None),
+        Node::RowCount => Ok(None),
+        Node::Stat(_, _) => Ok(None),
+    }
 }

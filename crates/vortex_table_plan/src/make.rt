@@ -66,6 +66,7 @@ pub(crate) fn check_scan(
 
 /// What every chunk needs for a scan by this predicate, whose columns are resolved, and by these
 /// proofs.
+#[inline(never)]
 pub(crate) fn make_plan<'p>(
     alloc: Global,
     dtype: &DType,
@@ -91,6 +92,7 @@ pub(crate) fn make_plan<'p>(
 
 /// Tests the paths and then the predicate against the type, and prepares what every chunk needs.
 /// No row is read.
+#[inline(never)]
 pub fn prepare<'p>(
     alloc: Global,
     dtype: &'p DType,

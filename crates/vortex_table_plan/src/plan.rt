@@ -1,19 +1,27 @@
 //! What is made of a scan once and used at every chunk.
 
+use std::alloc::{AllocError, Global};
 use std::marker::Model;
 use vortex_dtype_core::dtype::DType;
 use vortex_stats_bind::bound::BoundTree;
 use vortex_stats_expr::expression::Expression;
 use vortex_table_schema::cut::RowProjection;
 
+// A proof that no row satisfies a predicate, and one that every row does.
+#[derive(Drop)]
+pub(crate) struct GivenTrees {
+    falsifier: Option<Expression>,
+    satisfier: Option<Expression>,
+}
+
 // Where the proofs of a predicate over rows of a type come from.
 #[derive(Drop)]
 pub(crate) enum Origin<'p> {
     // The built-in rules.
     BuiltIn(&'p DType, &'p Expression),
-    // Rules of the caller too: a proof that no row satisfies the predicate, and one that every row
-    // does.
-    Given(Option<Expression>, Option<Expression>),
+    // Rules of the caller too. They are boxed, so that a plan of the built-in rules, which moves
+    // from call to call, doesn't have their size.
+    Given(Box<GivenTrees>),
 }
 
 /// A proof that no row satisfies a predicate, the falsifier, and one that every row does, the
@@ -35,7 +43,7 @@ impl<'p> Model for ProofTrees<'p> {
 }
 
 impl<'p> ProofTrees<'p> {
-    ghost use Rattle.std.specs.Prelude.{◌≡◌};
+    ghost use Rattle.std.specs.Prelude.{◌≡◌, IfOk};
     ghost use Rattle.vortex_model_table.specs.Rewrite.{falsifier, satisfier};
     ghost use Rattle.vortex_dtype_core.specs.View.{type_of};
 
@@ -51,15 +59,20 @@ impl<'p> ProofTrees<'p> {
 
     /// These.
     pub(crate) fn given(
+        alloc: Global,
         falsifier: Option<Expression>,
         satisfier: Option<Expression>,
-    ) -> ProofTrees<'p>
-        ensures falsifier { result.falsifier ≡ falsifier }
-        ensures satisfier { result.satisfier ≡ satisfier }
+    ) -> Result<ProofTrees<'p>, AllocError>
+        ensures falsifier { IfOk result (λ trees. trees.falsifier ≡ falsifier) }
+        ensures satisfier { IfOk result (λ trees. trees.satisfier ≡ satisfier) }
     {
-        ProofTrees {
-            origin: Origin::Given(falsifier, satisfier),
-        }
+        let given = GivenTrees {
+            falsifier,
+            satisfier,
+        };
+        Ok(ProofTrees {
+            origin: Origin::Given(Box::new(alloc, given)?),
+        })
     }
 }
 

@@ -150,7 +150,7 @@ pub fn prepare_with<'p>(
     let bound = check_scan(alloc, dtype, paths, predicate)?;
     let (falsifier, satisfier) = make_trees_with(alloc, dtype, predicate, rules)?;
     let proofs = bind_proofs(alloc, dtype, &falsifier, &satisfier)?;
-    let trees = ProofTrees::given(falsifier, satisfier);
+    let trees = ProofTrees::given(alloc, falsifier, satisfier)?;
     let plan = make_plan(alloc, dtype, paths, bound, trees, proofs)?;
     Ok(plan)
 }

@@ -1,4 +1,5 @@
-//! Comparisons of columns and literals, and when each of them is true of no row.
+//! Comparisons of columns and literals, and when each of them is true of no row. What is bound is
+//! handed on in boxes, in which it ends up anyway.
 ghost use Rattle.std.specs.Prelude.{◌≡◌, IfOk, IfSome};
 ghost use Rattle.vortex_model_table.specs.Expression.{compare, min, max};
 ghost use Rattle.vortex_model.specs.Path.{positions};
@@ -57,14 +58,22 @@ pub(crate) fn side_of<'e>(dtype: &DType, e: &'e Expression) -> Option<Side<'e>>
 }
 
 // A column's positions, and null where it leads nowhere.
-fn bind_column(alloc: Global, dtype: &DType, path: &FieldNames) -> Result<BoundTree, AllocError>
-    ensures { IfOk result (λ bound. bound ≡ bound_column (positions (type_of dtype.now) path.now)) }
+fn bind_column(
+    alloc: Global,
+    dtype: &DType,
+    path: &FieldNames,
+) -> Result<Box<BoundTree>, AllocError>
+    ensures { IfOk result
+        (λ bound. bound.value ≡ bound_column (positions (type_of dtype.now) path.now)) }
 {
     match column_positions(alloc, dtype, path)? {
-        Some(positions) => Ok(BoundTree {
-            node: BoundNode::Column(positions),
-        }),
-        None => Ok(bound_literal(None)),
+        Some(positions) => {
+            let bound = BoundTree {
+                node: BoundNode::Column(positions),
+            };
+            Ok(Box::new(alloc, bound)?)
+        }
+        None => Ok(Box::new(alloc, bound_literal(None))?),
     }
 }
 
@@ -74,20 +83,21 @@ fn bind_side(
     dtype: &DType,
     aggregate: AggregateFn,
     side: Side,
-) -> Result<BoundTree, AllocError>
-    ensures { IfOk result (λ bound. bound ≡ bound_of (type_of dtype.now)
+) -> Result<Box<BoundTree>, AllocError>
+    ensures { IfOk result (λ bound. bound.value ≡ bound_of (type_of dtype.now)
         (bound_expression (aggregate_of aggregate) (side_expression side.entry))) }
 {
     match side {
         Side::Literal(value) => {
             let value = clone_value(value.value())?;
-            Ok(bound_literal(value))
+            Ok(Box::new(alloc, bound_literal(value))?)
         }
         Side::Column(path) => {
             let input = bind_column(alloc, dtype, path)?;
-            Ok(BoundTree {
-                node: BoundNode::Stat(aggregate, Box::new(alloc, input)?),
-            })
+            let bound = BoundTree {
+                node: BoundNode::Stat(aggregate, input),
+            };
+            Ok(Box::new(alloc, bound)?)
         }
     }
 }
@@ -100,17 +110,18 @@ fn compare_by(
     x: Side,
     second: AggregateFn,
     y: Side,
-) -> Result<BoundTree, AllocError>
-    ensures { IfOk result (λ bound. bound ≡ bound_of (type_of dtype.now)
+) -> Result<Box<BoundTree>, AllocError>
+    ensures { IfOk result (λ bound. bound.value ≡ bound_of (type_of dtype.now)
         (compare (comparison_of comparison)
         (bound_expression (aggregate_of first) (side_expression x.entry))
         (bound_expression (aggregate_of second) (side_expression y.entry)))) }
 {
     let left = bind_side(alloc, dtype, first, x)?;
     let right = bind_side(alloc, dtype, second, y)?;
-    Ok(BoundTree {
-        node: BoundNode::Compare(comparison, Box::new(alloc, left)?, Box::new(alloc, right)?),
-    })
+    let bound = BoundTree {
+        node: BoundNode::Compare(comparison, left, right),
+    };
+    Ok(Box::new(alloc, bound)?)
 }
 
 fn compare_least(
@@ -119,8 +130,8 @@ fn compare_least(
     comparison: Comparison,
     x: Side,
     y: Side,
-) -> Result<BoundTree, AllocError>
-    ensures { IfOk result (λ bound. bound ≡ bound_of (type_of dtype.now)
+) -> Result<Box<BoundTree>, AllocError>
+    ensures { IfOk result (λ bound. bound.value ≡ bound_of (type_of dtype.now)
         (compare (comparison_of comparison) (bound_expression min (side_expression x.entry))
         (bound_expression max (side_expression y.entry)))) }
 {
@@ -141,8 +152,8 @@ fn compare_greatest(
     comparison: Comparison,
     x: Side,
     y: Side,
-) -> Result<BoundTree, AllocError>
-    ensures { IfOk result (λ bound. bound ≡ bound_of (type_of dtype.now)
+) -> Result<Box<BoundTree>, AllocError>
+    ensures { IfOk result (λ bound. bound.value ≡ bound_of (type_of dtype.now)
         (compare (comparison_of comparison) (bound_expression max (side_expression x.entry))
         (bound_expression min (side_expression y.entry)))) }
 {
@@ -164,8 +175,8 @@ pub(crate) fn falsify_sides(
     comparison: Comparison,
     x: Side,
     y: Side,
-) -> Result<BoundTree, AllocError>
-    ensures { IfOk result (λ bound. bound ≡ bound_of (type_of dtype.now)
+) -> Result<Box<BoundTree>, AllocError>
+    ensures { IfOk result (λ bound. bound.value ≡ bound_of (type_of dtype.now)
         (comparison_falsifier (comparison_of comparison) (side_expression x.entry)
         (side_expression y.entry))) }
 {
@@ -189,24 +200,26 @@ pub(crate) fn falsify_sides(
 
 pub(crate) fn bind_and(
     alloc: Global,
-    left: BoundTree,
-    right: BoundTree,
-) -> Result<BoundTree, AllocError>
-    ensures { IfOk result (λ bound. bound ≡ each left right) }
+    left: Box<BoundTree>,
+    right: Box<BoundTree>,
+) -> Result<Box<BoundTree>, AllocError>
+    ensures { IfOk result (λ bound. bound.value ≡ each left.value right.value) }
 {
-    Ok(BoundTree {
-        node: BoundNode::And(Box::new(alloc, left)?, Box::new(alloc, right)?),
-    })
+    let bound = BoundTree {
+        node: BoundNode::And(left, right),
+    };
+    Ok(Box::new(alloc, bound)?)
 }
 
 pub(crate) fn bind_or(
     alloc: Global,
-    left: BoundTree,
-    right: BoundTree,
-) -> Result<BoundTree, AllocError>
-    ensures { IfOk result (λ bound. bound ≡ some left right) }
+    left: Box<BoundTree>,
+    right: Box<BoundTree>,
+) -> Result<Box<BoundTree>, AllocError>
+    ensures { IfOk result (λ bound. bound.value ≡ some left.value right.value) }
 {
-    Ok(BoundTree {
-        node: BoundNode::Or(Box::new(alloc, left)?, Box::new(alloc, right)?),
-    })
+    let bound = BoundTree {
+        node: BoundNode::Or(left, right),
+    };
+    Ok(Box::new(alloc, bound)?)
 }

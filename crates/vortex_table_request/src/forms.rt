@@ -74,8 +74,8 @@ fn operator_named(name: &str) -> Option<Operator>
     }
 }
 
-/// The form of this name.
-pub fn form_named(name: &str) -> Option<Form>
+// Name by name.
+fn find_form(name: &str) -> Option<Form>
     ensures { result ≡ form_named name.now }
 {
     match name {
@@ -93,6 +93,25 @@ pub fn form_named(name: &str) -> Option<Form>
             Some(operator) => Some(Form::Binary(Binary::Operator(operator))),
             None => None,
         },
+    }
+}
+
+/// The form of this name. The shortest names, which stand most often in a line, are told by their
+/// bytes.
+pub fn form_named(name: &str) -> Option<Form>
+    ensures { result ≡ form_named name.now }
+{
+    match name.as_bytes() {
+        [b'='] => Some(Form::Binary(Binary::Operator(Operator::Eq))),
+        [b'>'] => Some(Form::Binary(Binary::Operator(Operator::Gt))),
+        [b'<'] => Some(Form::Binary(Binary::Operator(Operator::Lt))),
+        [b'>', b'='] => Some(Form::Binary(Binary::Operator(Operator::Gte))),
+        [b'<', b'='] => Some(Form::Binary(Binary::Operator(Operator::Lte))),
+        [b'o', b'r'] => Some(Form::Binary(Binary::Operator(Operator::Or))),
+        [b'a', b'n', b'd'] => Some(Form::Binary(Binary::Operator(Operator::And))),
+        [b'c', b'o', b'l'] => Some(Form::Leaf(Leaf::Column)),
+        [b'l', b'i', b't'] => Some(Form::Leaf(Leaf::Literal)),
+        _ => find_form(name),
     }
 }
 

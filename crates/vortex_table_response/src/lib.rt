@@ -3,6 +3,7 @@
 
 mod descriptions;
 mod hexadecimal;
+mod indices;
 mod refusals;
 mod scans;
 pub mod type_texts;

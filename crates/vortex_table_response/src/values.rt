@@ -7,6 +7,7 @@ ghost use Rattle.vortex_scalar_value.specs.View.{raw_of, raw_at, raws_in};
 ghost use Rattle.vortex_table_response.specs.Text.{content_text, contents_text, numbers_text};
 
 use crate::hexadecimal::push_bytes;
+use crate::indices::push_index;
 use crate::type_texts::{push_comma, push_flag, push_number, push_text};
 use std::alloc::AllocError;
 use vortex_scalar_value::pvalue::PValue;
@@ -19,7 +20,7 @@ pub fn push_numbers(out: &mut Vec<u8>, numbers: &[usize]) -> Result<(), AllocErr
     let mut later = false;
     for n in numbers {
         push_comma(out, later)?;
-        push_number(out, *n)?;
+        push_index(out, *n)?;
         later = true;
     }
     Ok(())

@@ -1,15 +1,15 @@
 -- The integers of a column lie between its exact bounds.
-use Rattle.std.proofs.Common.{◌≡◌, ◌<◌, ◌≤ℤ◌, ℕ, ℤ, zero, suc, List, [], ◌∷◌, ◌++◌, length, get_or, map, Bool, true, false, cond, Option, Some, None, option_map, if◌then◌else◌, int_lt, not, refl, sym, ap, subst, ◌∙◌, arith}
+use Rattle.std.proofs.Common.{◌≡◌, ◌<◌, ◌≤ℤ◌, ℕ, ℤ, zero, suc, List, [], ◌∷◌, ◌++◌, length, get_or, Bool, true, false, cond, Option, Some, None, option_map, if◌then◌else◌, int_lt, refl, sym, ap, subst, ◌∙◌, arith}
 use Rattle.std.specs.List.{All, AllByRecursion}
 use Rattle.std.specs.Ordering.{is_le, int_cmp}
 use Rattle.std.specs.declared.cmp.Ordering.TheVariants.{Less, Equal, Greater}
 use Rattle.std.proofs.lemmas.Int.{ints}
 use Rattle.std.proofs.lemmas.List.{get_or-map, length-map}
 use Rattle.std.proofs.lemmas.List.Elements.{All-append}
-use Rattle.vortex_model.specs.Content.{Content, null, integer, text, byte_string, boolean}
+use Rattle.vortex_model.specs.Content.{Content, null, integer, text, byte_string}
 use Rattle.vortex_model.specs.Path.{Positions, at}
-use Rattle.vortex_model_table.specs.Statistics.{Precision, exact, inexact, absent, non_null, is_at_most, least_value, greatest_value}
-use Rattle.vortex_model_table.specs.ZoneMap.{bound_of, low_of_values, high_of_values, values_at}
+use Rattle.vortex_model_table.specs.Statistics.{Precision, exact, absent, non_null, is_at_most, least_value, greatest_value}
+use Rattle.vortex_model_table.specs.ZoneMap.{bound_of, values_at}
 use Rattle.vortex_model_table.specs.Bounds.{low, high, is_longer}
 use Rattle.vortex_model_laws.proofs.Leasts.{is_at_least, picked_end}
 use Rattle.vortex_arrays_model.specs.Layout.{Layout, len_of, content_at, rows_of}

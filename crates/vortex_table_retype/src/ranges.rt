@@ -1,12 +1,12 @@
 //! Ranges that the statistics of a chunk give the integers of its leaf columns.
-ghost use Rattle.std.specs.Prelude.{◌≡◌, ℕ, List, All, IfOk, IfSome};
+ghost use Rattle.std.specs.Prelude.{◌≡◌, ℕ, List, All, OnOk, IfSome};
 ghost use Rattle.vortex_model.specs.Content.{Content, integer};
 ghost use Rattle.vortex_model_table.specs.Statistics.{exact};
 ghost use Rattle.vortex_arrays_model.specs.Layout.{len_of, content_at};
 ghost use Rattle.vortex_arrays_cast.specs.Ranges.{AreRangesOf, IsBetween, IsRangeIn};
 ghost use Rattle.vortex_table_chunk.specs.zones.Bounds.{bound_in, IsBoundsOf};
 
-use std::alloc::{AllocError, Global};
+use std::alloc::AllocError;
 use vortex_arrays_cast::ranges::LeafRange;
 use vortex_scalar_value::scalar_value::ScalarValue;
 use vortex_table_chunk::chunk::Chunk;
@@ -65,17 +65,20 @@ fn range_at(chunk: &Chunk, index: usize) -> Option<LeafRange<'_>>
     })
 }
 
-/// The ranges of the chunk's leaf columns, of those whose values are integers and not all null, in
-/// the order of the leaves.
+/// Makes these the ranges of the chunk's leaf columns, of those whose values are integers and not
+/// all null, in the order of the leaves. What they were before is let go, and its memory serves.
 #[tactic(auto, using(crate::proofs::RangeLemmas::pushed))]
-pub(crate) fn ranges_of(alloc: Global, chunk: &Chunk) -> Result<Vec<LeafRange<'_>>, AllocError>
-    ensures { IfOk result (λ ranges. AreRangesOf 0 chunk.now.array ranges.items) }
+pub(crate) fn find_ranges<'a>(
+    ranges: &mut Vec<LeafRange<'a>>,
+    chunk: &'a Chunk,
+) -> Result<(), AllocError>
+    ensures { OnOk result (AreRangesOf 0 chunk.now.array ranges.new.items) }
 {
-    let mut ranges = Vec::with_capacity(alloc, chunk.leaves.len())?;
+    ranges.clear();
     for index in 0..chunk.leaves.len() {
         if let Some(range) = range_at(chunk, index) {
             ranges.push(range)?;
         }
     }
-    Ok(ranges)
+    Ok(())
 }

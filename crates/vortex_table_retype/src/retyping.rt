@@ -2,6 +2,7 @@
 use crate::rows::{convert_chunk, convert_rows};
 use std::alloc::Global;
 use std::rc::Rc;
+use vortex_arrays_cast::ranges::LeafRange;
 use vortex_arrays_core::array::ArrayRef;
 use vortex_dtype_core::dtype::DType;
 use vortex_table_check::error::TableError;
@@ -47,14 +48,15 @@ impl Retyping<'_> {
     ghost use Rattle.vortex_table_retype.specs.TooLarge.{AnyTooLarge};
 
     // `first` is the index of the chunk's first row in the table. Names are shared with the other
-    // array, where that has the same ones. It stays a function of its own, since its work on a
-    // chunk then touches a small frame, and not that of all commands.
+    // array, where that has the same ones, and `ranges` lends its memory. It stays a function of
+    // its own, since its work on a chunk then touches a small frame, and not that of all commands.
     #[inline(never)]
-    fn retype_chunk(
+    fn retype_chunk<'a>(
         &self,
         alloc: Global,
+        ranges: &mut Vec<LeafRange<'a>>,
         first: usize,
-        chunk: &Chunk,
+        chunk: &'a Chunk,
         other: Option<&ArrayRef>,
     ) -> Result<Chunk, TableError>
         requires retyping { IsRetyping self.now }
@@ -69,7 +71,7 @@ impl Retyping<'_> {
             (AreTooLarge (target_of self.now) (chunk_rows chunk.now)) (first_unconvertible first
             (source_of self.now) (target_of self.now) (chunk_rows chunk.now)) e) }
     {
-        let array = convert_chunk(alloc, self.target, first, chunk, other)?;
+        let array = convert_chunk(alloc, ranges, self.target, first, chunk, other)?;
         let new = retyped_chunk(alloc, chunk, self.leaves, self.lengths, array)?;
         Ok(new)
     }
@@ -126,9 +128,11 @@ impl Retyping<'_> {
             (flat_map (λ chunk. chunk) (map chunk_rows chunks.now))) e) }
     {
         let mut converted = Vec::with_capacity(alloc, chunks.len())?;
+        let mut ranges = Vec::with_capacity(alloc, self.leaves.len())?;
         let mut first = 0;
         for chunk in chunks {
-            let new = self.retype_chunk(alloc, first, chunk, last_array(&converted))?;
+            let other = last_array(&converted);
+            let new = self.retype_chunk(alloc, &mut ranges, first, chunk, other)?;
             converted.push(new)?;
             first += chunk.array.len();
         }

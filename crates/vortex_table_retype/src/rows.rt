@@ -15,11 +15,12 @@ ghost use Rattle.vortex_table_schema.specs.Rows.{row_content};
 ghost use Rattle.vortex_table_check.specs.Error.{Explains};
 ghost use Rattle.vortex_arrays_builder.specs.TooLarge.{AreTooLarge};
 
-use crate::ranges::ranges_of;
+use crate::ranges::find_ranges;
 use std::alloc::{AllocError, Global};
 use vortex_arrays_builder::laws::tables_hold_plain_types;
 use vortex_arrays_builder::plain::build_plain;
 use vortex_arrays_cast::cast::cast_array_within;
+use vortex_arrays_cast::ranges::LeafRange;
 use vortex_arrays_core::array::ArrayRef;
 use vortex_arrays_view::error::ArrayError;
 use vortex_dtype_core::dtype::DType;
@@ -166,14 +167,16 @@ fn convert_by_rows(
 /// buffers.
 ///
 /// The integers of a leaf column are not tested where the target holds their least and their
-/// greatest. Names of fields are shared with the other array, where that has the same ones.
+/// greatest. `ranges` lends its memory for that. Names of fields are shared with the other array,
+/// where that has the same ones.
 #[inline(never)]
 #[tactic(auto, using(crate::proofs::ConvertedRows::all_convertible))]
-pub(crate) fn convert_chunk(
+pub(crate) fn convert_chunk<'a>(
     alloc: Global,
+    ranges: &mut Vec<LeafRange<'a>>,
     target: &DType,
     first: usize,
-    chunk: &Chunk,
+    chunk: &'a Chunk,
     other: Option<&ArrayRef>,
 ) -> Result<ArrayRef, TableError>
     requires kept { type_fault (type_of target.now) ≡ None }
@@ -187,8 +190,8 @@ pub(crate) fn convert_chunk(
         (AreTooLarge (type_of target.now) (rows_of chunk.now.array)) (first_unconvertible first
         (array_type_of chunk.now.array) (type_of target.now) (rows_of chunk.now.array)) e) }
 {
-    let ranges = ranges_of(alloc, chunk)?;
-    match cast_array_within(alloc, &chunk.array, target, &ranges, other)? {
+    find_ranges(ranges, chunk)?;
+    match cast_array_within(alloc, &chunk.array, target, ranges, other)? {
         Some(cast) => Ok(cast),
         None => convert_by_rows(alloc, target, first, &chunk.array),
     }

@@ -162,8 +162,10 @@ impl Session {
         }
     }
 
-    /// Runs a command. What it holds is dropped.
-    fn answer_command(&mut self, alloc: Global, command: Command, out: &mut Vec<u8>) -> Response
+    // Runs a command, of which the parts are taken out. Kept out of the way of scans, since a
+    // command of another kind does far more than a call costs.
+    #[inline(never)]
+    fn answer_by_parts(&mut self, alloc: Global, command: Command, out: &mut Vec<u8>) -> Response
         ensures { Responds (table_in self.old) (shown command) result out.new.items
             (table_in self.new) }
     {
@@ -185,6 +187,18 @@ impl Session {
             Command::Compact => self.answer_compact(),
             Command::Describe { path, group } => self.answer_describe(alloc, &path, group, out),
         }
+    }
+
+    /// Runs a command. What it holds is dropped. A scan is served from where the command stands,
+    /// since its predicate is big to move.
+    fn answer_command(&mut self, alloc: Global, command: Command, out: &mut Vec<u8>) -> Response
+        ensures { Responds (table_in self.old) (shown command) result out.new.items
+            (table_in self.new) }
+    {
+        if let Command::Scan { paths, predicate } = &command {
+            return self.answer_scan(alloc, paths, predicate, out);
+        }
+        self.answer_by_parts(alloc, command, out)
     }
 }
 

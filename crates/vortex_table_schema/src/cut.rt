@@ -5,7 +5,7 @@ ghost use Rattle.vortex_model_table.specs.Cut.{cut_kind, cut_type};
 ghost use Rattle.vortex_model_table.specs.Command.{names_of};
 ghost use Rattle.vortex_dtype_core.specs.View.{type_of, field_of};
 ghost use Rattle.vortex_dtype_path.specs.View.{step_of};
-ghost use Rattle.vortex_table_schema.specs.Cut.{paths_of, names_at, strip_all, is_root, ask_for_all, first_step, IsIndex, AreBelow, kept_by, whole, cut_named, kept_list, tree_of, part_of_field};
+ghost use Rattle.vortex_table_schema.specs.Cut.{paths_of, names_at, strip_step, strip_all, is_root, is_not_root, ask_for_all, first_step, IsIndex, AreBelow, kept_by, whole, cut_named, kept_list, tree_of, part_of_field};
 
 use crate::projection::{ProjectedField, Projection};
 use std::alloc::{AllocError, Global};
@@ -16,6 +16,10 @@ use vortex_dtype_path::field::Field;
 use vortex_dtype_path::path::FieldPath;
 use vortex_dtype_ptype::field_names::FieldName;
 use vortex_dtype_ptype::nullability::Nullability;
+
+// Up to so many paths are looked at one by one for each field of a record. More are indexed by
+// their first names.
+const WALKED_PATHS: usize = 8;
 
 /// The part of rows that paths ask for: its type, and the fields to keep of a value.
 #[derive(Drop)]
@@ -128,8 +132,47 @@ fn first_step<'a>(path: &'a [Field]) -> Option<(&'a FieldName, &'a [Field])>
     }
 }
 
-// One more path, which leads through this name. A group is taken out while it grows.
+// The steps behind a first step to this name. A path without a step leads everywhere.
+fn strip_step<'a>(path: &'a [Field], name: &FieldName) -> Option<&'a [Field]>
+    ensures { option_map names_at result ≡ strip_step name.now (names_of (map step_of path.now)) }
+{
+    match path {
+        [] => Some(path),
+        [Field::Name(first), rest @ ..] => { if first == name { Some(rest) } else { None } }
+        [Field::ElementType, rest @ ..] => strip_step(rest, name),
+    }
+}
 
+// The steps behind this name, of each path that leads through it.
+fn strip_all<'a>(
+    alloc: Global,
+    paths: &[&'a [Field]],
+    name: &FieldName,
+) -> Result<Vec<&'a [Field]>, AllocError>
+    ensures { IfOk result (λ left. map names_at left.items
+        ≡ strip_all name.now (map names_at paths.now)) }
+{
+    let mut left = Vec::new(alloc);
+    for path in paths {
+        match strip_step(path, name) {
+            Some(rest) => left.push(rest)?,
+            None => {}
+        }
+    }
+    Ok(left)
+}
+
+// Whether there is a path.
+fn is_not_root(paths: &[&[Field]]) -> bool
+    ensures { result ≡ is_not_root (map names_at paths.now) }
+{
+    match paths {
+        [] => false,
+        [_, ..] => true,
+    }
+}
+
+// One more path, which leads through this name. A group is taken out while it grows.
 fn add_path<'a>(
     alloc: Global,
     index: &mut BTreeMap<&'a str, Vec<&'a [Field]>, Global>,
@@ -213,8 +256,39 @@ fn cut_part(alloc: Global, dtype: &DType, paths: &[&[Field]]) -> Result<RowProje
     }
 }
 
+// Few paths are walked for each field.
 #[cycle(cut)]
 fn cut_fields(
+    alloc: Global,
+    fields: &[StructField],
+    paths: &[&[Field]],
+) -> Result<ProjectedFields, AllocError>
+    requires { ask_for_all (map names_at paths.now) ≡ false }
+    ensures parts { IfOk result (λ all. map field_of all.parts.items
+        ≡ cut_named (map names_at paths.now) (map field_of fields.now)) }
+    ensures kept { IfOk result (λ all. map part_of_field all.kept.items
+        ≡ kept_list (map names_at paths.now) 0 (map field_of fields.now)) }
+{
+    if paths.len() > WALKED_PATHS {
+        return cut_indexed(alloc, fields, paths);
+    }
+    let mut all = ProjectedFields {
+        parts: Vec::new(alloc),
+        kept: Vec::new(alloc),
+    };
+    for (position, field) in fields.iter().enumerate() {
+        let left = strip_all(alloc, paths, &field.name)?;
+        if is_not_root(&left) {
+            let cut = cut_part(alloc, &field.dtype, &left)?;
+            all.push(position, field, cut)?;
+        }
+    }
+    Ok(all)
+}
+
+// Many paths are indexed by their first names.
+#[cycle(cut)]
+fn cut_indexed(
     alloc: Global,
     fields: &[StructField],
     paths: &[&[Field]],

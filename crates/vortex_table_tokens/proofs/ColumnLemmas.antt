@@ -1,30 +1,35 @@
 -- Columns that take the rows of an append, a token at a time.
-use Rattle.std.proofs.Common.{◌≡◌, ℕ, suc, ℤ, ◌+◌, ◌<◌, ◌≤◌, List, [], ◌∷◌, ◌++◌, map, length, get_or, set, take, drop, Bool, true, false, Option, Some, None, if◌then◌else◌, option_map, option_and_then, unwrap_or, refl, sym, ap, ◌∙◌, subst, arith, add-one, drop-cons, append_assoc, append-nil}
-use Rattle.std.specs.List.{range_with_len}
-use Rattle.std.specs.Prelude.{Result, OnOk}
-use Rattle.std.proofs.lemmas.Result.{IfOk-weaker}
-use Rattle.std.proofs.lemmas.List.{drop_all, drop-drop, drop-set-lt, take_all, take_more, take_more_set, length-set, length-append, get_or_append_left, get_or_push}
-use Rattle.std.proofs.lemmas.List.FromFn.{fill_by_all, get_or-map-range_with_len, length-map-range_with_len, map-range_with_len_more}
+use Rattle.std.proofs.Common.{◌≡◌, ℕ, suc, ℤ, ◌+◌, ◌-◌, ◌<◌, ◌≤◌, ◌==◌, List, [], ◌∷◌, ◌++◌, map, length, get_or, set, drop, Bool, true, Option, Some, None, is_some, if◌then◌else◌, option_map, option_and_then, Vec, Global, refl, sym, ap, ◌∙◌, subst, arith, append-nil}
+use Rattle.std.specs.List.{flat_map, range_with_len}
+use Rattle.std.specs.declared.boxed.Box.{Box}
+use Rattle.std.specs.Box.{with_value}
+use Rattle.std.proofs.lemmas.List.{drop_all, length-append, length-map}
+use Rattle.std.proofs.lemmas.List.FromFn.{fill_by_all}
 use Rattle.json.specs.Token.{Token}
 use Rattle.json.specs.Json.{after_end_array}
-use Rattle.serde_json.specs.Data.{Data, Num, null, boolean, number, string, array, Items, no_items, item}
-use Rattle.serde_json.specs.Find.{as_integer, of_integer}
+use Rattle.serde_json.specs.Data.{Data, Num, boolean, number, string, array, no_items}
+use Rattle.serde_json.specs.Events.{items_len}
+use Rattle.serde_json.specs.Find.{of_integer}
 use Rattle.serde_json.specs.Read.{number_of}
-use Rattle.vortex_model.specs.LogicalType.{LogicalType, IntKind, boolean_type, integer_type, utf8, struct, non_nullable, nullable, is_nullable, nullability_of, Fields, no_fields, field}
-use Rattle.vortex_dtype_core.specs.Parts.{fields_in_type}
-use Rattle.vortex_model.specs.Content.{Raw, raw_null, raw_boolean, raw_number, raw_text, raw_tuple}
+use Rattle.vortex_model.specs.LogicalType.{LogicalType, boolean_type, integer_type, utf8, list, fixed_list, struct, Fields, no_fields, field}
+use Rattle.vortex_model.specs.Content.{Raw, raw_null, raw_number}
 use Rattle.vortex_model.specs.Valid.{in_range}
-use Rattle.vortex_scalar_value.specs.View.{raws_from}
-use Rattle.vortex_table_request.specs.Parsed.{items_keep_whole}
-use Rattle.vortex_table_request.specs.Rows.{number_at, reading, readings, element_readings, rows_at}
-use Rattle.vortex_table_columns.specs.Columns.{column_type, cells_of, boolean_cell, number_cell, text_cell, Takes, AreColumns, record_at, records_of}
+use Rattle.vortex_arrays_model.specs.Layout.{Layout}
+use Rattle.vortex_arrays_core.specs.RawRows.{raw_row}
+use Rattle.vortex_table_request.specs.Rows.{reading, readings, element_readings, rows_at, if_sized}
+use Rattle.vortex_table_request.specs.View.{raw_rows}
+use Rattle.vortex_table_columns.specs.Cells.{IsColumn}
+use Rattle.vortex_table_columns.specs.Columns.{column_type, boolean_cell, number_cell, text_cell, Takes}
+use Rattle.vortex_table_columns.specs.Nested.{Column, tuples, lists, sized_lists, Columns, next_column, column_of, columns_of, tuple_of, first_of, rest_of, items_in, Holds, HaveFields, IsOf, AreOf, Gains, GainsAll, EachGains}
 use Rattle.vortex_table_columns.specs.declared.column.ColumnBuilder.{ColumnBuilder}
-use Rattle.vortex_table_tokens.specs.Begins.{BeginsItems}
-use Rattle.vortex_table_tokens.specs.Columns.{fields_by, Grown, AreColumnsOf}
+use Rattle.vortex_table_columns.specs.declared.nested.NestedBuilder as nested
+use Rattle.vortex_table_columns.specs.declared.nested.NestedBuilder.{NestedBuilder}
+use Rattle.vortex_table_columns.proofs.NestedLemmas.{column_of-Leaf, column_of-Records, column_of-Lists, column_of-FixedLists, leaf_step, record_step, list_step, sized_step, gains_none, gains_more, ColumnsGained, gained_none, gained_more, gained_all, next_column_is}
+use Rattle.vortex_table_tokens.specs.Columns.{TakesLeaf, TakesValue, TakesArray, EachTakes, TakesItems}
 use Rattle.vortex_table_tokens.specs.Values.{HasValue, HasItems, IsLeaf}
 use Rattle.vortex_table_tokens.proofs.Grammar.{no_more_items}
-use Rattle.vortex_table_tokens.proofs.OneToken.{integer_kept, boolean_leaf, string_leaf, number_leaf}
-use Rattle.vortex_table_tokens.proofs.Rows.{leaf_value, FieldsLeft, field_read, ElementsLeft, element_read, rows_read}
+use Rattle.vortex_table_tokens.proofs.OneToken.{integer_kept, null_leaf, boolean_leaf, string_leaf, number_leaf}
+use Rattle.vortex_table_tokens.proofs.Rows.{leaf_value, array_value, FieldsLeft, all_fields_left, field_read, ElementsLeft, all_elements_left, element_read, rows_read, readings_len}
 
 -- ---- cells are readings
 
@@ -49,214 +54,222 @@ number_cell_leaf k s z r e f = number_leaf k s z r e (number_reads k z r f)
 pub text_cell_leaf : (k : LogicalType) (s : List ℕ) (r : Raw) → text_cell k s ≡ Some r → IsLeaf k (Token.string s) r
 text_cell_leaf k s r e = string_leaf k s r (text_reads k s r e)
 
--- the cell of a token is the value that comes next
-pub cell_read : {T E : Type 0} (result : Result T E) (c d : ColumnBuilder) (old new : List Token) (t : Token) → old ≡ t ∷ new → OnOk result ((cell : Raw) × Takes c cell d × IsLeaf (column_type c) t cell)
-    → OnOk result ((cell : Raw) × Takes c cell d × HasValue 124 old (λ x. reading (column_type c) x ≡ Some cell) new)
-cell_read result c d old new t is h = IfOk-weaker result _ _ (λ v x. (x.0, x.1, leaf_value (column_type c) 124 old new t x.0 is x.2)) h
+-- ---- one value
 
--- ---- columns of a type
+pub leaf_read : (c d : ColumnBuilder) (old new : List Token) (t : Token) → old ≡ t ∷ new → (cell : Raw) × Takes c cell d × IsLeaf (column_type c) t cell → TakesLeaf old c d new
+leaf_read c d old new t is x = (x.0, x.1, λ depth. leaf_value (column_type c) depth old new t x.0 is x.2)
 
-pub flat : (k : LogicalType) (fs : Fields) (n : ℕ) (cs : List ColumnBuilder) → is_nullable (nullability_of k) ≡ false → fields_in_type k ≡ Some fs → AreColumns fs n cs → AreColumnsOf k n cs
-flat (struct gs non_nullable) fs n cs e f h = record {
-  fields = fs;
-  records = ap (λ (o : Option Fields). struct (unwrap_or o no_fields) non_nullable) f;
-  columns = h;
-}
-flat (struct gs nullable) fs n cs e f h = absurd (cc e)
-flat k fs n cs e f h = absurd (cc f)
+of_leaf : (c : ColumnBuilder) (k : LogicalType) → IsOf (column_of (nested.Leaf c)) k → column_type c ≡ k
+of_leaf c k of = (subst (λ x. Holds x k of.0) (column_of-Leaf c) of.1).0
 
--- ---- columns that have grown
+pub leaf_taken : (depth : ℕ) (old new : List Token) (c d : ColumnBuilder) → TakesLeaf old c d new → TakesValue depth old (column_of (nested.Leaf c)) (column_of (nested.Leaf d)) new
+leaf_taken depth old new c d x = (x.0, leaf_step c d x.0 x.1, λ k of. subst (λ j. HasValue depth old (λ v. reading j v ≡ Some x.0) new) (of_leaf c k of) (x.2 depth), (x.2 depth).1.1)
 
-grown_push : (cs : List ColumnBuilder) (rs : List Raw) (ds : List ColumnBuilder) (c d : ColumnBuilder) (r : Raw) → Grown cs rs ds → Takes c r d → Grown (cs ++ c ∷ []) (rs ++ r ∷ []) (ds ++ d ∷ [])
-grown_push [] [] [] c d r g t = (t, tt)
-grown_push (x ∷ cs) (y ∷ rs) (z ∷ ds) c d r g t = (g.0, grown_push cs rs ds c d r g.1 t)
-grown_push [] [] (z ∷ ds) c d r g t = absurd g
-grown_push [] (y ∷ rs) ds c d r g t = absurd g
-grown_push (x ∷ cs) [] ds c d r g t = absurd g
-grown_push (x ∷ cs) (y ∷ rs) [] c d r g t = absurd g
+one_less : (old new : List Token) (t : Token) → old ≡ t ∷ new → length new < length old
+one_less old new t is =
+    let e : length old ≡ suc (length new) = ap length is in
+    omega (arith, e)
 
--- the first i columns have grown, and the tokens that are left are those of the others
-pub record RecordLeft (start : List Token) (old : List ColumnBuilder) (i : ℕ) (now : List ColumnBuilder) (left : List Token) : Type 0 where
-  pub many : length now ≡ length old
-  pub rest : drop i now ≡ drop i old
-  pub cells : List Raw
-  pub grown : Grown (take i old) cells (take i now)
-  pub reads : FieldsLeft 124 start (fields_by old) cells left (fields_by (drop i old))
+pub null_taken : (depth : ℕ) (old new : List Token) (c d : Column) → old ≡ Token.null ∷ new → Gains c raw_null d → TakesValue depth old c d new
+null_taken depth old new c d is g = (raw_null, g, λ k of. leaf_value k depth old new Token.null raw_null is (null_leaf k), one_less old new Token.null is)
 
-pub record_left : (start : List Token) (old : List ColumnBuilder) → RecordLeft start old 0 old start
-record_left start old = record {
-  many = refl;
-  rest = refl;
-  cells = [];
-  grown = tt;
-  reads = λ ds rs new begins whole reads. (ds, begins, whole, reads);
-}
+pub array_taken : (depth : ℕ) (old ts new : List Token) (c d : Column) → 0 < depth → old ≡ Token.begin_array ∷ ts → TakesArray (depth - 1) ts c d new → TakesValue depth old c d new
+array_taken depth old ts new c d some is x =
+    let e = one_less old ts Token.begin_array is in
+    let l : length new < length ts = x.3 in
+    (x.0, x.1, λ k of. array_value k depth old ts new x.0 some is (x.2 k of), omega (arith, e, l))
 
-same_head : (i : ℕ) (xs ys : List ColumnBuilder) (c : ColumnBuilder) → i < length xs → i < length ys → drop i xs ≡ drop i ys → get_or xs i c ≡ get_or ys i c
-same_head i xs ys c l m e = cc (sym (drop-cons xs i c l) ∙ e ∙ drop-cons ys i c m)
+-- ---- records and lists
 
-pub cell_taken : (start : List Token) (old : List ColumnBuilder) (i : ℕ) (now next : List ColumnBuilder) (left mid : List Token) (c d : ColumnBuilder) (r : Raw) → RecordLeft start old i now left
-    → i < length now → c ≡ get_or now i c → next ≡ set now i d → Takes c r d → HasValue 124 left (λ x. reading (column_type c) x ≡ Some r) mid → RecordLeft start old (i + 1) next mid
-cell_taken start old i now next left mid c d r h l is made t v =
-    let m : i < length old = subst (λ n. i < n) h.many l in
-    let there : c ≡ get_or old i c = is ∙ same_head i now old c l m h.rest in
-    let opened : drop i old ≡ c ∷ drop (i + 1) old = drop-cons old i c m ∙ ap (λ y. y ∷ drop (suc i) old) (sym there) ∙ ap (λ (n : ℕ). c ∷ drop n old) (sym (add-one i)) in
-    let before : take (i + 1) old ≡ take i old ++ c ∷ [] = take_more old i c m ∙ ap (λ y. take i old ++ y ∷ []) (sym there) in
-    let after : take (i + 1) (set now i d) ≡ take i now ++ d ∷ [] = take_more_set now i d l in
-    let grew : Grown (take i old ++ c ∷ []) (h.cells ++ r ∷ []) (take i now ++ d ∷ []) = grown_push (take i old) h.cells (take i now) c d r h.grown t in
-    let same : drop (i + 1) (set now i d) ≡ drop (i + 1) old =
-    drop-set-lt (i + 1) now i d (omega arith) ∙ sym (drop-drop 1 i now) ∙ ap (drop 1) h.rest ∙ drop-drop 1 i old in
-    subst (λ cs. RecordLeft start old (i + 1) cs mid) (sym made) (record {
-      many = length-set now i d ∙ h.many;
-      rest = same;
-      cells = h.cells ++ r ∷ [];
-      grown = subst (λ cs. Grown cs (h.cells ++ r ∷ []) (take (i + 1) (set now i d))) (sym before) (subst (λ ds. Grown (take i old ++ c ∷ []) (h.cells ++ r ∷ []) ds) (sym after) grew);
-      reads = field_read 124 start left mid (fields_by old) (fields_by (drop (i + 1) old)) h.cells [] (column_type c) r
-          (subst (λ cs. FieldsLeft 124 start (fields_by old) h.cells left (fields_by cs)) opened h.reads) v;
-    })
+pub record_value : (depth : ℕ) (old new : List Token) (present : List Bool) (cs : Columns) (cells : List Raw) → ((fs : Fields) → AreOf cs fs → HasItems depth old (λ ds. readings fs ds ≡ Some cells) new)
+    → (k : LogicalType) → IsOf (tuples present cs) k → HasItems depth old (λ ds. reading k (array ds) ≡ Some (tuple_of cells)) new
+record_value depth old new present cs cells h (struct fs n) of =
+    let x = h fs (map (λ (r : Bool × List Raw). r.1) of.1.0, of.1.3) in
+    (x.0, x.1, x.2, ap (λ (o : Option (List Raw)). option_map tuple_of o) x.3)
+record_value depth old new present cs cells h k of = absurd of.1
 
-abbrev HasCells : List Token → List ColumnBuilder → List ColumnBuilder → List Token → Type 0
-HasCells start old now new =
-    (cells : List Raw) × Grown old cells now × HasItems 124 start (λ ds. readings (fields_by old) ds ≡ Some cells) new
+pub list_value : (depth : ℕ) (old new : List Token) (sizes : List (Option ℕ)) (c : Column) (cells : List Raw) → ((k : LogicalType) → IsOf c k → HasItems depth old (λ ds. element_readings k ds ≡ Some cells) new)
+    → (k : LogicalType) → IsOf (lists sizes c) k → HasItems depth old (λ ds. reading k (array ds) ≡ Some (tuple_of cells)) new
+list_value depth old new sizes c cells h (list k n) of =
+    let x = h k (flat_map items_in of.1.0, of.1.3) in
+    (x.0, x.1, x.2, ap (λ (o : Option (List Raw)). option_map tuple_of o) x.3)
+list_value depth old new sizes c cells h k of = absurd of.1
 
-pub record_end : (start : List Token) (old : List ColumnBuilder) (i : ℕ) (now : List ColumnBuilder) (left new : List Token) → RecordLeft start old i now left → length now ≤ i → after_end_array left ≡ Some new
-    → HasCells start old now new
-record_end start old i now left new h l e =
-    let m : length old ≤ i = subst (λ n. n ≤ i) h.many l in
-    let grown : Grown old h.cells now = subst (λ cs. Grown cs h.cells now) (take_all i old m) (subst (λ ds. Grown (take i old) h.cells ds) (take_all i now l) h.grown) in
-    let reads = subst (λ cs. FieldsLeft 124 start (fields_by old) h.cells left (fields_by cs)) (drop_all i old m) h.reads in (
-      h.cells,
-      grown,
-      subst (λ (ys : List Raw). HasItems 124 start (λ ds. readings (fields_by old) ds ≡ Some ys) new) (append-nil h.cells) (reads no_items [] new (no_more_items 124 left new e) refl refl),
+same_size : (n m : ℕ) (o : Option Raw) → n ≡ m → if_sized n m o ≡ o
+same_size n m o e =
+    let yes : (n == m) ≡ true = grind (arith, e) in
+    ap (λ (b : Bool). if b then o else None) yes
+
+pub sized_value : (depth : ℕ) (old new : List Token) (m : ℕ) (present : List Bool) (c : Column) (cells : List Raw) → length cells ≡ m
+    → ((k : LogicalType) → IsOf c k → HasItems depth old (λ ds. element_readings k ds ≡ Some cells) new)
+    → (k : LogicalType) → IsOf (sized_lists m present c) k → HasItems depth old (λ ds. reading k (array ds) ≡ Some (tuple_of cells)) new
+sized_value depth old new m present c cells many h (fixed_list k size n) of =
+    let x = h k (flat_map (λ (r : Bool × List Raw). r.1) of.1.0, of.1.5) in (
+      x.0,
+      x.1,
+      x.2,
+      same_size (items_len x.0) size (option_map tuple_of (element_readings k x.0)) (readings_len k x.0 cells x.3 ∙ many ∙ of.1.3) ∙ ap (λ (o : Option (List Raw)). option_map tuple_of o) x.3,
     )
+sized_value depth old new m present c cells many h k of = absurd of.1
 
--- ---- records of columns
-
-grown_columns : (fs : Fields) (n : ℕ) (cs : List ColumnBuilder) (rs : List Raw) (ds : List ColumnBuilder) → AreColumns fs n cs → Grown cs rs ds → AreColumns fs (n + 1) ds
-grown_columns no_fields n [] [] [] a g = tt
-grown_columns (field x k fs) n (c ∷ cs) (r ∷ rs) (d ∷ ds) a g = (
-  g.0.kind ∙ a.0,
-  ap length g.0.cells ∙ length-append (cells_of c) (r ∷ []) ∙ ap (λ m. m + 1) a.1,
-  grown_columns fs n cs rs ds a.2 g.1,
+pub record_taken : (depth : ℕ) (old new : List Token) (p q : Vec (Option (Unit {0})) Global) (cs ds : Vec NestedBuilder Global) → EachTakes depth old cs.items ds.items new → q.items ≡ p.items ++ Some tt ∷ []
+    → TakesArray depth old (column_of (nested.Records p cs)) (column_of (nested.Records q ds)) new
+record_taken depth old new p q cs ds h e = (
+  tuple_of h.0,
+  record_step p q (Some tt) cs ds h.0 h.1 e,
+  λ k of. record_value depth old new (map is_some p.items) (columns_of cs.items) h.0 h.2 k (subst (λ x. IsOf x k) (column_of-Records p cs) of),
+  h.3,
 )
-grown_columns no_fields n (c ∷ cs) rs ds a g = absurd a
-grown_columns (field x k fs) n [] rs ds a g = absurd a
-grown_columns no_fields n [] (r ∷ rs) ds a g = absurd g
-grown_columns no_fields n [] [] (d ∷ ds) a g = absurd g
-grown_columns (field x k fs) n (c ∷ cs) [] ds a g = absurd g
-grown_columns (field x k fs) n (c ∷ cs) (r ∷ rs) [] a g = absurd g
 
-abbrev there : ℕ → ColumnBuilder → Raw
-there i c = get_or (cells_of c) i raw_null
+pub list_taken : (depth : ℕ) (old new : List Token) (s q : Vec (Option ℕ) Global) (n : ℕ) (c d : Box NestedBuilder Global) (cells : List Raw) → length cells ≡ n → TakesItems depth old (column_of c.value) cells (column_of d.value) new
+    → q.items ≡ s.items ++ Some n ∷ [] → TakesArray depth old (column_of (nested.Lists s c)) (column_of (nested.Lists q d)) new
+list_taken depth old new s q n c d cells many h e = (
+  tuple_of cells,
+  list_step s q n c d cells h.0 many e,
+  λ k of. list_value depth old new s.items (column_of c.value) cells h.1 k (subst (λ x. IsOf x k) (column_of-Lists s c) of),
+  h.2,
+)
 
-cells_front : (fs : Fields) (n : ℕ) (cs : List ColumnBuilder) (rs : List Raw) (ds : List ColumnBuilder) → AreColumns fs n cs → Grown cs rs ds → (i : ℕ) → i < n → map (there i) ds ≡ map (there i) cs
-cells_front no_fields n [] [] [] a g i l = refl
-cells_front (field x k fs) n (c ∷ cs) (r ∷ rs) (d ∷ ds) a g i l =
-    let here : there i d ≡ there i c = ap (λ xs. get_or xs i raw_null) g.0.cells ∙ get_or_append_left (cells_of c) (r ∷ []) raw_null i (omega (arith, l, a.1)) in
-    let rest = cells_front fs n cs rs ds a.2 g.1 i l in
-    λ t. here t ∷ rest t
-cells_front no_fields n (c ∷ cs) rs ds a g i l = absurd a
-cells_front (field x k fs) n [] rs ds a g i l = absurd a
-cells_front no_fields n [] (r ∷ rs) ds a g i l = absurd g
-cells_front no_fields n [] [] (d ∷ ds) a g i l = absurd g
-cells_front (field x k fs) n (c ∷ cs) [] ds a g i l = absurd g
-cells_front (field x k fs) n (c ∷ cs) (r ∷ rs) [] a g i l = absurd g
+pub sized_taken : (depth : ℕ) (old new : List Token) (m : ℕ) (p q : Vec (Option (Unit {0})) Global) (c d : Box NestedBuilder Global) (cells : List Raw) → length cells ≡ m
+    → TakesItems depth old (column_of c.value) cells (column_of d.value) new → q.items ≡ p.items ++ Some tt ∷ [] → TakesArray depth old (column_of (nested.FixedLists m p c)) (column_of (nested.FixedLists m q d)) new
+sized_taken depth old new m p q c d cells many h e = (
+  tuple_of cells,
+  sized_step m p q (Some tt) c d cells h.0 many e,
+  λ k of. sized_value depth old new m (map is_some p.items) (column_of c.value) cells many h.1 k (subst (λ x. IsOf x k) (column_of-FixedLists m p c) of),
+  h.2,
+)
 
-cells_last : (fs : Fields) (n : ℕ) (cs : List ColumnBuilder) (rs : List Raw) (ds : List ColumnBuilder) → AreColumns fs n cs → Grown cs rs ds → map (there n) ds ≡ rs
-cells_last no_fields n [] [] [] a g = refl
-cells_last (field x k fs) n (c ∷ cs) (r ∷ rs) (d ∷ ds) a g =
-    let here : there n d ≡ r = ap (λ xs. get_or xs n raw_null) g.0.cells ∙ get_or_push (cells_of c) r raw_null n a.1 in
-    let rest = cells_last fs n cs rs ds a.2 g.1 in
-    λ t. here t ∷ rest t
-cells_last no_fields n (c ∷ cs) rs ds a g = absurd a
-cells_last (field x k fs) n [] rs ds a g = absurd a
-cells_last no_fields n [] (r ∷ rs) ds a g = absurd g
-cells_last no_fields n [] [] (d ∷ ds) a g = absurd g
-cells_last (field x k fs) n (c ∷ cs) [] ds a g = absurd g
-cells_last (field x k fs) n (c ∷ cs) (r ∷ rs) [] a g = absurd g
+-- ---- builders whose parts are read through a place
 
-records_more : (fs : Fields) (n : ℕ) (cs : List ColumnBuilder) (rs : List Raw) (ds : List ColumnBuilder) → AreColumns fs n cs → Grown cs rs ds
-    → records_of ds (n + 1) ≡ records_of cs n ++ raw_tuple (raws_from rs) ∷ []
-records_more fs n cs rs ds a g =
-    let front : records_of cs n ≡ records_of ds n =
-    fill_by_all (record_at ds) (records_of cs n) n raw_null (length-map-range_with_len (record_at cs) 0 n) (λ k l.
-    get_or-map-range_with_len (record_at cs) 0 n k k raw_null l (omega arith) ∙ ap (λ xs. raw_tuple (raws_from xs)) (sym (cells_front fs n cs rs ds a g k l))) in
-    map-range_with_len_more (record_at ds) 0 n n (omega arith)
-    ∙ ap (λ xs. xs ++ record_at ds n ∷ []) (sym front)
-    ∙ ap (λ xs. records_of cs n ++ raw_tuple (raws_from xs) ∷ []) (cells_last fs n cs rs ds a g)
+pub leaf_moved : (depth : ℕ) (old new : List Token) (c b d : ColumnBuilder) → b ≡ c → TakesLeaf old b d new → TakesValue depth old (column_of (nested.Leaf c)) (column_of (nested.Leaf d)) new
+leaf_moved depth old new c b d e x = leaf_taken depth old new c d (subst (λ y. TakesLeaf old y d new) e x)
 
-same_fields : (cs : List ColumnBuilder) (n : ℕ) (ds : List ColumnBuilder) → AreColumns (fields_by cs) n ds → fields_by ds ≡ fields_by cs
-same_fields [] n [] a = refl
-same_fields (c ∷ cs) n (d ∷ ds) a =
-    let rest = same_fields cs n ds a.2 in
-    λ t. field [] (a.0 t) (rest t)
-same_fields [] n (d ∷ ds) a = absurd a
-same_fields (c ∷ cs) n [] a = absurd a
+pub value_at : (depth : ℕ) (old new : List Token) (a b : NestedBuilder) (d : Column) → a ≡ b → TakesValue depth old (column_of b) d new → TakesValue depth old (column_of a) d new
+value_at depth old new a b d e x = subst (λ y. TakesValue depth old (column_of y) d new) (sym e) x
 
--- the columns have the rows so far, and the tokens that are left are those of the others
-pub record RowsLeft (start : List Token) (old : List ColumnBuilder) (n : ℕ) (now : List ColumnBuilder) (left : List Token) : Type 0 where
-  pub columns : AreColumns (fields_by old) n now
-  pub reads : ElementsLeft 125 start (struct (fields_by old) non_nullable) (records_of now n) left
+pub takes_at : (depth : ℕ) (old new : List Token) (a b : NestedBuilder) (d : Column) → a ≡ b → TakesArray depth old (column_of b) d new → TakesArray depth old (column_of a) d new
+takes_at depth old new a b d e x = subst (λ y. TakesArray depth old (column_of y) d new) (sym e) x
 
-pub rows_left : (start : List Token) (old : List ColumnBuilder) → AreColumns (fields_by old) 0 old → RowsLeft start old 0 old start
-rows_left start old a = record { columns = a; reads = λ ds rs new begins whole reads. (ds, begins, whole, reads) }
+pub record_moved : (depth : ℕ) (old new : List Token) (p r q : Vec (Option (Unit {0})) Global) (cs bs ds : Vec NestedBuilder Global) → r ≡ p → bs ≡ cs → EachTakes depth old bs.items ds.items new → q.items ≡ r.items ++ Some tt ∷ []
+    → TakesArray depth old (column_of (nested.Records p cs)) (column_of (nested.Records q ds)) new
+record_moved depth old new p r q cs bs ds e f h grown =
+    record_taken depth old new p q cs ds (subst (λ ys. EachTakes depth old ys.items ds.items new) f h) (subst (λ y. q.items ≡ y.items ++ Some tt ∷ []) e grown)
 
-pub row_taken : (start : List Token) (old : List ColumnBuilder) (n : ℕ) (now next : List ColumnBuilder) (left mid : List Token) (cells : List Raw) → RowsLeft start old n now left → Grown now cells next
-    → HasValue 125 left (λ d. reading (struct (fields_by now) non_nullable) d ≡ Some (raw_tuple (raws_from cells))) mid → RowsLeft start old (n + 1) next mid
-row_taken start old n now next left mid cells h g v =
-    let k : LogicalType = struct (fields_by old) non_nullable in
-    let value = subst (λ fs. HasValue 125 left (λ d. reading (struct fs non_nullable) d ≡ Some (raw_tuple (raws_from cells))) mid) (same_fields old n now h.columns) v in
-    record {
-      columns = grown_columns (fields_by old) n now cells next h.columns g;
-      reads = subst (λ rs. ElementsLeft 125 start k rs mid) (sym (records_more (fields_by old) n now cells next h.columns g))
-          (element_read 125 start left mid k (records_of now n) (raw_tuple (raws_from cells)) h.reads value);
-    }
+pub list_moved : (depth : ℕ) (old new : List Token) (s t q : Vec (Option ℕ) Global) (n : ℕ) (c d : Box NestedBuilder Global) (b v : NestedBuilder) (cells : List Raw) → t ≡ s → d ≡ c → b ≡ d.value → length cells ≡ n
+    → TakesItems depth old (column_of b) cells (column_of v) new → q.items ≡ t.items ++ Some n ∷ [] → TakesArray depth old (column_of (nested.Lists s c)) (column_of (nested.Lists q (with_value d v))) new
+list_moved depth old new s t q n c d b v cells e f at many h grown =
+    list_taken depth old new s q n c (with_value d v) cells many (subst (λ y. TakesItems depth old (column_of y) cells (column_of v) new) (at ∙ ap (λ y. y.value) f) h) (subst (λ y. q.items ≡ y.items ++ Some n ∷ []) e grown)
 
-pub rows_end : (start : List Token) (old : List ColumnBuilder) (n : ℕ) (now : List ColumnBuilder) (left new : List Token) → RowsLeft start old n now left → after_end_array left ≡ Some new
-    → HasItems 125 start (λ ds. element_readings (struct (fields_by old) non_nullable) ds ≡ Some (records_of now n)) new
-rows_end start old n now left new h e =
-    subst (λ (ys : List Raw). HasItems 125 start (λ ds. element_readings (struct (fields_by old) non_nullable) ds ≡ Some ys) new) (append-nil (records_of now n))
-    (h.reads no_items [] new (no_more_items 125 left new e) refl refl)
+pub sized_moved : (depth : ℕ) (old new : List Token) (m size : ℕ) (p r q : Vec (Option (Unit {0})) Global) (c d : Box NestedBuilder Global) (b v : NestedBuilder) (cells : List Raw) → size ≡ m → r ≡ p → d ≡ c → b ≡ d.value
+    → length cells ≡ m → TakesItems depth old (column_of b) cells (column_of v) new → q.items ≡ r.items ++ Some tt ∷ [] → TakesArray depth old (column_of (nested.FixedLists m p c)) (column_of (nested.FixedLists size q (with_value d v))) new
+sized_moved depth old new m size p r q c d b v cells same e f at many h grown =
+    subst (λ z. TakesArray depth old (column_of (nested.FixedLists m p c)) (column_of (nested.FixedLists z q (with_value d v))) new) (sym same)
+    (sized_taken depth old new m p q c (with_value d v) cells many (subst (λ y. TakesItems depth old (column_of y) cells (column_of v) new) (at ∙ ap (λ y. y.value) f) h) (subst (λ y. q.items ≡ y.items ++ Some tt ∷ []) e grown))
 
--- ---- fields with their names
+-- ---- the fields of a record
 
-pub bare_columns : (fs : Fields) (n m : ℕ) (cs ds : List ColumnBuilder) → AreColumns fs n cs → AreColumns (fields_by cs) m ds → AreColumns fs m ds
-bare_columns no_fields n m [] [] a b = tt
-bare_columns (field x k fs) n m (c ∷ cs) (d ∷ ds) a b = (b.0 ∙ a.0, b.1, bare_columns fs n m cs ds a.2 b.2)
-bare_columns no_fields n m [] (d ∷ ds) a b = absurd b
-bare_columns no_fields n m (c ∷ cs) ds a b = absurd a
-bare_columns (field x k fs) n m [] ds a b = absurd a
-bare_columns (field x k fs) n m (c ∷ cs) [] a b = absurd b
+-- the first i columns have a cell more, and the tokens that are left are those of the others
+pub record RecordLeft (depth : ℕ) (start : List Token) (old : List NestedBuilder) (i : ℕ) (now : List NestedBuilder) (left : List Token) : Type 0 where
+  pub cells : List Raw
+  pub gained : ColumnsGained old i now cells
+  pub within : length left ≤ length start
+  pub reads : (fs : Fields) → AreOf (columns_of old) fs → (others : Fields) × AreOf (columns_of (drop i old)) others × FieldsLeft depth start fs cells left others
 
-pub own_columns : (fs : Fields) (n : ℕ) (cs : List ColumnBuilder) → AreColumns fs n cs → AreColumns (fields_by cs) n cs
-own_columns no_fields n [] a = tt
-own_columns (field x k fs) n (c ∷ cs) a = (refl, a.1, own_columns fs n cs a.2)
-own_columns no_fields n (c ∷ cs) a = absurd a
-own_columns (field x k fs) n [] a = absurd a
+pub record_left : (depth : ℕ) (start : List Token) (old : List NestedBuilder) → RecordLeft depth start old 0 old start
+record_left depth start old = record {
+  cells = [];
+  gained = gained_none old;
+  within = omega arith;
+  reads = λ fs of. (fs, of, all_fields_left depth start fs);
+}
 
-bare_readings : (fs : Fields) (n : ℕ) (cs : List ColumnBuilder) (ds : Items) → AreColumns fs n cs → readings (fields_by cs) ds ≡ readings fs ds
-bare_readings no_fields n [] ds a = refl
-bare_readings (field x k fs) n (c ∷ cs) no_items a = refl
-bare_readings (field x k fs) n (c ∷ cs) (item d ds) a =
-    let rest = bare_readings fs n cs ds a.2 in
-    λ t. option_and_then (λ r. option_map (λ rs. r ∷ rs) (rest t)) (reading (a.0 t) d)
-bare_readings no_fields n (c ∷ cs) ds a = absurd a
-bare_readings (field x k fs) n [] ds a = absurd a
+-- the field of the first column
+abbrev FirstField : Column → Columns → Fields → Type 0
+FirstField c cs fs = (x : List ℕ) × (k : LogicalType) × (rest : Fields) × (fs ≡ field x k rest) × IsOf c k × AreOf cs rest
 
-bare_reading : (fs : Fields) (n : ℕ) (cs : List ColumnBuilder) (d : Data) → AreColumns fs n cs → reading (struct (fields_by cs) non_nullable) d ≡ reading (struct fs non_nullable) d
-bare_reading fs n cs null a = refl
-bare_reading fs n cs (array ds) a = ap (option_map (λ rs. raw_tuple (raws_from rs))) (bare_readings fs n cs ds a)
-bare_reading fs n cs d a = refl
+first_field : (c : Column) (cs : Columns) (fs : Fields) → AreOf (next_column c cs) fs → FirstField c cs fs
+first_field c cs no_fields of = absurd of.1
+first_field c cs (field x k fs) of = (x, k, fs, refl, (map first_of of.0, of.1.1), (map rest_of of.0, of.1.2))
 
-pub bare_elements : (fs : Fields) (n : ℕ) (cs : List ColumnBuilder) (ds : Items) → AreColumns fs n cs → element_readings (struct (fields_by cs) non_nullable) ds ≡ element_readings (struct fs non_nullable) ds
-bare_elements fs n cs no_items a = refl
-bare_elements fs n cs (item d ds) a =
-    let first = bare_reading fs n cs d a in
-    let rest = bare_elements fs n cs ds a in
-    λ t. option_and_then (λ r. option_map (λ rs. r ∷ rs) (rest t)) (first t)
+pub cell_taken : (depth : ℕ) (start : List Token) (old : List NestedBuilder) (i : ℕ) (now next : List NestedBuilder) (left mid : List Token) (c d : NestedBuilder) → RecordLeft depth start old i now left
+    → i < length now → c ≡ get_or now i c → next ≡ set now i d → TakesValue depth left (column_of c) (column_of d) mid → RecordLeft depth start old (i + 1) next mid
+cell_taken depth start old i now next left mid c d h l is made v = record {
+  cells = h.cells ++ v.0 ∷ [];
+  gained = gained_more old i now next h.cells c d v.0 h.gained l is made v.1;
+  within = (let a = h.within in let b : length mid < length left = v.3 in omega (arith, a, b));
+  reads = λ fs of.
+      let before = h.reads fs of in
+      let here = subst (λ cs. AreOf (columns_of cs) before.0) (next_column_is old i now h.cells c h.gained l is) before.1 in
+      let f = first_field (column_of c) (columns_of (drop (i + 1) old)) before.0 here in (
+        f.2,
+        f.5,
+        field_read depth start left mid fs f.2 h.cells f.0 f.1 v.0 (subst (λ (gs : Fields). FieldsLeft depth start fs h.cells left gs) f.3 before.2) (v.2 f.1 f.4),
+      );
+}
 
--- the rows of the array that the columns become are those that were read
-pub array_rows : (fs : Fields) (n : ℕ) (old : List ColumnBuilder) (start new : List Token) (rs : List Raw) → AreColumns fs n old → HasItems 125 start (λ ds. element_readings (struct (fields_by old) non_nullable) ds ≡ Some rs) new
-    → HasItems 125 start (λ ds. Some (rows_at (struct fs non_nullable) ds) ≡ Some rs) new
-array_rows fs n old start new rs a h =
-    (h.0, h.1, h.2, ap Some (rows_read (struct fs non_nullable) h.0 rs (sym (bare_elements fs n old h.0 a) ∙ h.3)))
+no_others : (fs : Fields) → AreOf (columns_of []) fs → fs ≡ no_fields
+no_others no_fields of = refl
+no_others (field x k fs) of = absurd of.1
+
+pub record_end : (depth : ℕ) (start : List Token) (old : List NestedBuilder) (i : ℕ) (now : List NestedBuilder) (left new : List Token) → RecordLeft depth start old i now left → length now ≤ i → after_end_array left ≡ Some new
+    → EachTakes depth start old now new
+record_end depth start old i now left new h l e = (
+  h.cells,
+  gained_all old i now h.cells h.gained l,
+  λ fs of.
+      let before = h.reads fs of in
+      let m : length old ≤ i = subst (λ n. n ≤ i) h.gained.many l in
+      let none = no_others before.0 (subst (λ cs. AreOf (columns_of cs) before.0) (drop_all i old m) before.1) in
+      let reads = subst (λ (gs : Fields). FieldsLeft depth start fs h.cells left gs) none before.2 in
+      subst (λ (ys : List Raw). HasItems depth start (λ ds. readings fs ds ≡ Some ys) new) (append-nil h.cells) (reads no_items [] new (no_more_items depth left new e) refl refl),
+  (let a = h.within in let b : length new < length left = (no_more_items depth left new e).1 in omega (arith, a, b)),
+)
+
+-- ---- the items of a list
+
+-- the column has so many items more, and the tokens that are left are those of the others
+pub record ListLeft (depth : ℕ) (start : List Token) (old : Column) (n : ℕ) (now : Column) (left : List Token) : Type 0 where
+  pub cells : List Raw
+  pub many : length cells ≡ n
+  pub gained : GainsAll old cells now
+  pub within : length left ≤ length start
+  pub reads : (k : LogicalType) → IsOf old k → ElementsLeft depth start k cells left
+
+pub list_left : (depth : ℕ) (start : List Token) (old : Column) → ListLeft depth start old 0 old start
+list_left depth start old = record {
+  cells = [];
+  many = refl;
+  gained = gains_none old;
+  within = omega arith;
+  reads = λ k of. all_elements_left depth start k;
+}
+
+pub item_taken : (depth : ℕ) (start : List Token) (old : Column) (n m : ℕ) (now next : Column) (left mid : List Token) → ListLeft depth start old n now left → m ≡ n + 1 → TakesValue depth left now next mid → ListLeft depth start old m next mid
+item_taken depth start old n m now next left mid h e v = record {
+  cells = h.cells ++ v.0 ∷ [];
+  many = length-append h.cells (v.0 ∷ []) ∙ ap (λ x. x + 1) h.many ∙ sym e;
+  gained = gains_more old now next h.cells v.0 h.gained v.1;
+  within = (let a = h.within in let b : length mid < length left = v.3 in omega (arith, a, b));
+  reads = λ k of. element_read depth start left mid k h.cells v.0 (h.reads k of) (v.2 k (of.0 ++ h.cells, h.gained k of.0 of.1));
+}
+
+pub list_end : (depth : ℕ) (start : List Token) (old : Column) (n : ℕ) (now : Column) (left new : List Token) → ListLeft depth start old n now left → after_end_array left ≡ Some new
+    → (cells : List Raw) × (length cells ≡ n) × TakesItems depth start old cells now new
+list_end depth start old n now left new h e = (
+  h.cells,
+  h.many,
+  (
+    h.gained,
+    λ k of.
+        subst (λ (ys : List Raw). HasItems depth start (λ ds. element_readings k ds ≡ Some ys) new) (append-nil h.cells) (h.reads k of no_items [] new (no_more_items depth left new e) refl refl),
+    (let a = h.within in let b : length new < length left = (no_more_items depth left new e).1 in omega (arith, a, b)),
+  ),
+)
+
+-- ---- the rows
+
+-- the rows of an array are the cells of its column
+pub rows_are : (k : LogicalType) (cells : List Raw) (a : Layout) → IsColumn k cells a → raw_rows a ≡ cells
+rows_are k cells a is =
+    sym (subst (λ n. cells ≡ map (raw_row a) (range_with_len 0 n)) (sym is.len)
+    (fill_by_all (raw_row a) cells (length cells) raw_null refl (λ i l. sym (is.rows i l))))

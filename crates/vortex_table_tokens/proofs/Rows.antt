@@ -123,7 +123,7 @@ rows_read k (item d ds) rs e =
     let m = parts (reading k d) (element_readings k ds) rs e in
     ap (λ (o : Option Raw). unwrap_or o raw_null ∷ rows_at k ds) m.2 ∙ ap (λ (ys : List Raw). m.0 ∷ ys) (rows_read k ds m.1 m.3) ∙ sym m.4
 
-readings_len : (k : LogicalType) (ds : Items) (rs : List Raw) → element_readings k ds ≡ Some rs → items_len ds ≡ length rs
+pub readings_len : (k : LogicalType) (ds : Items) (rs : List Raw) → element_readings k ds ≡ Some rs → items_len ds ≡ length rs
 readings_len k no_items rs e = ap (λ (o : Option (List Raw)). length (unwrap_or o [])) e
 readings_len k (item d ds) rs e =
     let m = parts (reading k d) (element_readings k ds) rs e in

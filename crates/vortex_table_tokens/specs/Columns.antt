@@ -1,23 +1,47 @@
 -- Columns that take the rows of an append.
-use Rattle.std.specs.Prelude.{◌≡◌, ℕ, List, [], ◌∷◌}
-use Rattle.vortex_model.specs.LogicalType.{LogicalType, struct, non_nullable, Fields, no_fields, field}
+use Rattle.std.specs.Prelude.{◌≡◌, ◌<◌, ℕ, List, length, Some}
+use Rattle.json.specs.Token.{Token}
+use Rattle.serde_json.specs.Data.{array}
+use Rattle.vortex_model.specs.LogicalType.{LogicalType, Fields}
 use Rattle.vortex_model.specs.Content.{Raw}
-use Rattle.vortex_table_columns.specs.Columns.{column_type, Takes, AreColumns}
+use Rattle.vortex_table_request.specs.Rows.{reading, readings, element_readings}
+use Rattle.vortex_table_columns.specs.Columns.{column_type, Takes}
+use Rattle.vortex_table_columns.specs.Nested.{Column, column_of, columns_of, IsOf, AreOf, Gains, GainsAll, EachGains}
 use Rattle.vortex_table_columns.specs.declared.column.ColumnBuilder.{ColumnBuilder}
+use Rattle.vortex_table_columns.specs.declared.nested.NestedBuilder.{NestedBuilder}
+use Rattle.vortex_table_tokens.specs.Values.{HasValue, HasItems}
 
--- the fields that columns are, without names
-abbrev pub fields_by : List ColumnBuilder → Fields
-fields_by [] = no_fields
-fields_by (c ∷ cs) = field [] (column_type c) (fields_by cs)
+-- The column has a cell more, which is the value that comes next.
+abbrev pub TakesLeaf : List Token → ColumnBuilder → ColumnBuilder → List Token → Type 0
+TakesLeaf start old new rest = (cell : Raw) × Takes old cell new
+    × ((depth : ℕ) → HasValue depth start (λ d. reading (column_type old) d ≡ Some cell) rest)
 
--- each column has one of the cells more
-abbrev pub Grown : List ColumnBuilder → List Raw → List ColumnBuilder → Type 0
-Grown [] [] [] = Unit {0}
-Grown (c ∷ cs) (r ∷ rs) (d ∷ ds) = Takes c r d × Grown cs rs ds
-Grown cs rs ds = ⊥
+-- The column has a cell more, which is, at each type that the column is of, the value that comes
+-- next, nested no deeper than this. Fewer tokens are left.
+abbrev pub TakesValue : ℕ → List Token → Column → Column → List Token → Type 0
+TakesValue depth start old new rest = (cell : Raw) × Gains old cell new
+    × ((k : LogicalType) → IsOf old k
+    → HasValue depth start (λ d. reading k d ≡ Some cell) rest) × (length rest < length start)
 
--- the type is one of records, and the columns are those of its fields, with so many cells
-pub record AreColumnsOf (k : LogicalType) (n : ℕ) (cs : List ColumnBuilder) : Type 0 where
-  pub fields : Fields
-  pub records : k ≡ struct fields non_nullable
-  pub columns : AreColumns fields n cs
+-- The column has a cell more, which is, at each type that the column is of, the array whose items
+-- come next, nested no deeper than this. Fewer tokens are left.
+abbrev pub TakesArray : ℕ → List Token → Column → Column → List Token → Type 0
+TakesArray depth start old new rest = (cell : Raw) × Gains old cell new
+    × ((k : LogicalType) → IsOf old k
+    → HasItems depth start (λ ds. reading k (array ds) ≡ Some cell) rest)
+    × (length rest < length start)
+
+-- Each column has one of the items more that come next, up to the end of their array.
+abbrev pub EachTakes : ℕ → List Token → List NestedBuilder → List NestedBuilder → List Token
+    → Type 0
+EachTakes depth start old new rest = (cells : List Raw) × EachGains old cells new
+    × ((fs : Fields) → AreOf (columns_of old) fs
+    → HasItems depth start (λ ds. readings fs ds ≡ Some cells) rest)
+    × (length rest < length start)
+
+-- The column has these items more that come next, up to the end of their array.
+abbrev pub TakesItems : ℕ → List Token → Column → List Raw → Column → List Token → Type 0
+TakesItems depth start old cells new rest = GainsAll old cells new
+    × ((k : LogicalType) → IsOf old k
+    → HasItems depth start (λ ds. element_readings k ds ≡ Some cells) rest)
+    × (length rest < length start)

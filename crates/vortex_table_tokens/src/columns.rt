@@ -1,40 +1,30 @@
 //! Rows of an append, read token by token into columns.
-ghost use Rattle.std.specs.Prelude.{◌≡◌, ◌+◌, List, Some, codes, option_map, IfOk, OnOk};
+ghost use Rattle.std.specs.Prelude.{◌≡◌, ◌+◌, List, [], length, Some, codes, option_map, IfOk, OnOk};
 ghost use Rattle.json.specs.Reads.{token_of};
 ghost use Rattle.json.specs.Token.{number};
 ghost use Rattle.serde_json.specs.Find.{as_array};
-ghost use Rattle.vortex_model.specs.LogicalType.{struct, non_nullable};
-ghost use Rattle.vortex_model.specs.Content.{Raw, raw_tuple};
+ghost use Rattle.vortex_model.specs.Content.{Raw};
 ghost use Rattle.vortex_dtype_core.specs.View.{type_of};
-ghost use Rattle.vortex_scalar_value.specs.View.{raws_from};
 ghost use Rattle.vortex_arrays_model.specs.Layout.{array_type_of};
-ghost use Rattle.vortex_table_request.specs.Rows.{reading, readings, element_readings, rows_at};
+ghost use Rattle.vortex_table_request.specs.Rows.{rows_at};
 ghost use Rattle.vortex_table_request.specs.View.{raw_rows};
-ghost use Rattle.vortex_table_columns.specs.Columns.{column_type, records_of, Takes, AreColumns};
-ghost use Rattle.vortex_table_tokens.specs.Columns.{fields_by, Grown, AreColumnsOf};
-ghost use Rattle.vortex_table_tokens.specs.Values.{HasValue, HasItems, HasMember, IsLeaf};
+ghost use Rattle.vortex_table_columns.specs.Columns.{column_type, Takes};
+ghost use Rattle.vortex_table_columns.specs.Nested.{column_of, Holds};
+ghost use Rattle.vortex_table_tokens.specs.Columns.{TakesLeaf, TakesValue, TakesArray, EachTakes, TakesItems};
+ghost use Rattle.vortex_table_tokens.specs.Values.{HasMember, IsLeaf};
 
 use crate::give_up::GiveUp;
 use crate::integers::read_integer;
-use crate::tokens::{next_token, take_key};
+use crate::tokens::{next_token, take_array, take_array_end, take_key};
 use json::{Reader, Token};
 use std::alloc::Global;
 use vortex_arrays_core::array::ArrayRef;
 use vortex_dtype_core::dtype::DType;
 use vortex_table_columns::column::ColumnBuilder;
-use vortex_table_columns::records::{finish_records, new_columns};
+use vortex_table_columns::nested::NestedBuilder;
 
-// A column for each field, where the type is one of records of leaves that columns have.
-pub(crate) fn columns_of(alloc: Global, dtype: &DType) -> Result<Vec<ColumnBuilder>, GiveUp>
-    ensures { IfOk result (λ columns. AreColumnsOf (type_of dtype.now) 0 columns.items) }
-{
-    if dtype.is_nullable() {
-        return Err(GiveUp);
-    }
-    let fields = dtype.as_struct_fields_opt().ok_or(GiveUp)?;
-    let columns = new_columns(alloc, fields.as_slice())?;
-    Ok(columns)
-}
+/// How deep a line may nest.
+const MAX_DEPTH: usize = 127;
 
 // One cell more: the number that digits write.
 fn push_number(column: &mut ColumnBuilder, text: &str) -> Result<(), GiveUp>
@@ -71,91 +61,148 @@ fn push_token(column: &mut ColumnBuilder, token: Token<'_>) -> Result<(), GiveUp
 }
 
 // One cell more: the value that comes next.
-fn take_cell(reader: &mut Reader<'_>, column: &mut ColumnBuilder) -> Result<(), GiveUp>
-    ensures { OnOk result ((cell : Raw) × Takes column.old cell column.new
-        × HasValue 124 reader.old
-        (λ d. reading (column_type column.old) d ≡ Some cell) reader.new) }
+fn take_leaf(reader: &mut Reader<'_>, column: &mut ColumnBuilder) -> Result<(), GiveUp>
+    ensures { OnOk result (TakesLeaf reader.old column.old column.new reader.new) }
 {
     let token = next_token(reader)?;
     push_token(column, token)
 }
 
-// One cell more in each column, up to the bracket that closes the record.
-fn take_cells(reader: &mut Reader<'_>, columns: &mut Vec<ColumnBuilder>) -> Result<(), GiveUp>
-    ensures { OnOk result ((cells : List Raw) × Grown columns.old.items cells columns.new.items
-        × HasItems 124 reader.old
-        (λ ds. readings (fields_by columns.old.items) ds ≡ Some cells) reader.new) }
+// One cell more: the value that comes next, nested no deeper than this.
+#[cycle(cell)]
+fn take_cell(
+    reader: &mut Reader<'_>,
+    depth: usize,
+    column: &mut NestedBuilder,
+) -> Result<(), GiveUp>
+    ensures { OnOk result (TakesValue depth reader.old (column_of column.old)
+        (column_of column.new) reader.new) }
 {
-    for i in 0..columns.len() {
-        take_cell(reader, &mut columns[i])?;
+    if let NestedBuilder::Leaf(leaf) = column {
+        return take_leaf(reader, leaf);
     }
-    if reader.take_end_array() {
-        Ok(())
-    } else {
-        Err(GiveUp)
-    }
+    take_nested(reader, depth, column)
 }
 
-// One cell more in each column: the record that comes next.
-fn take_record(reader: &mut Reader<'_>, columns: &mut Vec<ColumnBuilder>) -> Result<(), GiveUp>
-    ensures { OnOk result ((cells : List Raw) × Grown columns.old.items cells columns.new.items
-        × HasValue 125 reader.old
-        (λ d. reading (struct (fields_by columns.old.items) non_nullable) d
-        ≡ Some (raw_tuple (raws_from cells))) reader.new) }
+// One cell more: the record or the list that comes next, or null.
+#[cycle(cell)]
+fn take_nested(
+    reader: &mut Reader<'_>,
+    depth: usize,
+    column: &mut NestedBuilder,
+) -> Result<(), GiveUp>
+    ensures { OnOk result (TakesValue depth reader.old (column_of column.old)
+        (column_of column.new) reader.new) }
 {
     let token = next_token(reader)?;
     match token {
-        Token::BeginArray => take_cells(reader, columns),
+        Token::BeginArray => {
+            if depth == 0 {
+                return Err(GiveUp);
+            }
+            take_inside(reader, depth - 1, column)
+        }
+        Token::Null => {
+            column.push_null()?;
+            Ok(())
+        }
         _ => Err(GiveUp),
     }
 }
 
-fn one_more(len: usize) -> Result<usize, GiveUp>
-    ensures { IfOk result (λ next. next ≡ len + 1) }
+// One cell more: the record or the list whose values come next, behind its bracket.
+#[cycle(cell)]
+fn take_inside(
+    reader: &mut Reader<'_>,
+    depth: usize,
+    column: &mut NestedBuilder,
+) -> Result<(), GiveUp>
+    ensures { OnOk result (TakesArray depth reader.old (column_of column.old)
+        (column_of column.new) reader.new) }
 {
-    let Some(next) = len.checked_add(1) else {
+    match column {
+        NestedBuilder::Leaf(_) => Err(GiveUp),
+        NestedBuilder::Records(present, columns) => {
+            take_fields(reader, depth, columns)?;
+            present.push(Some(()))?;
+            Ok(())
+        }
+        NestedBuilder::Lists(sizes, items) => {
+            let size = take_items(reader, depth, items)?;
+            sizes.push(Some(size))?;
+            Ok(())
+        }
+        NestedBuilder::FixedLists(size, present, items) => {
+            let count = take_items(reader, depth, items)?;
+            if count != u64::from(*size) {
+                return Err(GiveUp);
+            }
+            present.push(Some(()))?;
+            Ok(())
+        }
+    }
+}
+
+// One cell more in each column, up to the bracket that closes the record.
+#[cycle(cell)]
+fn take_fields(
+    reader: &mut Reader<'_>,
+    depth: usize,
+    columns: &mut Vec<NestedBuilder>,
+) -> Result<(), GiveUp>
+    ensures { OnOk result (EachTakes depth reader.old columns.old.items
+        columns.new.items reader.new) }
+{
+    for i in 0..columns.len() {
+        take_cell(reader, depth, &mut columns[i])?;
+    }
+    take_array_end(reader)
+}
+
+fn one_more(count: u64) -> Result<u64, GiveUp>
+    ensures { IfOk result (λ next. next ≡ count + 1) }
+{
+    let Some(next) = count.checked_add(1) else {
         return Err(GiveUp);
     };
     Ok(next)
 }
 
-// Records up to the bracket that closes the rows, and how many they are.
-fn take_records(reader: &mut Reader<'_>, columns: &mut Vec<ColumnBuilder>) -> Result<usize, GiveUp>
-    requires { AreColumns (fields_by columns.old.items) 0 columns.old.items }
-    ensures columns { IfOk result
-        (λ len. AreColumns (fields_by columns.old.items) len columns.new.items) }
-    ensures rows { IfOk result (λ len. HasItems 125 reader.old
-        (λ ds. element_readings (struct (fields_by columns.old.items) non_nullable) ds
-        ≡ Some (records_of columns.new.items len)) reader.new) }
+// Cells up to the bracket that closes the list, and how many they are.
+#[cycle(cell)]
+fn take_items(
+    reader: &mut Reader<'_>,
+    depth: usize,
+    column: &mut NestedBuilder,
+) -> Result<u64, GiveUp>
+    ensures { IfOk result (λ count. (cells : List Raw) × (length cells ≡ count)
+        × TakesItems depth reader.old (column_of column.old) cells
+        (column_of column.new) reader.new) }
 {
-    let mut len: usize = 0;
-    'records: while !reader.take_end_array() {
-        take_record(reader, columns)?;
-        len = one_more(len)?;
+    let mut count: u64 = 0;
+    'items: while !reader.take_end_array() {
+        take_cell(reader, depth, column)?;
+        count = one_more(count)?;
     }
-    Ok(len)
+    Ok(count)
 }
 
-/// The rows of an append as an array of records, by the columns of their type.
-pub(crate) fn take_array(
+/// The rows of an append as an array, by a column of their type.
+pub(crate) fn take_rows(
     alloc: Global,
     reader: &mut Reader<'_>,
     dtype: &DType,
-    mut columns: Vec<ColumnBuilder>,
+    mut column: NestedBuilder,
 ) -> Result<ArrayRef, GiveUp>
-    requires { AreColumnsOf (type_of dtype.now) 0 columns.items }
+    requires { Holds (column_of column) (type_of dtype.now) [] }
     ensures kind { IfOk result (λ array. array_type_of array ≡ type_of dtype.now) }
     ensures rows { IfOk result (λ array. HasMember (codes "rows") 126 reader.old
         (λ d. option_map (rows_at (type_of dtype.now)) (as_array d) ≡ Some (raw_rows array))
         reader.new) }
 {
-    let fields = dtype.as_struct_fields_opt().ok_or(GiveUp)?;
     take_key(reader, "rows")?;
-    let token = next_token(reader)?;
-    let Token::BeginArray = token else {
-        return Err(GiveUp);
-    };
-    let len = take_records(reader, &mut columns)?;
-    let array = finish_records(alloc, fields, columns, len)?;
+    take_array(reader)?;
+    let _count = take_items(reader, MAX_DEPTH - 2, &mut column)?;
+    let array = column.finish(alloc, dtype)?;
     Ok(array)
 }

@@ -1,5 +1,5 @@
 //! Commands from lines.
-ghost use Rattle.std.specs.Prelude.{◌≡◌, ◌∷◌, map, codes, option_map, Some, IfOk, IfSome, OnOk};
+ghost use Rattle.std.specs.Prelude.{◌≡◌, ◌∷◌, [], map, codes, option_map, Some, IfOk, IfSome, OnOk};
 ghost use Rattle.json.specs.Token.{begin_object, key, string};
 ghost use Rattle.serde_json.specs.Find.{as_array};
 ghost use Rattle.vortex_dtype_core.specs.View.{type_of};
@@ -9,10 +9,10 @@ ghost use Rattle.vortex_table_request.specs.Line.{command_in, command_of};
 ghost use Rattle.vortex_table_request.specs.Parsed.{Gives, data_of};
 ghost use Rattle.vortex_table_request.specs.Rows.{rows_at};
 ghost use Rattle.vortex_table_request.specs.View.{shown, HasHintsOf};
-ghost use Rattle.vortex_table_tokens.specs.Columns.{AreColumnsOf};
+ghost use Rattle.vortex_table_columns.specs.Nested.{column_of, Holds};
 ghost use Rattle.vortex_table_tokens.specs.Values.{HasValue, HasMember, IsRestOf, IsWholeText, IsCommandOf};
 
-use crate::columns::{columns_of, take_array};
+use crate::columns;
 use crate::give_up::GiveUp;
 use crate::scan::take_scan;
 use crate::tokens::{next_token, take_key, take_object, take_object_end, take_text};
@@ -22,7 +22,7 @@ use json::{Reader, Scratch, Token};
 use std::alloc::Global;
 use vortex_dtype_core::dtype::DType;
 use vortex_scalar_value::scalar_value::ScalarValue;
-use vortex_table_columns::column::ColumnBuilder;
+use vortex_table_columns::nested::NestedBuilder;
 use vortex_table_request::{Command, ParseError, is_whole, read_dtype};
 
 /// How an append's line begins, where it is read here.
@@ -82,18 +82,18 @@ fn take_columns(
     alloc: Global,
     reader: &mut Reader<'_>,
     dtype: &DType,
-    columns: Vec<ColumnBuilder>,
+    column: NestedBuilder,
 ) -> Result<Command, GiveUp>
-    requires { AreColumnsOf (type_of dtype.now) 0 columns.items }
+    requires { Holds (column_of column) (type_of dtype.now) [] }
     ensures { IfOk result (λ command.
         IsRestOf reader.old (type_of dtype.now) command reader.new) }
 {
-    let array = take_array(alloc, reader, dtype, columns)?;
+    let array = columns::take_rows(alloc, reader, dtype, column)?;
     take_object_end(reader)?;
     Ok(Command::AppendArray { array })
 }
 
-// The same by rows.
+// The append of this type, from its rows on, by rows.
 fn take_values(alloc: Global, reader: &mut Reader<'_>, dtype: DType) -> Result<Command, GiveUp>
     ensures { IfOk result (λ command. IsRestOf reader.old (type_of dtype) command reader.new) }
 {
@@ -110,8 +110,8 @@ fn take_values(alloc: Global, reader: &mut Reader<'_>, dtype: DType) -> Result<C
 fn take_rest(alloc: Global, reader: &mut Reader<'_>, dtype: DType) -> Result<Command, GiveUp>
     ensures { IfOk result (λ command. IsRestOf reader.old (type_of dtype) command reader.new) }
 {
-    match columns_of(alloc, &dtype) {
-        Ok(columns) => take_columns(alloc, reader, &dtype, columns),
+    match NestedBuilder::new(alloc, &dtype) {
+        Ok(column) => take_columns(alloc, reader, &dtype, column),
         Err(_) => take_values(alloc, reader, dtype),
     }
 }
@@ -185,9 +185,10 @@ fn read_tokens(alloc: Global, line: &[u8], scratch: &mut Scratch) -> Result<Comm
 
 /// The command that a line is. An append without hints, whose keys come in the order `cmd`,
 /// `dtype`, `rows`, and a scan with `cmd`, `paths`, `where` are read token by token, with no JSON
-/// value between: the rows of an append into columns where each field is a truth value, an integer
-/// or a text, and else into rows. What isn't read so is read by `vortex_table_request`, which alone
-/// refuses. The scratch is room for tokens, kept from line to line.
+/// value between: the rows of an append into a column where the leaves of their type are truth
+/// values, integers and texts and its lists of one size are short, and else into rows. What isn't
+/// read so is read by `vortex_table_request`, which alone refuses. The scratch is room for tokens,
+/// kept from line to line.
 pub fn read_command(
     alloc: Global,
     line: &[u8],

@@ -83,3 +83,16 @@ module _ {Z : Type 0} (f g : Z → Bool) where
 pub never : {X : Type 0} (xs : List X) → replicate (length xs) false ≡ map (λ x. false) xs
 never [] = refl
 never (x ∷ xs) = ap (λ bs. false ∷ bs) (never xs)
+
+-- what two masks have in common doesn't depend on which is first
+and_swapped : (x y : Bool) → (x && y) ≡ (y && x)
+and_swapped true true = refl
+and_swapped true false = refl
+and_swapped false true = refl
+and_swapped false false = refl
+
+pub joined_swapped : (xs ys : List Bool) → map (λ (p : Bool × Bool). p.0 && p.1) (zip xs ys) ≡ map (λ (p : Bool × Bool). p.0 && p.1) (zip ys xs)
+joined_swapped [] [] = refl
+joined_swapped [] (y ∷ ys) = refl
+joined_swapped (x ∷ xs) [] = refl
+joined_swapped (x ∷ xs) (y ∷ ys) = λ i. and_swapped x y i ∷ joined_swapped xs ys i

@@ -11,8 +11,8 @@ ghost use Rattle.vortex_table_zonemaps.specs.Zones.{Zone};
 use crate::column::NumberSlice;
 use std::alloc::{AllocError, Global};
 use vortex_stats_expr::operator::Comparison;
-use vortex_stats_mask::masks::both;
-use vortex_stats_mask::numbers::compare_each;
+use vortex_stats_mask::masks::{both, both_into};
+use vortex_stats_mask::numbers::{compare_each, compare_to};
 use vortex_stats_mask::turned::swapped;
 
 // What a side of a comparison is in each of several zones.
@@ -23,7 +23,7 @@ pub(crate) enum Side<'a> {
     Column(NumberSlice<'a>),
 }
 
-// Which numbers stand so to a number. The comparison is matched once.
+// Which numbers stand so to a number.
 fn test_numbers(
     alloc: Global,
     comparison: Comparison,
@@ -33,14 +33,7 @@ fn test_numbers(
     ensures { IfOk result (λ mask. mask.items
         ≡ map (λ x. test_of (comparison_of comparison) (int_cmp x number.now)) numbers.now) }
 {
-    match comparison {
-        Comparison::Eq => numbers.iter().map(|x| x.cmp(number).is_eq()).collect(alloc),
-        Comparison::NotEq => numbers.iter().map(|x| x.cmp(number).is_ne()).collect(alloc),
-        Comparison::Gt => numbers.iter().map(|x| x.cmp(number).is_gt()).collect(alloc),
-        Comparison::Gte => numbers.iter().map(|x| x.cmp(number).is_ge()).collect(alloc),
-        Comparison::Lt => numbers.iter().map(|x| x.cmp(number).is_lt()).collect(alloc),
-        Comparison::Lte => numbers.iter().map(|x| x.cmp(number).is_le()).collect(alloc),
-    }
+    compare_to(alloc, comparison, numbers, *number)
 }
 
 fn compare_number(
@@ -56,7 +49,7 @@ fn compare_number(
         ≡ map (λ z. is_true (compared (comparison_of comparison) (f z) (g z))) zones) }
 {
     let mask = test_numbers(alloc, comparison, column.numbers, number)?;
-    both(alloc, column.known, &mask)
+    Ok(both_into(mask, column.known))
 }
 
 fn compare_columns(

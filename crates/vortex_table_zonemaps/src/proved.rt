@@ -13,7 +13,7 @@ use std::alloc::{AllocError, Global};
 use vortex_scalar_value::scalar_value::ScalarValue;
 use vortex_stats_bind::value::read;
 use vortex_stats_expr::operator::Comparison;
-use vortex_stats_mask::masks::{both, either, no_rows};
+use vortex_stats_mask::masks::{both_into, either_into, no_rows};
 use vortex_stats_stat::aggregate::AggregateFn;
 use vortex_table_chunk::chunk::Chunk;
 use vortex_table_schema::leaves::LeafPath;
@@ -160,12 +160,12 @@ fn proof_mask(alloc: Global, proof: &ZoneProof, stretch: &Stretch) -> Result<Vec
         ZoneProof::And(x, y) => {
             let left = proof_mask(alloc, x, stretch)?;
             let right = proof_mask(alloc, y, stretch)?;
-            both(alloc, &left, &right)
+            Ok(both_into(left, &right))
         }
         ZoneProof::Or(x, y) => {
             let left = proof_mask(alloc, x, stretch)?;
             let right = proof_mask(alloc, y, stretch)?;
-            either(alloc, &left, &right)
+            Ok(either_into(left, &right))
         }
         ZoneProof::Compare(comparison, x, y) => {
             match stretch.compare(alloc, *comparison, x, y)? {

@@ -1,5 +1,5 @@
 //! Statistics of a leaf column whose rows are converted.
-ghost use Rattle.std.specs.Prelude.{◌≡◌, ℕ, List, IfOk, IfSome, IsTrue};
+ghost use Rattle.std.specs.Prelude.{◌≡◌, ℕ, List, Some, IfOk, IfSome, IsTrue};
 ghost use Rattle.vortex_model.specs.Content.{Content, content_of};
 ghost use Rattle.vortex_model_table.specs.Statistics.{sum_of};
 ghost use Rattle.vortex_model_table.specs.Typing.{sum_kind};
@@ -63,7 +63,51 @@ fn bound_as(dtype: &DType, bound: &Option<Bound>) -> Result<Option<Bound>, Alloc
     }))
 }
 
+// The bound in the type's kind of integers, where it is an integer.
+#[tactic(auto, using(vortex_scalar_value::proofs::Views::one_level))]
+fn integer_as(dtype: &DType, bound: &Option<Bound>) -> Option<Bound>
+    ensures bound { IfSome result (λ new. bound_in (Some new) ≡ bound_in bound.now) }
+    ensures kind { IfSome result (λ new. IsOfKindOf (type_of dtype.now) (raw_of new.value)) }
+{
+    let Some(bound) = bound else {
+        return None;
+    };
+    let shortened = bound.shortened;
+    match &bound.value {
+        ScalarValue::Primitive(number) => Some(Bound {
+            value: ScalarValue::Primitive(number_as(dtype, *number)),
+            shortened,
+        }),
+        ScalarValue::Bool(_)
+        | ScalarValue::Utf8(_)
+        | ScalarValue::Binary(_)
+        | ScalarValue::Tuple(_)
+        | ScalarValue::Union(_)
+        | ScalarValue::Variant(_) => None,
+    }
+}
+
 impl ColumnBounds {
+    /// The statistics with both bounds in the type's kind of integers, where both are integers.
+    /// These share nothing, so no memory is asked for.
+    pub(crate) fn in_kind_of(&self, dtype: &DType) -> Option<ColumnBounds>
+        ensures statistics { IfSome result (λ new. (L : ℕ) (values : List Content)
+            → IsBoundsOf L self.now values → IsBoundsOf L new values) }
+        ensures sum_type { IfSome result (λ new. new.sum_type ≡ self.now.sum_type) }
+        ensures kinds { IfSome result (λ new. HasKindsOf (type_of dtype.now) new) }
+    {
+        let low = integer_as(dtype, &self.low)?;
+        let high = integer_as(dtype, &self.high)?;
+        Some(ColumnBounds {
+            low: Some(low),
+            high: Some(high),
+            null_count: self.null_count,
+            sum_type: self.sum_type,
+            sum: self.sum,
+            constant: self.constant,
+        })
+    }
+
     /// Whether the sum is of the type of the sums of columns of this type.
     pub fn has_sum_of(&self, dtype: &DType) -> bool
         ensures { IsTrue result → int_kind_of self.now.sum_type ≡ sum_kind (type_of dtype.now) }

@@ -1,5 +1,4 @@
 use Rattle.std.proofs.Common.{sym, ap, ◌∙◌}
-use Rattle.std.proofs.lemmas.Result.{IfOk-weaker}
 use Rattle.vortex_scalar_value.specs.View.{content_at}
 use Rattle.vortex_stats_expr.specs.Tree.{comparison_of}
 use Rattle.vortex_stats_mask.specs.Columns.{contents_of, kept}
@@ -9,5 +8,5 @@ use Rattle.vortex_stats_mask.proofs.compare.compare_literal.Goals as goal
 pub returns : goal.returns
 returns c =
     let col = c.args.column.now in
-    IfOk-weaker c.keep_valid.result _ _ (λ mask is. is ∙ ap (kept col.validity) c.in_ok-mask.ensures
-    ∙ sym (compared_where_valid (comparison_of c.args.comparison) (content_at c.args.literal) col.validity (contents_of col.items))) c.keep_valid.ensures
+    c.keep_valid.ensures ∙ ap (kept col.validity) c.in_ok-mask.ensures
+    ∙ sym (compared_where_valid (comparison_of c.args.comparison) (content_at c.args.literal) col.validity (contents_of col.items))

@@ -1,5 +1,4 @@
 use Rattle.std.proofs.Common.{sym, ap, ◌∙◌}
-use Rattle.std.proofs.lemmas.Result.{IfOk-weaker}
 use Rattle.vortex_stats_expr.specs.Tree.{comparison_of}
 use Rattle.vortex_stats_mask.specs.Columns.{contents_of, shown, kept}
 use Rattle.vortex_stats_mask.proofs.SideBySide.{left_shown, right_shown}
@@ -10,6 +9,6 @@ returns c =
     let op = comparison_of c.args.comparison in
     let left = c.args.left.now in
     let right = c.args.right.now in
-    IfOk-weaker c.keep_valid-2.result _ _ (λ mask is. is ∙ ap (kept right.validity) (c.in_ok-mask-2.ensures ∙ ap (kept left.validity) c.in_ok-mask.ensures
+    c.keep_valid.ensures ∙ ap (kept right.validity) (c.keep_valid-mask.ensures ∙ ap (kept left.validity) c.in_ok-mask.ensures
     ∙ sym (left_shown op left.validity (contents_of left.items) (contents_of right.items)))
-    ∙ sym (right_shown op right.validity (shown left.validity (contents_of left.items)) (contents_of right.items))) c.keep_valid-2.ensures
+    ∙ sym (right_shown op right.validity (shown left.validity (contents_of left.items)) (contents_of right.items))

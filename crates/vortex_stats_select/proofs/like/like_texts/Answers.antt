@@ -1,6 +1,5 @@
 use Rattle.std.proofs.Common.{◌≡◌, ◌∙◌, ap, subst, ℕ, true, ◌&&◌, length, map}
 use Rattle.std.specs.Prelude.{MatchOption}
-use Rattle.std.proofs.lemmas.Result.{IfOk-weaker}
 use Rattle.std.specs.List.{range_with_len, zip}
 use Rattle.vortex_arrays_core.specs.LayoutOf.{valid_of}
 use Rattle.vortex_arrays_model.specs.Layout.{is_valid}
@@ -16,7 +15,7 @@ pub returns-in-None : goal.returns-in-None
 returns-in-None c =
     let form = c.args.pattern.now in let vs = c.args.views.now in let bs = c.args.buffers.now in
     let v = valid_of c.args.validity.now in let a = c.args.asked in let w = wanted_match c.args.want c.args.negated in
-    let told = subst (λ o. MatchOption o ((i : ℕ) → is_valid v i ≡ true) (λ rows. rows.items ≡ map (is_valid v) (range_with_len 0 (length vs)))) c.in-None.is c.in_ok-valid.ensures in
+    let told = subst (λ o. MatchOption o ((i : ℕ) → is_valid v i ≡ true) (λ rows. rows ≡ map (is_valid v) (range_with_len 0 (length vs)))) c.in-None.is c.in_ok-valid.ensures in
     let matches = c.in_ok-mask.ensures ∙ (λ i. seen a (map (λ x. byte_matches (c.as_bytes.ensures.value i) (value_of x bs)) vs)) in
     ap (seen a) (c.in_ok-mask-2.ensures ∙ ap (map w) matches) ∙ seen_mapped w a (map (λ x. byte_matches form (value_of x bs)) vs)
     ∙ ap (seen a) (all_liked c.args.want c.args.negated form c.utf8.pattern c.requires.literal vs bs v c.requires.sound told)
@@ -25,9 +24,8 @@ pub returns-in-Some : goal.returns-in-Some
 returns-in-Some c =
     let form = c.args.pattern.now in let vs = c.args.views.now in let bs = c.args.buffers.now in
     let v = valid_of c.args.validity.now in let a = c.args.asked in let w = wanted_match c.args.want c.args.negated in let rows = c.in-Some.rows in
-    let told = subst (λ o. MatchOption o ((i : ℕ) → is_valid v i ≡ true) (λ rows. rows.items ≡ map (is_valid v) (range_with_len 0 (length vs)))) c.in-Some.is c.in_ok-valid.ensures in
+    let told = subst (λ o. MatchOption o ((i : ℕ) → is_valid v i ≡ true) (λ rows. rows ≡ map (is_valid v) (range_with_len 0 (length vs)))) c.in-Some.is c.in_ok-valid.ensures in
     let matches = c.in_ok-mask.ensures ∙ (λ i. seen a (map (λ x. byte_matches (c.as_bytes.ensures.value i) (value_of x bs)) vs)) in
-    IfOk-weaker c.both.result _ _ (λ mask is. ap (seen a) (is
-    ∙ (λ i. map (λ p. p.0 && p.1) (zip (c.deref.ensures.value i) ((c.deref-in-Some.ensures.value ∙ c.in_ok-mask-2.ensures ∙ ap (map w) matches) i))))
-    ∙ seen_valid w a rows.items (map (λ x. byte_matches form (value_of x bs)) vs)
-    ∙ ap (seen a) (valid_liked c.args.want c.args.negated form c.utf8.pattern c.requires.literal vs bs v c.requires.sound rows told)) c.both.ensures
+    ap (seen a) (c.keep_valid.ensures ∙ (λ i. map (λ p. p.0 && p.1) (zip rows ((c.in_ok-mask-2.ensures ∙ ap (map w) matches) i))))
+    ∙ seen_valid w a rows (map (λ x. byte_matches form (value_of x bs)) vs)
+    ∙ ap (seen a) (valid_liked c.args.want c.args.negated form c.utf8.pattern c.requires.literal vs bs v c.requires.sound rows told)

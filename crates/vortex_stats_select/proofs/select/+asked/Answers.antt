@@ -1,6 +1,5 @@
 use Rattle.std.proofs.Common.{◌≡◌, ◌∙◌, ap, sym, subst, not}
 use Rattle.std.specs.Prelude.{IfOk, IfSome}
-use Rattle.std.proofs.lemmas.Result.{IfOk-weaker}
 use Rattle.vortex_stats_bind.specs.Bound.{each, some}
 use Rattle.vortex_stats_bind.specs.BoundTree.{bound_tree}
 use Rattle.vortex_stats_select.specs.Asked.{seen}
@@ -13,8 +12,8 @@ both_parts-returns g t c =
     let rows = g.S.Columns.rows c.args.columns.now in let want = c.args.want in let join = c.args.join in
     let xs = wanted_rows want c.args.first.now rows in let ys = wanted_rows want c.args.last.now rows in
     let left = c.in_ok-left.left in let right = c.in_ok-right.right in
-    IfOk-weaker c.join_found.result _ _ (λ found is. parts_seen c.args.asked join xs ys left right found c.in_ok-left.ensures
-    (asked_behind c.open_behind.result join left right ys c.open_behind.ensures c.in_ok-right.ensures) is) c.join_found.ensures
+    parts_seen c.args.asked join xs ys left right c.join_found.result c.in_ok-left.ensures
+    (asked_behind c.open_behind.result join left right ys c.open_behind.ensures c.in_ok-right.ensures) c.join_found.ensures
 
 pub select_asked-returns-then-is_late : goal.select_asked-returns-then-is_late
 select_asked-returns-then-is_late g t c =

@@ -1,23 +1,19 @@
-use Rattle.std.proofs.Common.{◌≡◌, ◌∙◌, sym, subst, map}
-use Rattle.std.specs.Prelude.{IfSome}
-use Rattle.std.specs.List.{zip}
-use Rattle.vortex_model_table.specs.Truth.{compared, end_of}
-use Rattle.vortex_stats_bind.specs.Bound.{bound_value}
-use Rattle.vortex_stats_expr.specs.Tree.{comparison_of, is_strict}
-use Rattle.vortex_stats_mask.specs.Wanted.{is_wanted, joined_by}
-use Rattle.vortex_stats_mask.proofs.Truths.{wanted_of_and}
-use Rattle.vortex_stats_select.proofs.PairLemmas.{paired}
+use Rattle.std.proofs.Common.{◌≡◌, sym, subst, map}
+use Rattle.std.specs.Prelude.{IfOk, IfSome}
+use Rattle.vortex_model_table.specs.Truth.{compared, kleene_and, end_of}
+use Rattle.vortex_scalar_value.specs.View.{content_at}
+use Rattle.vortex_stats_bind.specs.Bound.{fixed, bound_value}
+use Rattle.vortex_stats_expr.specs.Tree.{is_strict}
+use Rattle.vortex_stats_mask.specs.Wanted.{is_wanted}
 use Rattle.vortex_stats_select.proofs.select.range_test.Goals as goal
 
-pub returns : goal.returns
-returns g c =
+pub returns-in-Some-Some : goal.returns-in-Some-Some
+returns-in-Some-Some g c =
     let rows = g.S.Columns.rows c.args.columns.now in let want = c.args.want in
     let x = c.args.value.now in let lo = c.args.lower.now in let hi = c.args.upper.now in
-    let above = subst (λ o. IfSome o (λ mask. mask.items ≡ map (λ row. is_wanted want (compared (comparison_of c.to_comparison-above.result) (bound_value lo row) (bound_value x row))) rows)) c.in-Some.is c.in_ok-above.ensures in
-    let below = subst (λ o. IfSome o (λ mask. mask.items ≡ map (λ row. is_wanted want (compared (comparison_of c.to_comparison-below.result) (bound_value x row) (bound_value hi row))) rows)) c.in-Some-2.is c.in_ok-below.ensures in
     let ls = end_of (is_strict c.args.options.lower_strict) in let us = end_of (is_strict c.args.options.upper_strict) in
-    let l = c.deref.ensures.value ∙ above ∙ (λ i. map (λ row. is_wanted want (compared (c.to_comparison-above.ensures i) (bound_value lo row) (bound_value x row))) rows) in
-    let r = c.deref-2.ensures.value ∙ below ∙ (λ i. map (λ row. is_wanted want (compared (c.to_comparison-below.ensures i) (bound_value x row) (bound_value hi row))) rows) in
-    c.in_ok-mask.ensures ∙ (λ i. map (λ p. joined_by want p.0 p.1) (zip (l i) (r i)))
-    ∙ paired (joined_by want) (λ row. is_wanted want (compared ls (bound_value lo row) (bound_value x row))) (λ row. is_wanted want (compared us (bound_value x row) (bound_value hi row))) rows
-    ∙ (λ i. map (λ row. sym (wanted_of_and want (compared ls (bound_value lo row) (bound_value x row)) (compared us (bound_value x row) (bound_value hi row))) i) rows)
+    let least = subst (λ o. IfSome o (λ value. lo ≡ fixed (content_at value))) c.in-Some-Some.is-0 c.literal_of.ensures in
+    let greatest = subst (λ o. IfSome o (λ value. hi ≡ fixed (content_at value))) c.in-Some-Some.is-1 c.literal_of-2.ensures in
+    subst (λ ms. IfOk c.literal_range.result (λ found. IfSome found (λ mask. mask.items ≡ ms)))
+    (λ i. map (λ row. is_wanted want (kleene_and (compared ls (bound_value (sym least i) row) (bound_value x row)) (compared us (bound_value x row) (bound_value (sym greatest i) row)))) rows)
+    c.literal_range.ensures

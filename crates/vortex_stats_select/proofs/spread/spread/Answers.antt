@@ -1,5 +1,4 @@
 use Rattle.std.proofs.Common.{◌∙◌, sym, ap, refl}
-use Rattle.std.proofs.lemmas.Result.{IfOk-weaker}
 use Rattle.vortex_stats_mask.specs.Columns.{contents_of, kept}
 use Rattle.vortex_stats_mask.proofs.Shown.{tested_as_shown}
 use Rattle.vortex_stats_select.specs.Coded.{is_marked}
@@ -8,5 +7,5 @@ use Rattle.vortex_stats_select.proofs.spread.spread.Goals as goal
 pub returns : goal.returns
 returns c =
     let codes = c.args.codes.now in let marks = is_marked c.args.mask.now in
-    IfOk-weaker c.keep_valid.result _ _ (λ rows is. is ∙ ap (kept codes.validity) c.in_ok-rows.ensures
-    ∙ sym (tested_as_shown marks refl codes.validity (contents_of codes.items))) c.keep_valid.ensures
+    c.keep_valid.ensures ∙ ap (kept codes.validity) c.in_ok-rows.ensures
+    ∙ sym (tested_as_shown marks refl codes.validity (contents_of codes.items))

@@ -6,7 +6,7 @@ use Rattle.vortex_table_tokens.proofs.line.take_columns.Goals as goal
 pub returns : goal.returns
 returns c = record {
   values = raw_rows c.in_ok-array.array;
-  last = c.take_array.new.reader;
+  last = c.take_rows.new.reader;
   rows = c.in_ok-array.ensures.rows;
   closed = c.in_ok-take_object_end.ensures;
   is = ap (λ k. append k (raw_rows c.in_ok-array.array)) c.in_ok-array.ensures.kind;

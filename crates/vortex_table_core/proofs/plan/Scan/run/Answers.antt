@@ -16,8 +16,8 @@ loop-group-init c =
       waiting = waiting_start plan _ (λ i. record {
         rows = cut_rows plan.prepared.now.cut (rows_in (c.new.ensures.items i));
         kind = c.requires.prepared.cut_kind i;
-        skipped = c.new-2.ensures.items i;
-        whole = c.new-3.ensures.items i;
+        skipped = c.in_ok-skipped.ensures.items i;
+        whole = c.new-2.ensures.items i;
         rows_tested = 0;
         proofs = 0;
       });

@@ -1,0 +1,60 @@
+-- Offsets and sizes that are numbers, and the elements that their lists reach.
+use Rattle.std.proofs.Common.{◌≡◌, ◌<◌, ◌≤◌, ◌+◌, ℕ, ℤ, pos, true, List, length, map, get_or, refl, sym, ap, subst, ◌∙◌, arith, Option}
+use Rattle.std.specs.Prelude.{◌≤ℤ◌, ◌<ℤ◌, negsuc, unsigned_abs, MatchOption}
+use Rattle.std.proofs.lemmas.Int.{ints}
+use Rattle.std.proofs.lemmas.List.{get_or-map}
+use Rattle.vortex_model.specs.LogicalType.{IntKind, u8, u16, u32, u64, i8, i16, i32, i64}
+use Rattle.vortex_model.specs.Valid.{greatest_number, in_range}
+use Rattle.vortex_model.proofs.Tests.{range_so}
+use Rattle.vortex_model.specs.Content.{integer}
+use Rattle.vortex_arrays_model.specs.Layout.{Layout, numbers, Valid, required, array_type_of, len_of, content_at, natural, number_in, IsOffsets, IsView}
+use Rattle.vortex_arrays_model.specs.Trimmed.{AreBounds}
+use Rattle.vortex_arrays_nested.specs.ListViews.{LieWithin, AllLieWithin}
+use Rattle.vortex_arrays_nested.proofs.PairLemmas.{not_null, number_at}
+
+-- ---- a number of any kind is one of the machine, or below zero
+
+greatest_below : (i : IntKind) (z : ℤ) → z ≤ℤ greatest_number i → z ≤ℤ pos 18446744073709551615
+greatest_below u8 z h = grind (arith, ints, h)
+greatest_below u16 z h = grind (arith, ints, h)
+greatest_below u32 z h = grind (arith, ints, h)
+greatest_below u64 z h = h
+greatest_below i8 z h = grind (arith, ints, h)
+greatest_below i16 z h = grind (arith, ints, h)
+greatest_below i32 z h = grind (arith, ints, h)
+greatest_below i64 z h = grind (arith, ints, h)
+
+pub below_word : (i : IntKind) (z : ℤ) → in_range i z ≡ true → z ≤ℤ pos 18446744073709551615
+below_word i z h = greatest_below i z (let r = range_so i z h in r.to)
+
+pub natural_abs : (z : ℤ) → pos 0 ≤ℤ z → natural z ≡ unsigned_abs z
+natural_abs (pos n) h = refl
+natural_abs (negsuc n) h = grind (arith, ints, h)
+
+pub natural_below : (z : ℤ) → z <ℤ pos 0 → natural z ≡ 0
+natural_below (pos n) h = grind (arith, ints, h)
+natural_below (negsuc n) h = refl
+
+pub ruleset held = (below_word, natural_abs, natural_below)
+
+-- ---- the list at a place
+
+-- an item's number is what stands there
+pub item_number : {X : Type 0} (f : X → ℤ) (k : IntKind) (xs : List X) (i : ℕ) (x : X) (n : ℕ) → i < length xs → x ≡ get_or xs i x → n ≡ natural (f x) → n ≡ number_in (content_at (numbers k (map f xs) required) i)
+item_number f k xs i x n l at is = is ∙ ap natural (number_at f xs i x (f x) l at refl)
+
+view_sum : (c : ℕ) (z y : ℤ) → IsView c (integer z) (integer y) → natural z + natural y ≤ c
+view_sum c (pos i) (pos s) h = h
+view_sum c z y h = absurd h
+
+-- a list of lists that lie within so many elements
+pub ends_within : (c : ℕ) (k j : IntKind) (os ss : List ℤ) (i n m : ℕ) → AllLieWithin c os ss → i < length os → n ≡ number_in (content_at (numbers k os required) i) → m ≡ number_in (content_at (numbers j ss required) i) → n + m ≤ c
+ends_within c k j os ss i n m h l e d = omega (arith, e, d, view_sum c (get_or os i (pos 0)) (get_or ss i (pos 0)) (h i l))
+
+-- ---- arrays that are numbers
+
+pub numbers_lie : (n : ℕ) (o s : Layout) (k j : IntKind) (xs ys : List ℤ) (v w : Valid) → IsOffsets (array_type_of o) → IsOffsets (array_type_of s) → numbers k xs v ≡ o → numbers j ys w ≡ s → LieWithin n o s → AllLieWithin n xs ys
+numbers_lie n o s k j xs ys v w p q e d h = subst (λ y. LieWithin n (numbers k xs required) y) (sym (not_null s j ys w q d)) (subst (λ x. LieWithin n x s) (sym (not_null o k xs v p e)) h)
+
+pub numbers_reach : (o s : Layout) (k j : IntKind) (xs ys : List ℤ) (v w : Valid) (r : Option (ℕ × ℕ)) → IsOffsets (array_type_of o) → IsOffsets (array_type_of s) → numbers k xs v ≡ o → numbers j ys w ≡ s → MatchOption r (length xs ≡ 0) (λ b. AreBounds (numbers k xs required) (numbers j ys required) b.0 b.1) → MatchOption r (len_of o ≡ 0) (λ b. AreBounds o s b.0 b.1)
+numbers_reach o s k j xs ys v w r p q e d h = subst (λ y. MatchOption r (len_of o ≡ 0) (λ b. AreBounds o y b.0 b.1)) (not_null s j ys w q d) (subst (λ x. MatchOption r (len_of x ≡ 0) (λ b. AreBounds x (numbers j ys required) b.0 b.1)) (not_null o k xs v p e) h)

@@ -1,0 +1,19 @@
+use Rattle.std.proofs.Common.{[], false, pos, Some, refl}
+use Rattle.vortex_model.specs.Content.{raw_boolean, raw_text}
+use Rattle.vortex_dtype_ptype.specs.View.{number_kind_of}
+use Rattle.vortex_table_columns.specs.Cells.{number_raw}
+use Rattle.vortex_table_columns.proofs.ColumnLemmas.{taken_more}
+use Rattle.vortex_table_columns.proofs.column.ColumnBuilder.fill.Goals as goal
+
+pub returns-in_ok-push-in-Booleans : goal.returns-in_ok-push-in-Booleans
+returns-in_ok-push-in-Booleans c =
+    rw c.in-Booleans.is (raw_boolean false, record { kind = refl; cells = taken_more raw_boolean c.in-Booleans.cells.items c.push.new.self.items (Some false) c.in_ok-push-in-Booleans.ensures.items })
+
+pub returns-in_ok-push-in-Integers : goal.returns-in_ok-push-in-Integers
+returns-in_ok-push-in-Integers c =
+    let k = number_kind_of c.in-Integers.field-0 in
+    rw c.in-Integers.is (number_raw k (pos 0), record { kind = refl; cells = taken_more (number_raw k) c.in-Integers.cells.items c.push-in-Integers.new.self.items (Some (pos 0)) c.in_ok-push-in-Integers.ensures.items })
+
+pub returns-in_ok-push-in-Texts : goal.returns-in_ok-push-in-Texts
+returns-in_ok-push-in-Texts c =
+    rw c.in-Texts.is (raw_text [], record { kind = refl; cells = taken_more raw_text c.in-Texts.texts c.push-in-Texts.new.self (Some []) c.in_ok-push-in-Texts.ensures })

@@ -1,0 +1,34 @@
+use Rattle.std.proofs.Common.{◌≡◌, [], ◌∷◌, Some, ap, sym, ◌∙◌, arith}
+use Rattle.json.specs.Token.{begin_array}
+use Rattle.serde_json.specs.Data.{array}
+use Rattle.vortex_dtype_core.specs.View.{type_of}
+use Rattle.vortex_table_tokens.proofs.Grammar.{begins_array}
+use Rattle.vortex_table_tokens.proofs.Rows.{rows_read}
+use Rattle.vortex_table_tokens.proofs.ColumnLemmas.{rows_are}
+use Rattle.vortex_table_tokens.proofs.columns.take_rows.Goals as goal
+
+pub finish-requires : goal.finish-requires
+finish-requires c =
+    let h = c.in_ok-_count.ensures in
+    (h.0, h.2.0 (type_of c.args.dtype.now) [] c.requires)
+
+pub returns-clause-kind : goal.returns-clause-kind
+returns-clause-kind c =
+    let h = c.in_ok-_count.ensures in
+    (c.in_ok-array.ensures h.0 (h.2.0 (type_of c.args.dtype.now) [] c.requires)).kind
+
+pub returns-clause-rows : goal.returns-clause-rows
+returns-clause-rows c =
+    let h = c.in_ok-_count.ensures in
+    let k = type_of c.args.dtype.now in
+    let x = h.2.1 k ([], c.requires) in
+    let is = c.in_ok-array.ensures h.0 (h.2.0 k [] c.requires) in (
+      c.take_key.new.reader,
+      c.in_ok-take_key.ensures,
+      (
+        array x.0,
+        begins_array 126 c.take_key.new.reader c.take_array.new.reader c.take_items.new.reader x.0 (omega arith) c.in_ok-take_array.ensures x.1,
+        x.2,
+        ap Some (rows_read k x.0 h.0 x.3 ∙ sym (rows_are k h.0 c.in_ok-array.array is)),
+      ),
+    )
