@@ -6,6 +6,7 @@ mod arrays;
 mod buffers;
 mod built;
 mod checks;
+mod integers;
 mod rebuilt;
 mod rows;
 mod validities;

@@ -2,6 +2,7 @@
 
 use crate::arrays::{bools, numbers};
 use crate::checks::Checks;
+use crate::integers::holds;
 use std::alloc::Global;
 use vortex_arrays::{
     ArrayError, ArrayRef, ListViewArray, ListViewRebuild, ListViewRebuildMode, Validity,
@@ -31,19 +32,6 @@ fn lists(
         Ok(lists) => Ok(lists),
         Err(_error) => Err(DTypeError::Memory),
     }
-}
-
-/// Whether these are the array's integers, none of them null.
-fn holds(array: &ArrayRef, expected: &[i128]) -> bool {
-    if array.len() != expected.len() {
-        return false;
-    }
-    for i in 0..expected.len() {
-        if array.integer(i) != Some(expected[i]) {
-            return false;
-        }
-    }
-    true
 }
 
 /// What a mode made. Want of memory ends the program.

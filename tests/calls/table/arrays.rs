@@ -1,7 +1,8 @@
 //! Arrays that are appended, compactions, and how the chunks of hinted appends lie.
 
 use crate::checks::Checks;
-use crate::layouts::{answered, holds, numbers, record_of, records, told, valid_where};
+use crate::integers::holds;
+use crate::layouts::{answered, numbers, record_of, records, told, valid_where};
 use crate::make::{cell, column_at, integers, number, scan};
 use std::alloc::{AllocError, Global};
 use vortex_arrays::{ArrayLayout, ArrayRef, DictArray, ListViewArray, Validity};

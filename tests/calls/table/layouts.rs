@@ -61,19 +61,6 @@ pub fn record_of(alloc: Global, name: &str, dtype: DType) -> Result<DType, Alloc
     Ok(DType::Struct(StructFields::from_vec(fields)?, Nullability::NonNullable))
 }
 
-/// Whether these are the array's integers, none of them null.
-pub fn holds(array: &ArrayRef, expected: &[i128]) -> bool {
-    if array.len() != expected.len() {
-        return false;
-    }
-    for i in 0..expected.len() {
-        if array.integer(i) != Some(expected[i]) {
-            return false;
-        }
-    }
-    true
-}
-
 /// What is known exactly of the column in a group: the bounds, the null count, the sum, and 1 where
 /// it is constant.
 pub fn told(

@@ -9,6 +9,7 @@ mod conversions;
 mod deep;
 mod faults;
 mod groups;
+mod integers;
 mod layouts;
 mod leaves;
 mod long;
