@@ -35,9 +35,9 @@ pub fn compare_to<T: NativePType>(
     }
 }
 
-// Which numbers of eight bytes stand so to a number of their kind. A vector register has room for
-// two of them only, so that it is faster to compare each by itself.
-fn compare_long<T: NativePType>(
+/// Which numbers of eight bytes stand so to a number of their kind. A vector register has room for
+/// two of them only, so that it is faster to compare each by itself.
+pub fn compare_long<T: NativePType>(
     alloc: Global,
     comparison: Comparison,
     xs: &[T],

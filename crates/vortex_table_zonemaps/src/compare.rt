@@ -12,7 +12,7 @@ use crate::column::NumberSlice;
 use std::alloc::{AllocError, Global};
 use vortex_stats_expr::operator::Comparison;
 use vortex_stats_mask::masks::{both, both_into};
-use vortex_stats_mask::numbers::{compare_each, compare_to};
+use vortex_stats_mask::numbers::{compare_each, compare_long};
 use vortex_stats_mask::turned::swapped;
 
 // What a side of a comparison is in each of several zones.
@@ -33,7 +33,7 @@ fn test_numbers(
     ensures { IfOk result (λ mask. mask.items
         ≡ map (λ x. test_of (comparison_of comparison) (int_cmp x number.now)) numbers.now) }
 {
-    compare_to(alloc, comparison, numbers, *number)
+    compare_long(alloc, comparison, numbers, *number)
 }
 
 fn compare_number(
