@@ -10,7 +10,7 @@ use Rattle.vortex_arrays_model.proofs.PicksLemmas.{picks_same}
 use Rattle.vortex_arrays_model.proofs.CanonicalLemmas.{All-range, range_more}
 use Rattle.vortex_arrays_rebuild.specs.declared.runs.Run.{Run}
 use Rattle.vortex_arrays_rebuild.specs.Runs.{positions_of, positions_in, FitWithin, LiesWithin}
-use Rattle.vortex_arrays_rebuild.proofs.RunLemmas.{positions_push}
+use Rattle.vortex_arrays_rebuild.proofs.RunLemmas.{positions_push, length_added}
 
 -- the positions of runs that lie within the elements
 positions_below : (n : ℕ) (runs : List Run) → All (LiesWithin n) runs → All (λ i. i < n) (positions_in runs)
@@ -24,6 +24,10 @@ positions_within n runs h = positions_below n runs h.each
 pub positions_more : (runs : List Run) (i : ℕ) (r : Run) → i < length runs → r ≡ get_or runs i r → positions_in (take (i + 1) runs) ≡ positions_in (take i runs) ++ positions_of r
 positions_more runs i r l e = ap positions_in (take_more runs i r l ∙ ap (λ x. take i runs ++ x ∷ []) (sym e)) ∙ positions_push (take i runs) r
 
+-- so many positions more
+pub counted_more : (runs : List Run) (i next : ℕ) (r : Run) → i < length runs → r ≡ get_or runs i r → next ≡ length (positions_in (take i runs)) → next + r.len ≡ length (positions_in (take (i + 1) runs))
+counted_more runs i next r l e h = ap (λ n. n + r.len) h ∙ sym (ap length (positions_more runs i r l e) ∙ length_added (positions_in (take i runs)) r.start r.len)
+
 -- one run is a slice
 pub one_run : (a r : Layout) (runs : List Run) (run : Run) → length runs ≡ 1 → run ≡ get_or runs 0 run → Picks a r (run.start + run.len - run.start) (λ i. run.start + i) → Picks a r (length (positions_in runs)) (λ i. get_or (positions_in runs) i 0)
 one_run a r [] run m e p = absurd (omega arith)
@@ -35,23 +39,11 @@ one_run a r (x ∷ []) run m e p =
     (subst (λ n. Picks a r n (λ i. get_or (range_with_len run.start run.len) i 0)) (sym (length-range_with_len run.start run.len))
     (picks_same a r run.len (λ i. run.start + i) (λ i. get_or (range_with_len run.start run.len) i 0) (λ i l. sym (get_or-range_with_len run.start run.len i 0 l)) (subst (λ n. Picks a r n (λ i. run.start + i)) many p)))
 
--- one position more of a run
-pub place_more : (ps qs : List ℕ) (start n x : ℕ) → qs ≡ ps ++ range_with_len start n → x ≡ start + n → qs ++ x ∷ [] ≡ ps ++ range_with_len start (n + 1)
-place_more ps qs start n x h e = ap (λ l. l ++ x ∷ []) h ∙ append_assoc ps (range_with_len start n) (x ∷ []) ∙ ap (λ l. ps ++ l) (ap (λ y. range_with_len start n ++ y ∷ []) e ∙ sym (range_more start n))
-
 -- the run that is read lies within
 pub run_within : (n : ℕ) (runs : List Run) (i : ℕ) (r : Run) → FitWithin n runs → i < length runs → r ≡ get_or runs i r → r.start + r.len ≤ n
 run_within n runs i r h l e = subst (LiesWithin n) (sym e) (h.each i r l)
 
--- the positions of the first runs, and one more
-pub placed_more : (ps qs : List ℕ) (runs : List Run) (i : ℕ) (r : Run) → ps ≡ positions_in (take i runs) → i < length runs → r ≡ get_or runs i r → qs ≡ ps ++ positions_of r → qs ≡ positions_in (take (i + 1) runs)
-placed_more ps qs runs i r h l e m = m ∙ ap (λ t. t ++ positions_of r) h ∙ sym (positions_more runs i r l e)
-
 pub all_runs : (runs : List Run) (n : ℕ) → length runs ≤ n → positions_in (take n runs) ≡ positions_in runs
 all_runs runs n h = ap positions_in (take_all n runs h)
-
-pub ruleset added = (place_more)
-
-pub ruleset placed = (placed_more, run_within, all_runs)
 
 pub ruleset sliced = (one_run, run_within)

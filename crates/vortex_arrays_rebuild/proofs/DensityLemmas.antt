@@ -1,8 +1,8 @@
 -- Elements that lists have, by the furthest end of the lists that begin at each.
-use Rattle.std.proofs.Common.{◌≡◌, ◌≢◌, ◌<◌, ◌≤◌, ◌+◌, ℕ, pos, zero, suc, Bool, true, false, cond, List, [], ◌∷◌, ◌++◌, length, replicate, set, get_or, count_by, max, refl, sym, ap, subst, ◌∙◌, arith, inl, inr, ⊎_elim}
+use Rattle.std.proofs.Common.{◌≡◌, ◌≢◌, ◌<◌, ◌≤◌, ◌+◌, ℕ, pos, zero, suc, Bool, true, false, cond, List, [], ◌∷◌, ◌++◌, length, take, replicate, set, get_or, count_by, max, refl, sym, ap, subst, ◌∙◌, arith, inl, inr, ⊎_elim}
 use Rattle.std.proofs.Math.Dec.{ltb}
 use Rattle.std.proofs.lemmas.Bool.{cases_eq, cases_lt, ltb-true, lt-ltb}
-use Rattle.std.proofs.lemmas.List.{get_or-set_other, get_or-set_same, length-set, length-replicate, get_or_push, get_or_append_left, length_push}
+use Rattle.std.proofs.lemmas.List.{get_or-set_other, get_or-set_same, length-set, length-replicate, take_more_set, take_all, get_or_push, get_or_append_left, length_push}
 use Rattle.vortex_arrays_model.specs.Layout.{Layout, list_views, Valid, required, all_valid, all_null, len_of, content_at, number_in, is_valid, IsSound, IsView}
 use Rattle.vortex_arrays_model.proofs.ValidRows.{view_within}
 use Rattle.vortex_model.specs.Content.{Content, integer}
@@ -210,7 +210,20 @@ mark_covered ends n marks end h = one_covered ends n marks end (get_or ends n 0)
 pub all_covered : (ends : List ℕ) (n m : ℕ) (marks : List Bool) (end : ℕ) → AreCoveredTo ends n marks end → n ≡ m → AreCovered ends m marks
 all_covered ends n m marks end h e = subst (λ k. AreCovered ends k marks) e h.marked
 
-pub ruleset covering = (none_covered, all_covered)
+-- the same where the mark is written in its place
+pub mark_set : (ends : List ℕ) (n : ℕ) (marks : List Bool) (end : ℕ) → n < length marks → AreCoveredTo ends n (take n marks) end → AreCoveredTo ends (n + 1) (take (n + 1) (set marks n (ltb n (max (get_or ends n 0) end)))) (max (get_or ends n 0) end)
+mark_set ends n marks end l h =
+    let b : Bool = ltb n (max (get_or ends n 0) end) in
+    subst (λ ms. AreCoveredTo ends (n + 1) ms (max (get_or ends n 0) end)) (sym (take_more_set marks n b l)) (mark_covered ends n (take n marks) end h)
+
+pub covered_all : (ends : List ℕ) (n : ℕ) (marks : List Bool) (end : ℕ) → length marks ≡ length ends → length ends ≤ n → AreCoveredTo ends n (take n marks) end → AreCovered ends (length ends) marks
+covered_all ends n marks end e l h =
+    let all : take n marks ≡ marks = take_all n marks (omega (arith, e)) in
+    let c = h.marked in
+    let same : n ≡ length ends = sym c.many ∙ ap length all ∙ e in
+    all_covered ends n (length ends) marks end (subst (λ ms. AreCoveredTo ends n ms end) all h) same
+
+pub ruleset covering = (none_covered)
 
 -- ---- the elements of the lists
 

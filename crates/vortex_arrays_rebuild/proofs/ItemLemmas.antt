@@ -5,8 +5,7 @@ use Rattle.std.proofs.lemmas.List.{append-nil, take_more, take_more_set, take_al
 use Rattle.std.proofs.lemmas.List.Concat.{flat_map-append}
 use Rattle.vortex_arrays_rebuild.specs.declared.runs.Run.{Run}
 use Rattle.vortex_arrays_rebuild.specs.Runs.{positions_of, positions_in, items_of_run, items_in, FitWithin}
-use Rattle.vortex_arrays_rebuild.proofs.CopyLemmas.{run_within, positions_more}
-use Rattle.vortex_arrays_rebuild.proofs.RunLemmas.{length_added}
+use Rattle.vortex_arrays_rebuild.proofs.CopyLemmas.{run_within, counted_more}
 
 -- one run more is copied
 pub items_pushed : {A : Type 0} (xs ys zs : List A) (runs : List Run) (i : ℕ) (r : Run) → ys ≡ items_in xs (take i runs) → i < length runs → r ≡ get_or runs i r → zs ≡ ys ++ items_of_run xs r → zs ≡ items_in xs (take (i + 1) runs)
@@ -94,9 +93,6 @@ pub record Written (xs now : List Bool) (runs : List Run) (i next : ℕ) : Type 
 
 pub written_none : (xs : List Bool) (runs : List Run) (n : ℕ) → n ≡ length (positions_in runs) → Written xs (replicate n false) runs 0 0
 written_none xs runs n e = record { front = refl; counted = refl; same = length-replicate n false ∙ e }
-
-counted_more : (runs : List Run) (i next : ℕ) (r : Run) → i < length runs → r ≡ get_or runs i r → next ≡ length (positions_in (take i runs)) → next + r.len ≡ length (positions_in (take (i + 1) runs))
-counted_more runs i next r l e h = ap (λ n. n + r.len) h ∙ sym (ap length (positions_more runs i r l e) ∙ length_added (positions_in (take i runs)) r.start r.len)
 
 pub written_more : (xs old now : List Bool) (runs : List Run) (i next : ℕ) (r : Run) → i < length runs → r ≡ get_or runs i r → take (next + r.len) now ≡ take next old ++ items_of_run xs r → length now ≡ length old → Written xs old runs i next → Written xs now runs (i + 1) (next + r.len)
 written_more xs old now runs i next r l e front same w = record {

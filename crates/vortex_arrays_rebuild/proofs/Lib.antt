@@ -2,6 +2,7 @@ pub mod CopyLemmas
 pub mod DensityLemmas
 pub mod ItemLemmas
 pub mod NameLemmas
+pub mod PlaceLemmas
 pub mod PlanLemmas
 pub mod RangeLemmas
 pub mod ReadLemmas

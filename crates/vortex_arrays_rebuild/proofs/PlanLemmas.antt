@@ -1,7 +1,7 @@
 -- The plan of a layout without gaps.
-use Rattle.std.proofs.Common.{◌≡◌, ◌<◌, ◌≤◌, ◌+◌, ℕ, Bool, true, false, cond, List, refl, length, map, take, get_or, sym, ap, subst, ◌∙◌, arith}
+use Rattle.std.proofs.Common.{◌≡◌, ◌<◌, ◌≤◌, ◌+◌, ◌++◌, ℕ, Bool, true, false, cond, List, refl, length, map, take, set, get_or, sym, ap, subst, ◌∙◌, arith}
 use Rattle.std.specs.List.{flat_map, range_with_len}
-use Rattle.std.proofs.lemmas.List.{length-map}
+use Rattle.std.proofs.lemmas.List.{length-map, take_more_set, take_all}
 use Rattle.std.proofs.lemmas.List.Concat.{length-flat_map}
 use Rattle.std.proofs.lemmas.List.Folds.{length-flat_map-take}
 use Rattle.std.proofs.lemmas.List.FromFn.{length-map-range_with_len}
@@ -10,7 +10,7 @@ use Rattle.vortex_arrays_view.specs.declared.error.ArrayError.{ArrayError}
 use Rattle.vortex_arrays_view.specs.declared.error.ArrayError.TheVariants as error
 use Rattle.vortex_arrays_model.specs.Layout.{Layout, list_views, Valid, len_of, content_at, number_in, is_valid, rows_of, IsSound}
 use Rattle.vortex_arrays_model.specs.Canonical.{items_of, IsCanonical}
-use Rattle.vortex_arrays_model.proofs.CanonicalLemmas.{canonical_none, canonical_all, items_valid, items_null}
+use Rattle.vortex_arrays_model.proofs.CanonicalLemmas.{canonical_none, canonical_more, canonical_all, items_valid, items_null}
 use Rattle.vortex_arrays_model.proofs.RowsLemmas.{row_at_position, row_count}
 use Rattle.vortex_arrays_rebuild.specs.Density.{AreValidSizes}
 use Rattle.vortex_arrays_rebuild.specs.Indices.{AreRead}
@@ -59,4 +59,13 @@ planned_within e o s v os ss i start count h r z l p q =
     let most = all_within e o s false v os ss h r z i here in
     omega (arith, most, same_read os i start here p, same_read ss i count there q)
 
-pub ruleset planned = (canonical_none, canonical_all, no_memory, offsets_at_most, sizes_at_most)
+-- ---- offsets and sizes written in their places
+
+pub canonical_set : (a : Layout) (f : ℕ → Content) (os ss ps : List ℕ) (i start size n : ℕ) → n ≡ length ps → i < length os → i < length ss → IsCanonical (take i (rows_of a)) (take i os) (take i ss) (map f ps) → i < len_of a → items_of (content_at a i) ≡ map f (range_with_len start size) → IsCanonical (take (i + 1) (rows_of a)) (take (i + 1) (set os i n)) (take (i + 1) (set ss i size)) (map f (ps ++ range_with_len start size))
+canonical_set a f os ss ps i start size n e lo ls h l r =
+    rw (take_more_set os i n lo, take_more_set ss i size ls, e) (canonical_more a f (take i os) (take i ss) ps i start size h l r)
+
+pub canonical_whole : (a : Layout) (n : ℕ) (os ss : List ℕ) (es : List Content) → len_of a ≤ n → length os ≤ n → length ss ≤ n → IsCanonical (take n (rows_of a)) (take n os) (take n ss) es → IsCanonical (rows_of a) os ss es
+canonical_whole a n os ss es l lo ls h = canonical_all a n os ss es l (rw (take_all n os lo, take_all n ss ls) at h)
+
+pub ruleset planned = (canonical_none, no_memory, offsets_at_most, sizes_at_most)

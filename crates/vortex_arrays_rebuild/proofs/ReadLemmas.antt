@@ -1,36 +1,22 @@
 -- Numbers read from a column.
-use Rattle.std.proofs.Common.{◌≡◌, ◌<◌, ◌+◌, ℕ, ℤ, pos, true, List, [], ◌∷◌, ◌++◌, length, map, get_or, refl, sym, ap, subst, ◌∙◌, arith, inl, inr}
+use Rattle.std.proofs.Common.{◌≡◌, ◌<◌, ℕ, ℤ, pos, true, List, length, map, get_or, refl, sym, ap, subst, ◌∙◌, arith}
 use Rattle.std.specs.Prelude.{◌≤ℤ◌, ◌<ℤ◌, negsuc, unsigned_abs}
-use Rattle.std.proofs.lemmas.Bool.{cases_eq}
+use Rattle.std.specs.List.{range_with_len}
 use Rattle.std.proofs.lemmas.Int.{ints}
-use Rattle.std.proofs.lemmas.List.{get_or-map, length-map, get_or_push, get_or_append_left, length_push}
+use Rattle.std.proofs.lemmas.List.{get_or-map, length-map}
+use Rattle.std.proofs.lemmas.List.FromFn.{length-map-range_with_len, get_or-map-range_with_len}
 use Rattle.vortex_model.specs.LogicalType.{IntKind, u8, u16, u32, u64, i8, i16, i32, i64}
 use Rattle.vortex_model.specs.Valid.{greatest_number, in_range}
 use Rattle.vortex_model.proofs.Tests.{range_so}
 use Rattle.vortex_arrays_model.specs.Layout.{Layout, numbers, Valid, required, array_type_of, len_of, content_at, natural, number_in, IsOffsets}
 use Rattle.vortex_arrays_rebuild.specs.Indices.{AreRead}
 
--- the first n numbers
-pub record AreFirstRead (a : Layout) (xs : List ℕ) (n : ℕ) : Type 0 where
-  pub many : length xs ≡ n
-  pub each : (i : ℕ) → i < n → get_or xs i 0 ≡ number_in (content_at a i)
-
-pub first_none : (a : Layout) (xs : List ℕ) → length xs ≡ 0 → AreFirstRead a xs 0
-first_none a xs e = record { many = e; each = λ i l. absurd (omega arith) }
-
-pub first_more : (a : Layout) (xs : List ℕ) (n x : ℕ) → AreFirstRead a xs n → x ≡ number_in (content_at a n) → AreFirstRead a (xs ++ x ∷ []) (n + 1)
-first_more a xs n x h e = record {
-  many = length_push xs x ∙ ap (λ k. k + 1) h.many;
-  each = λ i l. elim (cases_eq i n) [
-    | inl same ↦ get_or_push xs x 0 i (h.many ∙ sym same) ∙ e ∙ ap (λ k. number_in (content_at a k)) (sym same)
-    | inr other ↦ get_or_append_left xs (x ∷ []) 0 i (let m = h.many in omega (arith, m, other)) ∙ h.each i (omega (arith, other))
-  ];
+-- the number of each row
+pub all_read : (a : Layout) (xs : List ℕ) → xs ≡ map (λ i. number_in (content_at a i)) (range_with_len 0 (len_of a)) → AreRead a xs
+all_read a xs e = record {
+  many = ap length e ∙ length-map-range_with_len (λ i. number_in (content_at a i)) 0 (len_of a);
+  each = λ i l. ap (λ ys. get_or ys i 0) e ∙ get_or-map-range_with_len (λ j. number_in (content_at a j)) 0 (len_of a) i i 0 l (omega arith);
 }
-
-pub first_all : (a : Layout) (xs : List ℕ) (n : ℕ) → AreFirstRead a xs n → n ≡ len_of a → AreRead a xs
-first_all a xs n h e = record { many = h.many ∙ e; each = λ i l. h.each i (omega (arith, e)) }
-
-pub ruleset rows_read = (first_none, first_more, first_all)
 
 -- ---- all numbers of a column at once
 

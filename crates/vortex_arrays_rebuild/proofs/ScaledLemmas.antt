@@ -1,12 +1,12 @@
 -- Runs of the elements of lists of one size.
-use Rattle.std.proofs.Common.{◌≡◌, ◌<◌, ◌≤◌, ◌+◌, ◌*◌, ℕ, zero, suc, List, [], ◌∷◌, ◌++◌, length, take, get_or, sym, ap, subst, ◌∙◌, arith}
+use Rattle.std.proofs.Common.{◌≡◌, ◌<◌, ◌≤◌, ◌+◌, ◌*◌, ℕ, zero, suc, List, [], ◌∷◌, ◌++◌, length, take, get_or, set, sym, ap, subst, ◌∙◌, arith}
 use Rattle.std.proofs.lemmas.Nat.{mul-le}
 use Rattle.std.specs.List.{range_with_len}
-use Rattle.std.proofs.lemmas.List.{append-nil, take_more, take_all, length-append, get_or_append_left, get_or-append-add}
+use Rattle.std.proofs.lemmas.List.{append-nil, take_more, take_more_set, take_all, length-append, get_or_append_left, get_or-append-add}
 use Rattle.std.proofs.lemmas.List.Concat.{flat_map-append}
 use Rattle.std.proofs.lemmas.List.FromFn.{length-range_with_len, get_or-range_with_len}
 use Rattle.vortex_arrays_rebuild.specs.declared.runs.Run.{Run}
-use Rattle.vortex_arrays_rebuild.specs.Runs.{positions_of, positions_in, elements_at}
+use Rattle.vortex_arrays_rebuild.specs.Runs.{positions_of, positions_in, elements_at, FitWithin, LiesWithin}
 use Rattle.vortex_arrays_rebuild.proofs.CopyLemmas.{run_within}
 use Rattle.vortex_arrays_rebuild.proofs.RunLemmas.{range_split, fit_none, fit_push}
 
@@ -54,7 +54,20 @@ scaled_more size runs ss ts i r s h l e st ln more =
 pub scaled_all : (size : ℕ) (runs : List Run) (n : ℕ) → length runs ≤ n → elements_at size (positions_in (take n runs)) ≡ elements_at size (positions_in runs)
 scaled_all size runs n h = ap (λ rs. elements_at size (positions_in rs)) (take_all n runs h)
 
-pub ruleset scaled = (scaled_more, scaled_all, fit_none, fit_push, run_within, length_elements)
+-- the same where the run is written in its place
+pub scaled_set : (size : ℕ) (runs ss : List Run) (i : ℕ) (r s : Run) → positions_in (take i ss) ≡ elements_at size (positions_in (take i runs)) → length ss ≡ length runs → i < length runs → r ≡ get_or runs i r → s.start ≡ r.start * size → s.len ≡ r.len * size → positions_in (take (i + 1) (set ss i s)) ≡ elements_at size (positions_in (take (i + 1) runs))
+scaled_set size runs ss i r s h m l e st ln = scaled_more size runs (take i ss) (take (i + 1) (set ss i s)) i r s h l e st ln (take_more_set ss i s (subst (λ n. i < n) (sym m) l))
+
+pub fit_set : (n : ℕ) (ss : List Run) (i m : ℕ) (s : Run) → FitWithin n (take i ss) → LiesWithin n s → length ss ≡ m → i < m → FitWithin n (take (i + 1) (set ss i s))
+fit_set n ss i m s h w e l = fit_push n (take i ss) (take (i + 1) (set ss i s)) s h w (take_more_set ss i s (subst (λ k. i < k) (sym e) l))
+
+pub scaled_whole : (size i : ℕ) (runs ss : List Run) → length ss ≡ length runs → length runs ≤ i → positions_in (take i ss) ≡ elements_at size (positions_in (take i runs)) → positions_in ss ≡ elements_at size (positions_in runs)
+scaled_whole size i runs ss e l h = ap positions_in (sym (take_all i ss (omega (arith, e)))) ∙ h ∙ scaled_all size runs i l
+
+pub fit_whole : (n i m : ℕ) (ss : List Run) → length ss ≡ m → m ≤ i → FitWithin n (take i ss) → FitWithin n ss
+fit_whole n i m ss e l h = subst (FitWithin n) (take_all i ss (omega (arith, e))) h
+
+pub ruleset scaled = (scaled_whole, fit_none, fit_whole, run_within, length_elements)
 
 -- the product stays below the count
 pub fits_below : (start len size lists count : ℕ) → count ≡ lists * size → start + len ≤ lists → start * size + len * size ≤ count

@@ -136,11 +136,11 @@ fn furthest_ends(
 fn covered(alloc: Global, ends: &[usize]) -> Result<Vec<bool>, AllocError>
     ensures { IfOk result (λ marks. AreCovered ends.now (length ends.now) marks.items) }
 {
-    let mut marks = Vec::with_capacity(alloc, ends.len())?;
+    let mut marks = vec![in alloc; false; ends.len()]?;
     let mut end = 0;
     for j in 0..ends.len() {
         end = ends[j].max(end);
-        marks.push(j < end)?;
+        marks[j] = j < end;
     }
     Ok(marks)
 }

@@ -45,14 +45,14 @@ pub(crate) fn plan_layout(
     let limit = elements.len();
     let starts = read_indices(alloc, offsets, limit)?;
     let counts = valid_sizes(alloc, sizes, validity, limit)?;
-    let mut new_starts = Vec::with_capacity(alloc, starts.len())?;
-    let mut new_counts = Vec::with_capacity(alloc, starts.len())?;
+    let mut new_starts = vec![in alloc; 0; starts.len()]?;
+    let mut new_counts = vec![in alloc; 0; starts.len()]?;
     let mut runs = RunsBuilder::new(alloc, limit);
     for i in 0..starts.len() {
         let start = starts[i];
         let count = counts[i];
-        new_starts.push(runs.len as u64)?;
-        new_counts.push(count as u64)?;
+        new_starts[i] = runs.len as u64;
+        new_counts[i] = count as u64;
         runs.add(start, count)?;
     }
     let runs = runs.finish()?;

@@ -67,17 +67,14 @@ fn natural_of<T: NativePType>(item: T) -> usize
 }
 
 // The numbers of an array of any layout, row by row.
-#[tactic(auto, using(crate::proofs::ReadLemmas::rows_read))]
 fn each_index(alloc: Global, array: &ArrayRef, bound: usize) -> Result<Vec<usize>, AllocError>
     requires kind { IsOffsets (array_type_of array.now) }
     requires within { AreAtMost bound array.now }
     ensures { IfOk result (λ indices. AreRead array.now indices.items) }
 {
-    let mut indices = Vec::with_capacity(alloc, array.len())?;
-    for i in 0..array.len() {
-        indices.push(index_at(array, i, bound))?;
-    }
-    Ok(indices)
+    (0..array.len())
+        .map(|i| index_at(array, i, bound))
+        .collect(alloc)
 }
 
 // The number at a position, which is not above the bound.

@@ -1,5 +1,5 @@
 //! Runs of neighbouring elements, which are copied as one range each.
-ghost use Rattle.std.specs.Prelude.{◌≡◌, ◌≤◌, ◌+◌, ◌*◌, ◌++◌, [], length, IfOk, IfErr, IfSome, OnOk};
+ghost use Rattle.std.specs.Prelude.{◌≡◌, ◌≤◌, ◌+◌, ◌*◌, ◌++◌, [], length, take, IfOk, IfErr, IfSome, OnOk};
 ghost use Rattle.std.specs.List.{range_with_len};
 ghost use Rattle.vortex_arrays_rebuild.specs.Runs.{
   elements_at,
@@ -126,10 +126,10 @@ impl Runs {
             Some(len) => len,
             None => return Ok(None),
         };
-        let mut list = Vec::with_capacity(alloc, self.list.len())?;
+        let mut list = vec![in alloc; Run { start: 0, len: 0 }; self.list.len()]?;
         for i in 0..self.list.len() {
             let run = self.list[i];
-            list.push(run.of_elements(size, self.limit, count))?;
+            list[i] = run.of_elements(size, self.limit, count);
         }
         let limit = count;
         Ok(Some(Runs { list, len, limit }))
@@ -155,26 +155,32 @@ impl Run {
 }
 
 /// The positions of the runs' elements.
-#[tactic(auto, using(crate::proofs::CopyLemmas::placed))]
+#[tactic(auto, using(crate::proofs::PlaceLemmas::placed))]
 pub(crate) fn positions_of_runs(alloc: Global, runs: &Runs) -> Result<Vec<u64>, AllocError>
     ensures { IfOk result (λ places. places.items ≡ positions_in runs.now.list.items) }
 {
-    let mut places: Vec<u64> = Vec::with_capacity(alloc, runs.len)?;
+    let mut places = vec![in alloc; 0; runs.len]?;
+    let mut next = 0;
     for i in 0..runs.list.len() {
-        push_positions(&mut places, runs.list[i], runs.limit)?;
+        let run = runs.list[i];
+        next = put_positions(&mut places, next, run, runs.limit);
     }
     Ok(places)
 }
 
-// Adds the positions of a run's elements, all of them below a length.
-#[tactic(auto, using(crate::proofs::CopyLemmas::added))]
-fn push_positions(places: &mut Vec<u64>, run: Run, len: usize) -> Result<(), AllocError>
-    requires { LiesWithin len run }
-    ensures { OnOk result (places.new.items ≡ places.old.items ++ positions_of run) }
+// Writes the positions of a run's elements, all of them below a length, from a place on, and tells
+// the place behind them.
+fn put_positions(places: &mut Vec<u64>, at: usize, run: Run, len: usize) -> usize
+    requires room { at + run.len ≤ length places.old.items }
+    requires within { LiesWithin len run }
+    ensures front { take (at + run.len) places.new.items
+        ≡ take at places.old.items ++ positions_of run }
+    ensures same { length places.new.items ≡ length places.old.items }
+    ensures next { result ≡ at + run.len }
 {
     let _len = len;
     for j in 0..run.len {
-        places.push((run.start + j) as u64)?;
+        places[at + j] = (run.start + j) as u64;
     }
-    Ok(())
+    at + run.len
 }
