@@ -1,5 +1,5 @@
 -- Validities end to end.
-use Rattle.std.proofs.Common.{◌≡◌, ◌<◌, ◌≤◌, ◌+◌, ◌^◌, ◌&&◌, ℕ, Bool, true, false, List, [], ◌∷◌, ◌++◌, length, map, take, drop, get_or, replicate, refl, sym, ap, subst, ◌∙◌, append_assoc, length-append, add-one, arith}
+use Rattle.std.proofs.Common.{◌≡◌, ◌<◌, ◌≤◌, ◌+◌, ◌^◌, ◌&&◌, ℕ, Bool, true, false, List, [], ◌∷◌, ◌++◌, length, map, take, drop, get_or, replicate, refl, sym, ap, subst, ◌∙◌, length-append, add-one, arith}
 use Rattle.std.specs.List.{list_all}
 use Rattle.std.proofs.lemmas.List.{length-map, map-append, get_or-map, take_more, take_all, append-nil, drop_all, length-replicate, get_or-replicate, replicate-append-replicate}
 use Rattle.std.proofs.lemmas.List.Concat.{flat_map-append}
@@ -10,7 +10,7 @@ use Rattle.vortex_arrays_model.specs.Layout.{Valid, required, all_valid, all_nul
 use Rattle.vortex_arrays_core.specs.LayoutOf.{valid_of}
 use Rattle.vortex_arrays_core.specs.declared.array.Validity.{Validity}
 use Rattle.vortex_arrays_validity.specs.Validities.{valid_rows, rows_of_all, lengths_of_all, shows_no_null, shows_all_null}
-use Rattle.vortex_arrays_validity.proofs.Rows.{one_more, row_count, rows_by_bits}
+use Rattle.vortex_arrays_validity.proofs.Rows.{row_count, rows_by_bits}
 use Rattle.vortex_arrays_concat.specs.EndToEnd.{Part, parts_of, nullability_of_all, HaveLengths, IsEndToEnd}
 
 abbrev pub Held : Type 0
@@ -126,15 +126,6 @@ all_either ps i m h l = sym (either_none m) ∙ sym (ap (λ xs. either_nullable 
 pub ruleset either = (first_either, more_either, all_either)
 
 -- ---- rows
-
-pub none_pushed : (v : Valid) (old : List Bool) → old ≡ old ++ valid_rows v 0
-none_pushed v old = sym (append-nil old)
-
-pub one_pushed : (v : Valid) (old xs ys : List Bool) (i : ℕ) (b : Bool) → xs ≡ old ++ valid_rows v i → b ≡ is_valid v i → ys ≡ xs ++ b ∷ [] → ys ≡ old ++ valid_rows v (i + 1)
-one_pushed v old xs ys i b h e f =
-    f ∙ (λ t. h t ++ e t ∷ []) ∙ append_assoc old (valid_rows v i) (is_valid v i ∷ []) ∙ ap (λ zs. old ++ zs) (sym (one_more v i))
-
-pub ruleset pushed = (none_pushed, one_pushed)
 
 taken : (ps : List Held) (i : ℕ) (p : Held) → i < length ps → p ≡ get_or ps i p → parts_of (take (i + 1) ps) ≡ parts_of (take i ps) ++ seen p ∷ []
 taken ps i p l e = ap parts_of (take_more ps i p l ∙ ap (λ y. take i ps ++ y ∷ []) (sym e)) ∙ map-append seen (take i ps) (p ∷ [])

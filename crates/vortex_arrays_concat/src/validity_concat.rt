@@ -158,19 +158,23 @@ fn rows_of_all(
 {
     let mut all = Vec::with_capacity(alloc, rows)?;
     for part in parts {
-        push_rows(&mut all, &part.0, part.1)?;
+        push_rows(&mut all, alloc, &part.0, part.1)?;
     }
     Ok(all)
 }
 
-#[tactic(auto, using(crate::proofs::ValidityLemmas::pushed))]
-fn push_rows(all: &mut Vec<bool>, validity: &Validity, rows: usize) -> Result<(), AllocError>
+fn push_rows(
+    all: &mut Vec<bool>,
+    alloc: Global,
+    validity: &Validity,
+    rows: usize,
+) -> Result<(), AllocError>
     requires { HasLength (valid_of validity.now) rows }
     ensures { OnOk result
         (all.new.items ≡ all.old.items ++ valid_rows (valid_of validity.now) rows) }
 {
-    for i in 0..rows {
-        all.push(validity.is_valid(i, rows))?;
-    }
+    let mask = validity.to_mask(alloc, rows)?;
+    let bits = mask.bit_buffer().to_bools(alloc)?;
+    all.extend_from_slice(&bits)?;
     Ok(())
 }
