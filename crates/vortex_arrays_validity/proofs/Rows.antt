@@ -99,6 +99,26 @@ all_packed a bits b e h = subst (λ x. IsTrue b ↔ NoneNull (by_array x) (len_o
   λ none. h.1 (All-from_get_or (λ x. x ≡ true) bits false (λ i l. none i l)),
 )
 
+-- rows by their packed bits
+pub bits_many : (v : Valid) (xs : List Bool) (n : ℕ) → HasLength v n →
+    v ≡ by_array (bools xs required) → length xs ≡ n
+bits_many v xs n h e =
+    let w : HasLength (by_array (bools xs required)) n = subst (λ u. HasLength u n) e h in w.1
+
+pub same_bits : (v w : Valid) (xs ys : List Bool) (n : ℕ) (b : Bool) → HasLength v n →
+    v ≡ by_array (bools xs required) → w ≡ by_array (bools ys required) →
+    (IsTrue b ↔ ((i : ℕ) → i < length xs → slice_index_or xs i false ≡ slice_index_or ys i false)) →
+    (IsTrue b ↔ ((i : ℕ) → i < n → is_valid v i ≡ is_valid w i))
+same_bits v w xs ys n b h e d same =
+    let many : length xs ≡ n = bits_many v xs n h e in
+    let there : (i : ℕ) → is_valid v i ≡ slice_index_or xs i false = λ i. ap (λ u. is_valid u i) e in
+    let here : (i : ℕ) → is_valid w i ≡ slice_index_or ys i false = λ i. ap (λ u. is_valid u i) d in (
+      λ t. λ i l. there i ∙ same.0 t i (subst (λ k. i < k) (sym many) l) ∙ sym (here i),
+      λ all. same.1 (λ i l. sym (there i) ∙ all i (subst (λ k. i < k) many l) ∙ here i),
+    )
+
+pub ruleset alike = (bits_many)
+
 -- an array of its bits says the same
 pub executed : (a : Layout) (n : ℕ) (bits : List Bool) (w : Valid) → HasLength (by_array a) n →
     bits ≡ valid_rows (by_array a) (len_of a) → w ≡ by_array (bools bits required) →

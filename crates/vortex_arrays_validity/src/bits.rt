@@ -1,5 +1,5 @@
 //! Arrays of truth values without null, read and made as packed bits.
-ghost use Rattle.std.specs.Prelude.{◌≡◌, ◌<◌, ◌↔◌, ℕ, true, length, All, IsTrue, IfOk};
+ghost use Rattle.std.specs.Prelude.{◌≡◌, ◌<◌, ◌↔◌, ℕ, true, false, length, slice_index_or, All, IsTrue, IfOk, IfSome};
 ghost use Rattle.vortex_model.specs.LogicalType.{nullable};
 ghost use Rattle.vortex_arrays_model.specs.Layout.{bools, required, by_array, len_of, nullability_by, is_valid, HasLength};
 ghost use Rattle.vortex_arrays_core.specs.LayoutOf.{valid_of};
@@ -83,7 +83,47 @@ fn is_each_true(rows: &ArrayRef) -> bool
 }
 
 /// Whether the same rows are null.
+#[tactic(auto, using(crate::proofs::Rows::alike))]
 pub fn same_rows(mine: &Validity, theirs: &Validity, len: usize) -> bool
+    requires mine { HasLength (valid_of mine.now) len }
+    requires theirs { HasLength (valid_of theirs.now) len }
+    ensures { IsTrue result
+        ↔ ((i : ℕ) → i < len → is_valid (valid_of mine.now) i ≡ is_valid (valid_of theirs.now) i) }
+{
+    if let (Some(ours), Some(others)) = (packed_rows(mine), packed_rows(theirs)) {
+        return are_same(ours, others);
+    }
+    is_each_same(mine, theirs, len)
+}
+
+/// The bits of the rows, where an array of them says which are null.
+fn packed_rows(validity: &Validity) -> Option<&BitBuffer>
+    ensures { IfSome result (λ bits. valid_of validity.now ≡ by_array (bools bits.now required)) }
+{
+    if let Validity::Array(rows) = validity {
+        if let ArrayLayout::Bool(bits, Validity::NonNullable) = rows.layout() {
+            return Some(bits);
+        }
+    }
+    None
+}
+
+/// Whether the bits are the same.
+fn are_same(mine: &BitBuffer, theirs: &BitBuffer) -> bool
+    requires { length theirs.now ≡ length mine.now }
+    ensures { IsTrue result ↔ ((i : ℕ) → i < length mine.now
+        → slice_index_or mine.now i false ≡ slice_index_or theirs.now i false) }
+{
+    for i in 0..mine.len() {
+        if mine.value(i) != theirs.value(i) {
+            return false;
+        }
+    }
+    true
+}
+
+/// Whether the same rows are null, of validities of any kind, row by row.
+fn is_each_same(mine: &Validity, theirs: &Validity, len: usize) -> bool
     requires mine { HasLength (valid_of mine.now) len }
     requires theirs { HasLength (valid_of theirs.now) len }
     ensures { IsTrue result

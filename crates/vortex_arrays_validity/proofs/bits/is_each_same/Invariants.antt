@@ -1,7 +1,7 @@
 use Rattle.std.proofs.Common.{◌≡◌, ◌<◌, ℕ}
 use Rattle.vortex_arrays_model.specs.Layout.{is_valid}
 use Rattle.vortex_arrays_core.specs.LayoutOf.{valid_of}
-use Rattle.vortex_arrays_validity.proofs.bits.same_rows.Given as goal
+use Rattle.vortex_arrays_validity.proofs.bits.is_each_same.Given as goal
 
 abbrev pub invariant-loop-i : goal.invariant-loop-i
 invariant-loop-i l =
