@@ -1,5 +1,5 @@
 -- Offsets and sizes that are numbers, and the elements that their lists reach.
-use Rattle.std.proofs.Common.{◌≡◌, ◌<◌, ◌≤◌, ◌+◌, ℕ, ℤ, pos, true, List, length, map, get_or, refl, sym, ap, subst, ◌∙◌, arith, Option}
+use Rattle.std.proofs.Common.{◌≡◌, ◌↔◌, IsTrue, ◌<◌, ◌≤◌, ◌+◌, ℕ, ℤ, pos, Bool, true, List, length, map, get_or, refl, sym, ap, subst, ◌∙◌, arith, Option}
 use Rattle.std.specs.Prelude.{◌≤ℤ◌, ◌<ℤ◌, negsuc, unsigned_abs, MatchOption}
 use Rattle.std.proofs.lemmas.Int.{ints}
 use Rattle.std.proofs.lemmas.List.{get_or-map}
@@ -7,7 +7,7 @@ use Rattle.vortex_model.specs.LogicalType.{IntKind, u8, u16, u32, u64, i8, i16, 
 use Rattle.vortex_model.specs.Valid.{greatest_number, in_range}
 use Rattle.vortex_model.proofs.Tests.{range_so}
 use Rattle.vortex_model.specs.Content.{integer}
-use Rattle.vortex_arrays_model.specs.Layout.{Layout, numbers, Valid, required, array_type_of, len_of, content_at, natural, number_in, IsOffsets, IsView}
+use Rattle.vortex_arrays_model.specs.Layout.{Layout, numbers, Valid, required, array_type_of, len_of, content_at, natural, number_in, IsOffsets, IsView, AreEndToEnd}
 use Rattle.vortex_arrays_model.specs.Trimmed.{AreBounds}
 use Rattle.vortex_arrays_nested.specs.ListViews.{LieWithin, AllLieWithin}
 use Rattle.vortex_arrays_nested.proofs.PairLemmas.{not_null, number_at}
@@ -58,3 +58,9 @@ numbers_lie n o s k j xs ys v w p q e d h = subst (λ y. LieWithin n (numbers k 
 
 pub numbers_reach : (o s : Layout) (k j : IntKind) (xs ys : List ℤ) (v w : Valid) (r : Option (ℕ × ℕ)) → IsOffsets (array_type_of o) → IsOffsets (array_type_of s) → numbers k xs v ≡ o → numbers j ys w ≡ s → MatchOption r (length xs ≡ 0) (λ b. AreBounds (numbers k xs required) (numbers j ys required) b.0 b.1) → MatchOption r (len_of o ≡ 0) (λ b. AreBounds o s b.0 b.1)
 numbers_reach o s k j xs ys v w r p q e d h = subst (λ y. MatchOption r (len_of o ≡ 0) (λ b. AreBounds o y b.0 b.1)) (not_null s j ys w q d) (subst (λ x. MatchOption r (len_of x ≡ 0) (λ b. AreBounds x (numbers j ys required) b.0 b.1)) (not_null o k xs v p e) h)
+
+pub numbers_end : (o s : Layout) (k j : IntKind) (xs ys : List ℤ) (v w : Valid) (b : Bool) → IsOffsets (array_type_of o) → IsOffsets (array_type_of s) → numbers k xs v ≡ o → numbers j ys w ≡ s → (IsTrue b ↔ AreEndToEnd (numbers k xs required) (numbers j ys required)) → (IsTrue b ↔ AreEndToEnd o s)
+numbers_end o s k j xs ys v w b p q e d h = subst (λ y. IsTrue b ↔ AreEndToEnd o y) (not_null s j ys w q d) (subst (λ x. IsTrue b ↔ AreEndToEnd x (numbers j ys required)) (not_null o k xs v p e) h)
+
+pub same_follow : (k j : IntKind) (xs ys : List ℤ) (s : Layout) (b : Bool) → k ≡ j → xs ≡ ys → (IsTrue b ↔ AreEndToEnd (numbers k xs required) s) → (IsTrue b ↔ AreEndToEnd (numbers j ys required) s)
+same_follow k j xs ys s b e d h = subst (λ a. IsTrue b ↔ AreEndToEnd a s) (λ i. numbers (e i) (d i) required) h

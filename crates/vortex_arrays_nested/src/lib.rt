@@ -5,6 +5,7 @@ mod bounds;
 mod codes;
 pub mod dict_array;
 pub mod fixed_size_list;
+mod follow;
 pub mod list_view;
 mod pairs;
 mod reach;

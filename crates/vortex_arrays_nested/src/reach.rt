@@ -89,7 +89,7 @@ fn pairs_bounds<T: Element, S: Element>(
 }
 
 /// Where a list begins and how many elements it has, of lists that lie within so many.
-fn pair_at<T: Element, S: Element>(
+pub(crate) fn pair_at<T: Element, S: Element>(
     offsets: &[T],
     sizes: &[S],
     i: usize,

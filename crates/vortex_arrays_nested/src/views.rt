@@ -10,6 +10,7 @@ ghost use Rattle.vortex_arrays_model.specs.Layout.{
 ghost use Rattle.vortex_arrays_core.specs.LayoutOf.{integer_content};
 ghost use Rattle.vortex_arrays_nested.specs.ListViews.{LieWithin};
 
+use crate::follow::numbers_follow;
 use crate::pairs::numbers_lie_within;
 use vortex_arrays_core::array::{ArrayLayout, ArrayRef};
 use vortex_arrays_core::scalar::view_at;
@@ -69,6 +70,22 @@ pub(crate) fn is_view(offset: Option<i128>, size: Option<i128>, count: usize) ->
 
 /// Whether each list begins where the one before ends.
 pub(crate) fn are_end_to_end(offsets: &ArrayRef, sizes: &ArrayRef, count: usize) -> bool
+    requires offsets { IsOffsets (array_type_of offsets.now) }
+    requires sizes { IsOffsets (array_type_of sizes.now) }
+    requires many { len_of sizes.now ≡ len_of offsets.now }
+    requires views { LieWithin count offsets.now sizes.now }
+    ensures { IsTrue result ↔ AreEndToEnd offsets.now sizes.now }
+{
+    if let ArrayLayout::Primitive(mine, _) = offsets.layout() {
+        if let ArrayLayout::Primitive(theirs, _) = sizes.layout() {
+            return numbers_follow(mine, theirs, count);
+        }
+    }
+    rows_follow(offsets, sizes, count)
+}
+
+/// The same of arrays of any layout, row by row.
+fn rows_follow(offsets: &ArrayRef, sizes: &ArrayRef, count: usize) -> bool
     requires offsets { IsOffsets (array_type_of offsets.now) }
     requires sizes { IsOffsets (array_type_of sizes.now) }
     requires many { len_of sizes.now ≡ len_of offsets.now }
