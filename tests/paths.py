@@ -6,9 +6,9 @@ paths.py [--lines N] [--seed S] [PROGRAM]    PROGRAM is crates/colscan/out/colsc
                                              is given
 
 A line that begins with `{"cmd":"append",` is read token by token, as far as it is of that form:
-into columns where the leaves of its type are truth values, integers and texts and its lists of one
-size are short, and into rows otherwise. Where a cell doesn't fit its column, in the first row or a
-later one, the line is read by its JSON value.
+into columns where the leaves of its type are truth values, integers, texts and bytes, and into rows
+otherwise. Where a cell doesn't fit its column, in the first row or a later one, as a null of long
+lists of one size doesn't, the line is read by its JSON value.
 The same line behind a space says the same, and is read by its JSON value. So each session of random
 appends is run twice, once with a space before each append, and both have to answer alike, byte for
 byte. Before each append stands a `create` of its type, and behind it a scan of all rows.
@@ -38,8 +38,8 @@ LETTERS = [
     *r"\n \t \r \b \f \/ \\ \" \u0041 \u00e9 \u0000 \uD83E\uDEA9 \udbff\udfff \uffff".split(),
 ]
 ODD_LETTERS = [*r"\ud800 \udc00 \udc00\ud800 \ud83ex \u12 \x41".split(), "\x01", "\\"]
-DIGITS = ["00", "ff", "7F", "aB", r"\u0036\u0061"]
-ODD_DIGITS = ["1", "g0", "é", " "]
+DIGITS = ["00", "ff", "7F", "aB", "Fe", "deadBEEF", r"\u0036\u0061", r"\u0041f"]
+ODD_DIGITS = ["1", "f", "g0", "0G", "@0", "`0", "/0", ":0", "é", " ", r"\u0000", r"\n", r"\u00e9"]
 ODD = '{} [] [[]] "" {"a":1} null true false nul True " NaN'.split()
 SPOILERS = b'{}[]",:0-+.eE\\u \x00\x1f\x80\xc3\xff'
 
@@ -54,9 +54,10 @@ def kind(name, more=""):
 
 NULLABLE = ',"nullable":true'
 # Types of rows, each with a form of its rows: `i` stands for a number, `s` for a text, `b` for
-# bytes, `t` for a truth value, `n`, `m` and `u` for null or a number, a text or a truth value, `I`
-# for an array of numbers, `S` for one of texts and `R` for one of records of a text and a number or
-# null. What stands in braces may be null. By the last types a line is refused.
+# bytes, `t` for a truth value, `n`, `m`, `c` and `u` for null or a number, a text, bytes or a truth
+# value, `I` for an array of numbers, `S` for one of texts, `B` for one of bytes or null and `R` for
+# one of records of a text and a number or null. What stands in braces may be null. By the last
+# types a line is refused.
 FORMS = [
     (record('"a"', kind("i8")), "[i]"),
     (record('"a"', kind("i64")), "[i]"),
@@ -69,6 +70,14 @@ FORMS = [
     ),
     (record('"a","b","c","d"', *(kind(it) for it in ("u8", "u32", "i16", "i32"))), "[i,i,i,i]"),
     (record('"b","t"', kind("binary"), kind("bool")), "[b,t]"),
+    (record('"a","b"', kind("i64"), kind("binary")), "[i,b]"),
+    (record('"b","s"', kind("binary", NULLABLE), kind("utf8", NULLABLE)), "[c,m]"),
+    (record('"l"', kind("list", NULLABLE + ',"children":[%s]' % kind("binary", NULLABLE))), "[B]"),
+    (
+        record('"p","f"', record('"b"', kind("binary"), more=NULLABLE),
+               kind("fixed_size_list", NULLABLE + ',"size":2,"children":[%s]' % kind("binary"))),
+        "[{[b]},{[b,b]}]",
+    ),
     (record(r'"é","\u0065"', kind("u16"), kind("i16")), "[i,i]"),
     (record('"l"', kind("list", ',"children":[%s]' % kind("i32"))), "[I]"),
     (record('"l"', kind("list", NULLABLE + ',"children":[%s]' % kind("utf8", NULLABLE))), "[S]"),
@@ -77,6 +86,31 @@ FORMS = [
         record('"f"', kind("fixed_size_list", NULLABLE + ',"size":65,"children":[%s]'
                % kind("bool"))),
         "[{[%s]}]" % ",".join("t" * 65),
+    ),
+    (
+        record('"f"', kind("fixed_size_list", ',"size":65,"children":[%s]'
+               % kind("binary", NULLABLE))),
+        "[[%s]]" % ",".join("c" * 65),
+    ),
+    (
+        record('"f"', kind("fixed_size_list", NULLABLE + ',"size":9,"children":[%s]' % kind(
+               "fixed_size_list", NULLABLE + ',"size":8,"children":[%s]' % kind("i16", NULLABLE)))),
+        "[{[%s]}]" % ",".join(["[n,n,n,n,n,n,n,n]"] * 9),
+    ),
+    (
+        record('"f"', kind("fixed_size_list", ',"size":9,"children":[%s]' % kind(
+               "fixed_size_list", NULLABLE + ',"size":8,"children":[%s]' % kind("i16", NULLABLE)))),
+        "[[%s]]" % ",".join(["{[n,n,n,n,n,n,n,n]}"] * 9),
+    ),
+    (
+        record('"f"', kind("fixed_size_list", ',"size":4294967295,"children":[%s]'
+               % kind("i8", NULLABLE))),
+        "[[n]]",
+    ),
+    (
+        record('"f"', kind("fixed_size_list", NULLABLE + ',"size":0,"children":[%s]'
+               % kind("i8", NULLABLE))),
+        "[{[]}]",
     ),
     (record('"p","q"', record('"a","b"', kind("i32"), kind("utf8")), kind("bool")), "[[i,s],t]"),
     (
@@ -128,21 +162,26 @@ class Lines:
     def text(self):
         return self.quoted(LETTERS, ODD_LETTERS)
 
+    def digits(self):
+        return self.quoted(DIGITS, ODD_DIGITS)
+
     def value(self, sign):
         if self.one_in(150):
             return self.chance.choice(ODD)
-        if sign in "nmu" and self.one_in(3):
+        if sign in "nmcu" and self.one_in(3):
             return "null"
         return {
             "i": self.number,
             "n": self.number,
             "s": self.text,
             "m": self.text,
-            "b": lambda: self.quoted(DIGITS, ODD_DIGITS),
+            "b": self.digits,
+            "c": self.digits,
             "t": lambda: self.chance.choice(["true", "false"]),
             "u": lambda: self.chance.choice(["true", "false"]),
             "I": lambda: self.items(self.number),
             "S": lambda: self.items(self.text),
+            "B": lambda: self.items(lambda: self.value("c")),
             "R": lambda: self.items(lambda: self.row("{[s,n]}")),
         }[sign]()
 

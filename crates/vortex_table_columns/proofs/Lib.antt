@@ -1,5 +1,6 @@
 pub mod CellLemmas
-pub mod TextLemmas
+pub mod ViewLemmas
+pub mod ByteLemmas
 pub mod ColumnLemmas
 pub mod NestedLemmas
 pub mod InsideLemmas

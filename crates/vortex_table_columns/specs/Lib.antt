@@ -1,4 +1,4 @@
 pub mod Cells
-pub mod Texts
+pub mod Views
 pub mod Columns
 pub mod Nested

@@ -8,6 +8,7 @@ ghost use Rattle.vortex_table_columns.specs.Cells.{IsColumn};
 ghost use Rattle.vortex_table_columns.specs.Columns.{column_type, cells_of, boolean_cell, number_cell, text_cell, Takes};
 
 use crate::DoesNotFit;
+use crate::byte_string::ByteCells;
 use crate::cells::{of_booleans, of_integers};
 use crate::text::TextCells;
 use std::alloc::Global;
@@ -17,8 +18,8 @@ use vortex_dtype_ptype::nullability::Nullability;
 use vortex_dtype_ptype::ptype::PType;
 use vortex_scalar_value::pvalue::PValue;
 
-/// A column of truth values, of integers of a kind or of texts. A null may be pushed to any column:
-/// whether null can be is asked when it becomes an array.
+/// A column of truth values, of integers of a kind, of texts or of bytes. A null may be pushed to
+/// any column: whether null can be is asked when it becomes an array.
 #[derive(Drop)]
 pub enum ColumnBuilder {
     /// Truth values.
@@ -27,6 +28,8 @@ pub enum ColumnBuilder {
     Integers(PType, Nullability, Vec<Option<i128>>),
     /// Texts.
     Texts(Nullability, TextCells),
+    /// Bytes.
+    Bytes(Nullability, ByteCells),
 }
 
 // One number more, which is to be in the range of the kind.
@@ -48,8 +51,8 @@ fn push_in_range(
 }
 
 impl ColumnBuilder {
-    /// A column of the type without cells. Types other than those of truth values, integers and
-    /// texts have none.
+    /// A column of the type without cells. Types other than those of truth values, integers, texts
+    /// and bytes have none.
     #[tactic(auto, using(vortex_dtype_core::proofs::Views::one_level))]
     pub fn new(alloc: Global, dtype: &DType) -> Result<ColumnBuilder, DoesNotFit>
         ensures kind { IfOk result (λ column. column_type column ≡ type_of dtype.now) }
@@ -65,7 +68,10 @@ impl ColumnBuilder {
             DType::Utf8(nullability) => {
                 Ok(ColumnBuilder::Texts(*nullability, TextCells::new(alloc)))
             }
-            DType::Null | DType::Decimal(_, _) | DType::Binary(_) => Err(DoesNotFit),
+            DType::Binary(nullability) => {
+                Ok(ColumnBuilder::Bytes(*nullability, ByteCells::new(alloc)))
+            }
+            DType::Null | DType::Decimal(_, _) => Err(DoesNotFit),
             DType::List(_, _) | DType::FixedSizeList(_, _, _) => Err(DoesNotFit),
             DType::Map(_, _) | DType::Struct(_, _) | DType::Union(_, _) => Err(DoesNotFit),
             DType::Variant(_) | DType::Extension(_) => Err(DoesNotFit),
@@ -90,6 +96,10 @@ impl ColumnBuilder {
                 texts.push_null()?;
                 Ok(())
             }
+            ColumnBuilder::Bytes(_, bytes) => {
+                bytes.push_null()?;
+                Ok(())
+            }
         }
     }
 
@@ -105,7 +115,8 @@ impl ColumnBuilder {
                 cells.push(Some(truth))?;
                 Ok(())
             }
-            ColumnBuilder::Integers(_, _, _) | ColumnBuilder::Texts(_, _) => Err(DoesNotFit),
+            ColumnBuilder::Integers(_, _, _) => Err(DoesNotFit),
+            ColumnBuilder::Texts(_, _) | ColumnBuilder::Bytes(_, _) => Err(DoesNotFit),
         }
     }
 
@@ -121,11 +132,12 @@ impl ColumnBuilder {
                 push_in_range(cells, *ptype, number)?;
                 Ok(())
             }
-            ColumnBuilder::Booleans(_, _) | ColumnBuilder::Texts(_, _) => Err(DoesNotFit),
+            ColumnBuilder::Booleans(_, _) => Err(DoesNotFit),
+            ColumnBuilder::Texts(_, _) | ColumnBuilder::Bytes(_, _) => Err(DoesNotFit),
         }
     }
 
-    /// One text more.
+    /// One text more, or the bytes that a text of hexadecimal digits is.
     #[tactic(auto, using(crate::proofs::ColumnLemmas::taken))]
     pub fn push_text(&mut self, text: &str) -> Result<(), DoesNotFit>
         ensures { OnOk result ((cell : Raw)
@@ -135,6 +147,10 @@ impl ColumnBuilder {
         match self {
             ColumnBuilder::Texts(_, texts) => {
                 texts.push(text)?;
+                Ok(())
+            }
+            ColumnBuilder::Bytes(_, bytes) => {
+                bytes.push_digits(text)?;
                 Ok(())
             }
             ColumnBuilder::Booleans(_, _) | ColumnBuilder::Integers(_, _, _) => Err(DoesNotFit),
@@ -158,6 +174,10 @@ impl ColumnBuilder {
                 texts.push("")?;
                 Ok(())
             }
+            ColumnBuilder::Bytes(_, bytes) => {
+                bytes.push_digits("")?;
+                Ok(())
+            }
         }
     }
 
@@ -173,6 +193,7 @@ impl ColumnBuilder {
                 of_integers(alloc, ptype, nullability, cells.as_slice())
             }
             ColumnBuilder::Texts(nullability, texts) => texts.finish(alloc, nullability),
+            ColumnBuilder::Bytes(nullability, bytes) => bytes.finish(alloc, nullability),
         }
     }
 }

@@ -1,5 +1,5 @@
 //! A column of any type that tables hold, which grows cell by cell.
-ghost use Rattle.std.specs.Prelude.{◌≡◌, ◌<◌, ◌≤◌, ◌*◌, List, [], length, IfOk, OnOk};
+ghost use Rattle.std.specs.Prelude.{◌≡◌, ◌≤◌, ◌*◌, List, [], length, IfOk, OnOk};
 ghost use Rattle.vortex_model.specs.Content.{Raw, raw_null};
 ghost use Rattle.vortex_dtype_core.specs.View.{type_of, fields_of};
 ghost use Rattle.vortex_table_columns.specs.Cells.{IsColumn};
@@ -16,14 +16,15 @@ use vortex_dtype_core::struct_fields::StructField;
 /// How deep a column may nest.
 const MAX_DEPTH: usize = 128;
 
-/// How many items a null may take where lists have one size.
+/// How many items a null may take where lists have one size: few bytes of a line are to take little
+/// memory.
 const MAX_FILLED: u32 = 64;
 
 /// A column of leaves, of records or of lists. A null may be pushed to any column: whether null can
 /// be is asked when it becomes an array.
 #[cycle(nested)]
 pub enum NestedBuilder {
-    /// Truth values, integers or texts.
+    /// Truth values, integers, texts or bytes.
     Leaf(ColumnBuilder),
     /// Records: which are not null, and a column for each field, that has a cell under null too.
     Records(Vec<Option<()>>, Vec<NestedBuilder>),
@@ -46,13 +47,12 @@ impl Drop for NestedBuilder {
     }
 }
 
-// How many items a null takes that takes so many lists of this size. Lists without items don't fit,
-// since they would hide how much a null inside of them takes.
+// How many items a null takes that takes so many lists of this size.
 fn items_filled(lists: u32, size: u32) -> Result<u32, DoesNotFit>
-    ensures { IfOk result (λ items. (items ≡ lists * size) × (0 < items) × (items ≤ 64)) }
+    ensures { IfOk result (λ items. (items ≡ lists * size) × (items ≤ 64)) }
 {
     let items = lists.checked_mul(size).ok_or(DoesNotFit)?;
-    if items == 0 || items > MAX_FILLED {
+    if items > MAX_FILLED {
         return Err(DoesNotFit);
     }
     Ok(items)
@@ -60,23 +60,17 @@ fn items_filled(lists: u32, size: u32) -> Result<u32, DoesNotFit>
 
 impl NestedBuilder {
     /// A column of the type without cells. A type that holds other leaves than truth values,
-    /// integers and texts has none, and neither has one of long lists of one size: a null among
-    /// them takes all their items, and few bytes of a line would take much memory.
+    /// integers, texts and bytes has none.
     pub fn new(alloc: Global, dtype: &DType) -> Result<NestedBuilder, DoesNotFit>
         ensures { IfOk result (λ c. Holds (column_of c) (type_of dtype.now) []) }
     {
-        NestedBuilder::of_type(alloc, dtype, MAX_DEPTH, 1)
+        NestedBuilder::of_type(alloc, dtype, MAX_DEPTH)
     }
 
-    // A column of the type, nested no deeper than this. A null outside takes so many of its cells.
+    // A column of the type, nested no deeper than this.
     #[cycle(new)]
     #[tactic(auto, using(crate::proofs::NestedLemmas::one_level))]
-    fn of_type(
-        alloc: Global,
-        dtype: &DType,
-        depth: usize,
-        filled: u32,
-    ) -> Result<NestedBuilder, DoesNotFit>
+    fn of_type(alloc: Global, dtype: &DType, depth: usize) -> Result<NestedBuilder, DoesNotFit>
         ensures { IfOk result (λ c. Holds (column_of c) (type_of dtype.now) []) }
     {
         if depth == 0 {
@@ -84,21 +78,15 @@ impl NestedBuilder {
         }
         match dtype {
             DType::Struct(fields, _) => {
-                let columns = NestedBuilder::of_fields(
-                    alloc,
-                    fields.as_slice(),
-                    depth - 1,
-                    filled,
-                )?;
+                let columns = NestedBuilder::of_fields(alloc, fields.as_slice(), depth - 1)?;
                 Ok(NestedBuilder::Records(Vec::new(alloc), columns))
             }
             DType::List(element, _) => {
-                let items = NestedBuilder::of_type(alloc, element, depth - 1, 1)?;
+                let items = NestedBuilder::of_type(alloc, element, depth - 1)?;
                 Ok(NestedBuilder::Lists(Vec::new(alloc), Box::new(alloc, items)?))
             }
             DType::FixedSizeList(element, size, _) => {
-                let filled = items_filled(filled, *size)?;
-                let items = NestedBuilder::of_type(alloc, element, depth - 1, filled)?;
+                let items = NestedBuilder::of_type(alloc, element, depth - 1)?;
                 let items = Box::new(alloc, items)?;
                 Ok(NestedBuilder::FixedLists(*size, Vec::new(alloc), items))
             }
@@ -118,7 +106,6 @@ impl NestedBuilder {
         alloc: Global,
         fields: &[StructField],
         depth: usize,
-        filled: u32,
     ) -> Result<Vec<NestedBuilder>, DoesNotFit>
         ensures { IfOk result
             (λ cs. HaveFields (columns_of cs.items) (fields_of fields.now) []) }
@@ -128,13 +115,13 @@ impl NestedBuilder {
         }
         let mut columns = Vec::with_capacity(alloc, fields.len())?;
         for field in fields {
-            let column = NestedBuilder::of_type(alloc, &field.dtype, depth - 1, filled)?;
+            let column = NestedBuilder::of_type(alloc, &field.dtype, depth - 1)?;
             columns.push(column)?;
         }
         Ok(columns)
     }
 
-    /// One null more.
+    /// One null more. It doesn't fit where it takes many items of lists of one size.
     #[tactic(auto, using(crate::proofs::NestedLemmas::one_level))]
     pub fn push_null(&mut self) -> Result<(), DoesNotFit>
         ensures { OnOk result (Gains (column_of self.old) raw_null (column_of self.new)) }
@@ -142,7 +129,7 @@ impl NestedBuilder {
         match self {
             NestedBuilder::Leaf(column) => column.push_null(),
             NestedBuilder::Records(present, columns) => {
-                fill_all(columns, MAX_DEPTH)?;
+                fill_all(columns, 1, MAX_DEPTH)?;
                 present.push(None)?;
                 Ok(())
             }
@@ -151,7 +138,7 @@ impl NestedBuilder {
                 Ok(())
             }
             NestedBuilder::FixedLists(size, present, items) => {
-                fill_times(items, *size, MAX_DEPTH)?;
+                fill_times(items, *size, 1, MAX_DEPTH)?;
                 present.push(None)?;
                 Ok(())
             }
@@ -207,10 +194,10 @@ impl NestedBuilder {
     }
 }
 
-// One cell more, whatever it is: it stands under a null.
+// One cell more, whatever it is: it stands under a null, as one of so many.
 #[cycle(fill)]
 #[tactic(auto, using(crate::proofs::NestedLemmas::one_level))]
-fn fill(column: &mut NestedBuilder, depth: usize) -> Result<(), DoesNotFit>
+fn fill(column: &mut NestedBuilder, filled: u32, depth: usize) -> Result<(), DoesNotFit>
     ensures { OnOk result ((cell : Raw)
         × Gains (column_of column.old) cell (column_of column.new)) }
 {
@@ -220,7 +207,7 @@ fn fill(column: &mut NestedBuilder, depth: usize) -> Result<(), DoesNotFit>
     match column {
         NestedBuilder::Leaf(leaf) => leaf.fill(),
         NestedBuilder::Records(present, columns) => {
-            fill_all(columns, depth - 1)?;
+            fill_all(columns, filled, depth - 1)?;
             present.push(Some(()))?;
             Ok(())
         }
@@ -229,17 +216,17 @@ fn fill(column: &mut NestedBuilder, depth: usize) -> Result<(), DoesNotFit>
             Ok(())
         }
         NestedBuilder::FixedLists(size, present, items) => {
-            fill_times(items, *size, depth - 1)?;
+            fill_times(items, *size, filled, depth - 1)?;
             present.push(Some(()))?;
             Ok(())
         }
     }
 }
 
-// One cell more in each column.
+// One cell more in each column, under a null that takes so many of them.
 #[cycle(fill)]
 #[tactic(auto, using(crate::proofs::NestedLemmas::one_level))]
-fn fill_all(columns: &mut Vec<NestedBuilder>, depth: usize) -> Result<(), DoesNotFit>
+fn fill_all(columns: &mut Vec<NestedBuilder>, filled: u32, depth: usize) -> Result<(), DoesNotFit>
     ensures { OnOk result ((cells : List Raw)
         × EachGains columns.old.items cells columns.new.items) }
 {
@@ -247,23 +234,29 @@ fn fill_all(columns: &mut Vec<NestedBuilder>, depth: usize) -> Result<(), DoesNo
         return Err(DoesNotFit);
     }
     for i in 0..columns.len() {
-        fill(&mut columns[i], depth - 1)?;
+        fill(&mut columns[i], filled, depth - 1)?;
     }
     Ok(())
 }
 
-// So many cells more.
+// So many cells more, under a null that takes so many lists of this many.
 #[cycle(fill)]
 #[tactic(auto, using(crate::proofs::NestedLemmas::one_level))]
-fn fill_times(column: &mut NestedBuilder, count: u32, depth: usize) -> Result<(), DoesNotFit>
+fn fill_times(
+    column: &mut NestedBuilder,
+    count: u32,
+    lists: u32,
+    depth: usize,
+) -> Result<(), DoesNotFit>
     ensures { OnOk result ((cells : List Raw) × (length cells ≡ count)
         × GainsAll (column_of column.old) cells (column_of column.new)) }
 {
     if depth == 0 {
         return Err(DoesNotFit);
     }
+    let filled = items_filled(lists, count)?;
     for _ in 0..count {
-        fill(column, depth - 1)?;
+        fill(column, filled, depth - 1)?;
     }
     Ok(())
 }

@@ -1,19 +1,16 @@
 //! A column of texts that grows text by text.
-ghost use Rattle.std.specs.Prelude.{◌≡◌, ◌≤◌, ◌<◌, ◌++◌, ◌∷◌, [], None, Some, map, length, take, unwrap_or, IfOk, OnOk, IsUtf8};
+ghost use Rattle.std.specs.Prelude.{◌≡◌, ◌<◌, ◌++◌, ◌∷◌, [], None, Some, map, length, take, IfOk, OnOk};
 ghost use Rattle.vortex_model.specs.LogicalType.{utf8};
 ghost use Rattle.vortex_model.specs.Content.{raw_text};
 ghost use Rattle.vortex_dtype_ptype.specs.View.{nullability_of_flag};
-ghost use Rattle.vortex_arrays_view.specs.Made.{short_view};
+ghost use Rattle.vortex_arrays_model.specs.Layout.{texts};
 ghost use Rattle.vortex_table_columns.specs.Cells.{cell_raw, IsColumn};
-ghost use Rattle.vortex_table_columns.specs.Texts.{texts_of, AreTexts};
+ghost use Rattle.vortex_table_columns.specs.Views.{values_of, AreValues};
 
 use crate::DoesNotFit;
-use crate::cells::{nulls_of, values_or};
-use bytes::Bytes;
+use crate::views::finish_values;
 use std::alloc::{AllocError, Global};
 use std::marker::Model;
-use std::rc::Rc;
-use vortex_arrays_buffer::buffer::Buffer;
 use vortex_arrays_core::array::{ArrayRef, StringKind};
 use vortex_arrays_view::build::MAX_BUFFER_LEN;
 use vortex_arrays_view::view::{BinaryView, MAX_INLINED_SIZE};
@@ -38,10 +35,10 @@ fn push_text(
     views: &mut Vec<Option<BinaryView>>,
     text: &str,
 ) -> Result<(), DoesNotFit>
-    requires { AreTexts bytes.old.items views.old.items }
-    ensures texts { AreTexts bytes.new.items views.new.items }
-    ensures pushed { OnOk result (texts_of bytes.new.items views.new.items
-        ≡ texts_of bytes.old.items views.old.items ++ Some text.now ∷ []) }
+    requires { AreValues texts bytes.old.items views.old.items }
+    ensures texts { AreValues texts bytes.new.items views.new.items }
+    ensures pushed { OnOk result (values_of bytes.new.items views.new.items
+        ≡ values_of bytes.old.items views.old.items ++ Some text.now ∷ []) }
 {
     let value = text.as_bytes();
     let start = bytes.len();
@@ -51,43 +48,6 @@ fn push_text(
     put_long(bytes, value)?;
     views.push(Some(BinaryView::make_view(value, 0, start as u32)))?;
     Ok(())
-}
-
-// The views, and that of no bytes in place of null.
-fn all_views(alloc: Global, views: &[Option<BinaryView>]) -> Result<Buffer<BinaryView>, AllocError>
-    ensures { IfOk result (λ all. all ≡ map (λ view. unwrap_or view (short_view [])) views.now) }
-{
-    let views = values_or(alloc, views, BinaryView::empty_view())?;
-    let views = Buffer::from_vec(views)?;
-    Ok(views)
-}
-
-// The bytes as the only buffer.
-fn one_buffer(alloc: Global, bytes: Vec<u8>) -> Result<Rc<Vec<Bytes>>, AllocError>
-    ensures { IfOk result (λ buffers. buffers.value.items ≡ bytes.items ∷ []) }
-{
-    let mut buffers = Vec::with_capacity(alloc, 1)?;
-    buffers.push(Bytes::from_vec(bytes)?)?;
-    let buffers = Rc::new(alloc, buffers)?;
-    Ok(buffers)
-}
-
-// The texts of the views as an array.
-fn finish_texts(
-    alloc: Global,
-    nullability: Nullability,
-    bytes: Vec<u8>,
-    views: &[Option<BinaryView>],
-) -> Result<ArrayRef, DoesNotFit>
-    requires { AreTexts bytes.items views.now }
-    ensures { IfOk result (λ array. IsColumn (utf8 (nullability_of_flag nullability))
-        (map (cell_raw raw_text) (texts_of bytes.items views.now)) array) }
-{
-    let validity = nulls_of(alloc, nullability, views)?;
-    let all = all_views(alloc, views)?;
-    let buffers = one_buffer(alloc, bytes)?;
-    let array = ArrayRef::of_strings(alloc, StringKind::Utf8, all, buffers, validity)?;
-    Ok(array)
 }
 
 /// Texts and nulls: a view for each text, and the bytes of those that views have no room for, end
@@ -100,13 +60,14 @@ pub struct TextCells {
 
 impl Model for TextCells {
     ghost use Rattle.std.specs.Prelude.{ℕ, List, Option};
-    ghost use Rattle.vortex_table_columns.specs.Texts.{texts_of, AreTexts};
+    ghost use Rattle.vortex_arrays_model.specs.Layout.{texts};
+    ghost use Rattle.vortex_table_columns.specs.Views.{values_of, AreValues};
 
     ghost Value = { List (Option (List ℕ)) };
 
-    ghost view = { λ t. texts_of t.bytes.items t.views.items };
+    ghost view = { λ t. values_of t.bytes.items t.views.items };
 
-    ghost invariant = { λ t. AreTexts t.bytes.items t.views.items };
+    ghost invariant = { λ t. AreValues texts t.bytes.items t.views.items };
 }
 
 impl TextCells {
@@ -121,7 +82,7 @@ impl TextCells {
     }
 
     /// One null more.
-    #[tactic(auto, using(crate::proofs::TextLemmas::null_pushed))]
+    #[tactic(auto, using(crate::proofs::ViewLemmas::null_pushed))]
     pub fn push_null(&mut self) -> Result<(), DoesNotFit>
         ensures { OnOk result (self.new ≡ self.old ++ None ∷ []) }
     {
@@ -142,6 +103,12 @@ impl TextCells {
             (map (cell_raw raw_text) self) array) }
     {
         let TextCells { bytes, views } = self;
-        finish_texts(alloc, nullability, bytes, views.as_slice())
+        finish_values(
+            alloc,
+            StringKind::Utf8,
+            nullability,
+            bytes,
+            views.as_slice(),
+        )
     }
 }

@@ -1,5 +1,5 @@
 -- Columns that take the rows of an append, a token at a time.
-use Rattle.std.proofs.Common.{◌≡◌, ℕ, suc, ℤ, ◌+◌, ◌-◌, ◌<◌, ◌≤◌, ◌==◌, List, [], ◌∷◌, ◌++◌, map, length, get_or, set, drop, Bool, true, Option, Some, None, is_some, if◌then◌else◌, option_map, option_and_then, Vec, Global, refl, sym, ap, ◌∙◌, subst, arith, append-nil}
+use Rattle.std.proofs.Common.{◌≡◌, ℕ, suc, ℤ, ◌+◌, ◌-◌, ◌<◌, ◌≤◌, ◌==◌, List, [], ◌∷◌, ◌++◌, map, length, get_or, set, drop, Bool, true, Option, Some, None, is_some, Result, Ok, Err, if◌then◌else◌, option_map, option_and_then, Vec, Global, refl, sym, ap, ◌∙◌, subst, arith, append-nil}
 use Rattle.std.specs.List.{flat_map, range_with_len}
 use Rattle.std.specs.declared.boxed.Box.{Box}
 use Rattle.std.specs.Box.{with_value}
@@ -11,15 +11,16 @@ use Rattle.serde_json.specs.Data.{Data, Num, boolean, number, string, array, no_
 use Rattle.serde_json.specs.Events.{items_len}
 use Rattle.serde_json.specs.Find.{of_integer}
 use Rattle.serde_json.specs.Read.{number_of}
-use Rattle.vortex_model.specs.LogicalType.{LogicalType, boolean_type, integer_type, utf8, list, fixed_list, struct, Fields, no_fields, field}
-use Rattle.vortex_model.specs.Content.{Raw, raw_null, raw_number}
+use Rattle.vortex_model.specs.LogicalType.{LogicalType, boolean_type, integer_type, utf8, binary, list, fixed_list, struct, Fields, no_fields, field}
+use Rattle.vortex_model.specs.Content.{Raw, raw_null, raw_number, raw_byte_string}
 use Rattle.vortex_model.specs.Valid.{in_range}
 use Rattle.vortex_arrays_model.specs.Layout.{Layout}
 use Rattle.vortex_arrays_core.specs.RawRows.{raw_row}
+use Rattle.vortex_table_request.specs.Kinds.{decoded}
 use Rattle.vortex_table_request.specs.Rows.{reading, readings, element_readings, rows_at, if_sized}
 use Rattle.vortex_table_request.specs.View.{raw_rows}
 use Rattle.vortex_table_columns.specs.Cells.{IsColumn}
-use Rattle.vortex_table_columns.specs.Columns.{column_type, boolean_cell, number_cell, text_cell, Takes}
+use Rattle.vortex_table_columns.specs.Columns.{column_type, boolean_cell, number_cell, text_cell, decoded_cell, Takes}
 use Rattle.vortex_table_columns.specs.Nested.{Column, tuples, lists, sized_lists, Columns, next_column, column_of, columns_of, tuple_of, first_of, rest_of, items_in, Holds, HaveFields, IsOf, AreOf, Gains, GainsAll, EachGains}
 use Rattle.vortex_table_columns.specs.declared.column.ColumnBuilder.{ColumnBuilder}
 use Rattle.vortex_table_columns.specs.declared.nested.NestedBuilder as nested
@@ -41,8 +42,13 @@ number_reads : (k : LogicalType) (z : ℤ) (r : Raw) → number_cell k z ≡ Som
 number_reads (integer_type i n) z r e = ap (λ (o : Option ℤ). option_and_then (λ x. if in_range i x then Some (raw_number i x) else None) o) (integer_kept z) ∙ e
 number_reads k z r e = absurd (cc e)
 
+decoded_reads : {E : Type 0} (x : Result (List ℕ) E) → option_map raw_byte_string (decoded x) ≡ decoded_cell x
+decoded_reads (Ok bytes) = refl
+decoded_reads (Err e) = refl
+
 text_reads : (k : LogicalType) (s : List ℕ) (r : Raw) → text_cell k s ≡ Some r → reading k (string s) ≡ Some r
 text_reads (utf8 n) s r e = e
+text_reads (binary n) s r e = decoded_reads _ ∙ e
 text_reads k s r e = absurd (cc e)
 
 pub boolean_cell_leaf : (k : LogicalType) (b : Bool) (r : Raw) → boolean_cell k b ≡ Some r → IsLeaf k (Token.boolean b) r

@@ -186,9 +186,9 @@ fn read_tokens(alloc: Global, line: &[u8], scratch: &mut Scratch) -> Result<Comm
 /// The command that a line is. An append without hints, whose keys come in the order `cmd`,
 /// `dtype`, `rows`, and a scan with `cmd`, `paths`, `where` are read token by token, with no JSON
 /// value between: the rows of an append into a column where the leaves of their type are truth
-/// values, integers and texts and its lists of one size are short, and else into rows. What isn't
-/// read so is read by `vortex_table_request`, which alone refuses. The scratch is room for tokens,
-/// kept from line to line.
+/// values, integers, texts and bytes, and else into rows. What isn't read so is read by
+/// `vortex_table_request`, which alone refuses. The scratch is room for tokens, kept from line to
+/// line.
 pub fn read_command(
     alloc: Global,
     line: &[u8],

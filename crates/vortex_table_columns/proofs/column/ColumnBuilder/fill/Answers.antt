@@ -1,5 +1,5 @@
 use Rattle.std.proofs.Common.{[], false, pos, Some, refl}
-use Rattle.vortex_model.specs.Content.{raw_boolean, raw_text}
+use Rattle.vortex_model.specs.Content.{raw_boolean, raw_text, raw_byte_string}
 use Rattle.vortex_dtype_ptype.specs.View.{number_kind_of}
 use Rattle.vortex_table_columns.specs.Cells.{number_raw}
 use Rattle.vortex_table_columns.proofs.ColumnLemmas.{taken_more}
@@ -17,3 +17,8 @@ returns-in_ok-push-in-Integers c =
 pub returns-in_ok-push-in-Texts : goal.returns-in_ok-push-in-Texts
 returns-in_ok-push-in-Texts c =
     rw c.in-Texts.is (raw_text [], record { kind = refl; cells = taken_more raw_text c.in-Texts.texts c.push-in-Texts.new.self (Some []) c.in_ok-push-in-Texts.ensures })
+
+pub returns-in_ok-push_digits-in-Bytes : goal.returns-in_ok-push_digits-in-Bytes
+returns-in_ok-push_digits-in-Bytes c =
+    let h = c.in_ok-push_digits-in-Bytes.ensures in
+    rw c.in-Bytes.is (raw_byte_string h.0, record { kind = refl; cells = taken_more raw_byte_string c.in-Bytes.bytes c.push_digits.new.self (Some h.0) h.2 })
