@@ -2,6 +2,7 @@
 //! where they can be.
 #![tactic(auto)]
 
+mod boxes;
 mod columns;
 mod give_up;
 mod integers;

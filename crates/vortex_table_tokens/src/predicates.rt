@@ -1,6 +1,7 @@
 //! Predicates of scans from tokens.
 //!
-//! What no scan takes, such as placeholders, isn't read here.
+//! What no scan takes, such as placeholders, isn't read here. What is read is handed on in boxes,
+//! in which its parts end up anyway.
 ghost use Rattle.std.specs.Prelude.{◌≡◌, ◌∷◌, ℕ, List, Some, IfOk};
 ghost use Rattle.json.specs.Token.{begin_array, string, boolean};
 ghost use Rattle.vortex_dtype_core.specs.View.{type_of};
@@ -11,6 +12,7 @@ ghost use Rattle.vortex_table_request.specs.Kinds.{strings_of};
 ghost use Rattle.vortex_table_tokens.specs.Scans.{IsPredicate, EndsLeaf, EndsUnary, EndsBinary, EndsRange, literal_with};
 ghost use Rattle.vortex_table_tokens.specs.Values.{HasValue, HasItems};
 
+use crate::boxes::{between, binary, is_not_null, is_null, like, not};
 use crate::give_up::GiveUp;
 use crate::tokens::{next_token, take_array, take_array_end};
 use crate::types::take_type;
@@ -21,9 +23,7 @@ use vortex_dtype_core::dtype::DType;
 use vortex_dtype_ptype::field_names::{FieldName, FieldNames};
 use vortex_scalar_core::scalar::Scalar;
 use vortex_scalar_value::scalar_value::ScalarValue;
-use vortex_stats_expr::expression::{
-    Expression, between, binary, col, is_not_null, is_null, like, lit, not,
-};
+use vortex_stats_expr::expression::{Expression, col, lit};
 use vortex_stats_expr::operator::Operator;
 use vortex_stats_expr::options::{BetweenOptions, LikeOptions, StrictComparison};
 use vortex_table_request::{Binary, Form, Leaf, Unary, form_named};
@@ -46,23 +46,36 @@ fn take_form(reader: &mut Reader<'_>) -> Result<Form, GiveUp>
 }
 
 // A literal whose value is valid for its type.
-fn literal_of(dtype: DType, value: Option<ScalarValue>) -> Result<Expression, GiveUp>
-    ensures { IfOk result (λ e. literal_with (type_of dtype) (raw_in value) ≡ Some e) }
+fn literal_of(
+    alloc: Global,
+    dtype: DType,
+    value: Option<ScalarValue>,
+) -> Result<Box<Expression>, GiveUp>
+    ensures { IfOk result (λ e. literal_with (type_of dtype) (raw_in value) ≡ Some e.value) }
 {
     match Scalar::try_new(dtype, value) {
-        Ok(scalar) => Ok(lit(scalar)),
+        Ok(scalar) => {
+            let made = Box::new(alloc, lit(scalar))?;
+            Ok(made)
+        }
         Err(_) => Err(GiveUp),
     }
 }
 
 // `type,content]`.
-fn take_literal(alloc: Global, reader: &mut Reader<'_>, depth: usize) -> Result<Expression, GiveUp>
-    ensures { IfOk result (λ e. HasItems depth reader.old (EndsLeaf Leaf.Literal e) reader.new) }
+#[inline(never)]
+fn take_literal(
+    alloc: Global,
+    reader: &mut Reader<'_>,
+    depth: usize,
+) -> Result<Box<Expression>, GiveUp>
+    ensures { IfOk result
+        (λ e. HasItems depth reader.old (EndsLeaf Leaf.Literal e.value) reader.new) }
 {
     let dtype = take_type(reader, depth)?;
     let value = take_value(alloc, reader, depth, &dtype)?;
     take_array_end(reader)?;
-    literal_of(dtype, value)
+    literal_of(alloc, dtype, value)
 }
 
 fn take_name(alloc: Global, reader: &mut Reader<'_>) -> Result<FieldName, GiveUp>
@@ -91,11 +104,18 @@ fn take_names(alloc: Global, reader: &mut Reader<'_>) -> Result<Vec<FieldName>, 
 }
 
 // `name,..]`.
-fn take_column(alloc: Global, reader: &mut Reader<'_>, depth: usize) -> Result<Expression, GiveUp>
-    ensures { IfOk result (λ e. HasItems depth reader.old (EndsLeaf Leaf.Column e) reader.new) }
+#[inline(never)]
+fn take_column(
+    alloc: Global,
+    reader: &mut Reader<'_>,
+    depth: usize,
+) -> Result<Box<Expression>, GiveUp>
+    ensures { IfOk result
+        (λ e. HasItems depth reader.old (EndsLeaf Leaf.Column e.value) reader.new) }
 {
     let names = take_names(alloc, reader)?;
-    Ok(col(FieldNames::new(names)))
+    let made = Box::new(alloc, col(FieldNames::new(names)))?;
+    Ok(made)
 }
 
 fn take_leaf(
@@ -103,8 +123,8 @@ fn take_leaf(
     reader: &mut Reader<'_>,
     depth: usize,
     leaf: Leaf,
-) -> Result<Expression, GiveUp>
-    ensures { IfOk result (λ e. HasItems depth reader.old (EndsLeaf leaf e) reader.new) }
+) -> Result<Box<Expression>, GiveUp>
+    ensures { IfOk result (λ e. HasItems depth reader.old (EndsLeaf leaf e.value) reader.new) }
 {
     match leaf {
         Leaf::Literal => take_literal(alloc, reader, depth),
@@ -119,9 +139,10 @@ fn end_unary(
     reader: &mut Reader<'_>,
     depth: usize,
     unary: Unary,
-    x: Expression,
-) -> Result<Expression, GiveUp>
-    ensures { IfOk result (λ e. HasItems depth reader.old (EndsUnary unary x e) reader.new) }
+    x: Box<Expression>,
+) -> Result<Box<Expression>, GiveUp>
+    ensures { IfOk result
+        (λ e. HasItems depth reader.old (EndsUnary unary x.value e.value) reader.new) }
 {
     take_array_end(reader)?;
     match unary {
@@ -157,11 +178,11 @@ fn end_operator(
     reader: &mut Reader<'_>,
     depth: usize,
     operator: Operator,
-    x: Expression,
-    y: Expression,
-) -> Result<Expression, GiveUp>
+    x: Box<Expression>,
+    y: Box<Expression>,
+) -> Result<Box<Expression>, GiveUp>
     ensures { IfOk result (λ e. HasItems depth reader.old
-        (EndsBinary (Binary.Operator operator) x y e) reader.new) }
+        (EndsBinary (Binary.Operator operator) x.value y.value e.value) reader.new) }
 {
     take_array_end(reader)?;
     let predicate = binary(alloc, operator, x, y)?;
@@ -173,11 +194,11 @@ fn end_like(
     alloc: Global,
     reader: &mut Reader<'_>,
     depth: usize,
-    x: Expression,
-    pattern: Expression,
-) -> Result<Expression, GiveUp>
+    x: Box<Expression>,
+    pattern: Box<Expression>,
+) -> Result<Box<Expression>, GiveUp>
     ensures { IfOk result (λ e. HasItems depth reader.old
-        (EndsBinary Binary.Like x pattern e) reader.new) }
+        (EndsBinary Binary.Like x.value pattern.value e.value) reader.new) }
 {
     let negated = take_flag(reader)?;
     let case_insensitive = take_flag(reader)?;
@@ -196,10 +217,11 @@ fn end_binary(
     reader: &mut Reader<'_>,
     depth: usize,
     form: Binary,
-    x: Expression,
-    y: Expression,
-) -> Result<Expression, GiveUp>
-    ensures { IfOk result (λ e. HasItems depth reader.old (EndsBinary form x y e) reader.new) }
+    x: Box<Expression>,
+    y: Box<Expression>,
+) -> Result<Box<Expression>, GiveUp>
+    ensures { IfOk result
+        (λ e. HasItems depth reader.old (EndsBinary form x.value y.value e.value) reader.new) }
 {
     match form {
         Binary::Operator(operator) => end_operator(alloc, reader, depth, operator, x, y),
@@ -222,11 +244,12 @@ fn end_range(
     alloc: Global,
     reader: &mut Reader<'_>,
     depth: usize,
-    x: Expression,
-    lower: Expression,
-    upper: Expression,
-) -> Result<Expression, GiveUp>
-    ensures { IfOk result (λ e. HasItems depth reader.old (EndsRange x lower upper e) reader.new) }
+    x: Box<Expression>,
+    lower: Box<Expression>,
+    upper: Box<Expression>,
+) -> Result<Box<Expression>, GiveUp>
+    ensures { IfOk result (λ e. HasItems depth reader.old
+        (EndsRange x.value lower.value upper.value e.value) reader.new) }
 {
     let lower_strict = take_strictness(reader)?;
     let upper_strict = take_strictness(reader)?;
@@ -244,8 +267,8 @@ pub(crate) fn take_predicate(
     alloc: Global,
     reader: &mut Reader<'_>,
     depth: usize,
-) -> Result<Expression, GiveUp>
-    ensures { IfOk result (λ e. HasValue depth reader.old (IsPredicate e) reader.new) }
+) -> Result<Box<Expression>, GiveUp>
+    ensures { IfOk result (λ e. HasValue depth reader.old (IsPredicate e.value) reader.new) }
 {
     if depth == 0 {
         return Err(GiveUp);

@@ -48,7 +48,7 @@ fn take_where(alloc: Global, reader: &mut Reader<'_>) -> Result<Expression, Give
 {
     take_key(reader, "where")?;
     let predicate = take_predicate(alloc, reader, MEMBER_DEPTH)?;
-    Ok(predicate)
+    Ok(Box::into_inner(predicate))
 }
 
 /// A scan whose keys are in order.

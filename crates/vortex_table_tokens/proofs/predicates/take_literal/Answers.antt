@@ -6,5 +6,5 @@ use Rattle.vortex_table_tokens.proofs.predicates.take_literal.Goals as goal
 
 pub returns : goal.returns
 returns c =
-    IfOk-weaker c.literal_of.result _ _ (λ e h. literal_end c.args.depth c.args.reader.now _ _ c.take_array_end.new.reader (type_of c.in_ok-dtype.dtype) (raw_in c.in_ok-value.value) e
+    IfOk-weaker c.literal_of.result _ _ (λ e h. literal_end c.args.depth c.args.reader.now _ _ c.take_array_end.new.reader (type_of c.in_ok-dtype.dtype) (raw_in c.in_ok-value.value) _
     c.in_ok-dtype.ensures c.in_ok-value.ensures c.in_ok-take_array_end.ensures h) c.literal_of.ensures
