@@ -117,6 +117,12 @@ pub fn prepare<'p>(
     let bound = check_scan(alloc, dtype, paths, predicate)?;
     let proofs = bind_built_in(alloc, dtype, predicate)?;
     let trees = ProofTrees::built_in(dtype, predicate);
-    let plan = make_plan(alloc, dtype, paths, bound, trees, proofs)?;
-    Ok(plan)
+    let cut = make_cut(alloc, dtype, paths)?;
+    // Made here and not by `make_plan`, since a plan is big to move.
+    Ok(ScanPlan {
+        bound,
+        trees,
+        proofs,
+        cut,
+    })
 }
