@@ -1,5 +1,5 @@
 //! Values as text. Nothing is allocated but for the growth of the buffer.
-ghost use Rattle.std.specs.Prelude.{◌≡◌, ◌++◌, OnOk, false};
+ghost use Rattle.std.specs.Prelude.{◌≡◌, ◌++◌, OnOk, true, false};
 ghost use Rattle.std.specs.Fmt.{signed_decimal};
 ghost use Rattle.vortex_model.specs.Content.{content_of, contents_of};
 ghost use Rattle.vortex_scalar_value.specs.Numbers.{integer_of};
@@ -7,23 +7,43 @@ ghost use Rattle.vortex_scalar_value.specs.View.{raw_of, raw_at, raws_in};
 ghost use Rattle.vortex_table_response.specs.Text.{content_text, contents_text, numbers_text};
 
 use crate::hexadecimal::push_bytes;
-use crate::indices::push_index;
+use crate::indices::{LONGEST, place_index};
 use crate::type_texts::{push_comma, push_flag, push_number, push_text};
 use std::alloc::AllocError;
 use vortex_scalar_value::pvalue::PValue;
 use vortex_scalar_value::scalar_value::ScalarValue;
 
+// How much of a text of numbers is gathered.
+const GATHERED: usize = 256;
+
+// Writes the numbers, each behind a comma. Many are gathered before the text grows by them.
+fn push_later(out: &mut Vec<u8>, numbers: &[usize]) -> Result<(), AllocError>
+    ensures { OnOk result (out.new.items ≡ out.old.items ++ numbers_text true numbers.now) }
+{
+    let mut buf = [0; GATHERED];
+    let mut at = 0;
+    for n in numbers {
+        if at > GATHERED - LONGEST {
+            out.extend_from_slice(&buf[..at])?;
+            at = 0;
+        }
+        at = place_index(&mut buf, at, *n);
+    }
+    out.extend_from_slice(&buf[..at])
+}
+
 /// Writes the numbers with commas between.
 pub fn push_numbers(out: &mut Vec<u8>, numbers: &[usize]) -> Result<(), AllocError>
     ensures { OnOk result (out.new.items ≡ out.old.items ++ numbers_text false numbers.now) }
 {
-    let mut later = false;
-    for n in numbers {
-        push_comma(out, later)?;
-        push_index(out, *n)?;
-        later = true;
+    match numbers {
+        [] => Ok(()),
+        [first, later @ ..] => {
+            push_number(out, *first)?;
+            push_later(out, later)?;
+            Ok(())
+        }
     }
-    Ok(())
 }
 
 fn push_integer(out: &mut Vec<u8>, number: PValue) -> Result<(), AllocError>
