@@ -2,6 +2,7 @@
 mod quoted;
 mod tokens;
 mod types;
+mod unescaped;
 
 pub use quoted::push_text;
 pub use tokens::{push_comma, push_flag, push_number};

@@ -1,9 +1,10 @@
 //! Texts in quotes, with the shortest escapes of JSON.
-ghost use Rattle.std.specs.Prelude.{◌≡◌, ◌<◌, ◌++◌, ◌↔◌, OnOk, All, IsTrue};
+ghost use Rattle.std.specs.Prelude.{◌≡◌, ◌<◌, ◌++◌, OnOk};
 ghost use Rattle.std.specs.Char.{digit_char};
 ghost use Rattle.json.specs.Print.{quoted, escape, escape_byte};
 ghost use Rattle.vortex_table_response.specs.type_texts.Text.{is_unescaped};
 
+use crate::type_texts::unescaped::is_plain;
 use std::alloc::AllocError;
 
 // Whether the byte stands for itself between quotes.
@@ -13,16 +14,9 @@ fn stands_for_itself(byte: u8) -> bool
     byte >= 32 && byte != b'"' && byte != b'\\'
 }
 
-// Whether nothing of the text needs an escape.
-fn is_plain(text: &[u8]) -> bool
-    ensures { IsTrue result ↔ All (λ byte. IsTrue (is_unescaped byte)) text.now }
-{
-    text.iter().all(|byte| stands_for_itself(*byte))
-}
-
 // Writes a text of which nothing needs an escape, as most texts are.
 fn push_plain(out: &mut Vec<u8>, text: &[u8]) -> Result<(), AllocError>
-    requires { All (λ byte. IsTrue (is_unescaped byte)) text.now }
+    requires { escape text.now ≡ text.now }
     ensures { OnOk result (out.new.items ≡ out.old.items ++ quoted text.now) }
 {
     out.push(b'"')?;
