@@ -1,5 +1,5 @@
 -- The text of a number, of up to four digits, and the table of three digits a number.
-use Rattle.std.proofs.Common.{◌≡◌, ℕ, zero, suc, ◌+◌, ◌*◌, ◌/◌, ◌%◌, ◌<◌, ◌≤◌, ◌^◌, Bool, true, false, ◌&&◌, T, eqb, List, [], ◌∷◌, get_or, take, drop, drop-drop, refl, ap, sym, ◌∙◌, arith, eqb→eq, decimal}
+use Rattle.std.proofs.Common.{◌≡◌, ℕ, zero, suc, ◌+◌, ◌*◌, ◌/◌, ◌%◌, ◌<◌, ◌≤◌, Bool, true, false, ◌&&◌, T, eqb, List, [], ◌∷◌, get_or, take, drop, drop-drop, ap, sym, ◌∙◌, arith, eqb→eq, decimal}
 use Rattle.std.proofs.lemmas.Fmt.{decimal_digit, decimal_step}
 use Rattle.std.proofs.lemmas.List.{get_or-take, get_or-drop}
 use lib.Ieee.Fits.{and_l, and_r}

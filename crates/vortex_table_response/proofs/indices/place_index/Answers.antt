@@ -1,4 +1,4 @@
-use Rattle.std.proofs.Common.{◌≡◌, ◌+◌, ◌-◌, ◌*◌, ◌∷◌, ◌++◌, [], take, decimal, ap, ◌∙◌, sym, arith}
+use Rattle.std.proofs.Common.{◌≡◌, ◌+◌, ◌-◌, ◌*◌, arith}
 use Rattle.vortex_table_response.proofs.Digits.{decimal_three, triple_at}
 use Rattle.vortex_table_response.proofs.indices.place_index.Goals as goal
 
