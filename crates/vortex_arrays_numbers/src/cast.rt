@@ -59,11 +59,10 @@ fn cast_items<T: NativePType, U: NativePType>(
     ensures { IfOk result (λ cast. map U.integer cast.items
         ≡ map (held_or_zero U.kind) (map T.integer items.now)) }
 {
-    let mut cast = Vec::with_capacity(alloc, items.len())?;
-    for item in items {
-        cast.push(cast_or_zero(item.get()))?;
-    }
-    Ok(cast)
+    items
+        .iter()
+        .map(|item| cast_or_zero(item.get()))
+        .collect(alloc)
 }
 
 /// The number as one of a native type, and 0 where the type doesn't hold it.
