@@ -4,5 +4,6 @@ pub mod OneToken
 pub mod Lines
 pub mod Rows
 pub mod Scans
+pub mod Joins
 pub mod KindNames
 pub mod ColumnLemmas

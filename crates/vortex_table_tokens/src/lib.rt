@@ -1,11 +1,12 @@
-//! Lines of appends and scans as commands, read token by token, the rows of an append into columns
-//! where they can be.
+//! Lines of appends, scans and joins as commands, read token by token, the rows of an append into
+//! columns where they can be.
 #![tactic(auto)]
 
 mod boxes;
 mod columns;
 mod give_up;
 mod integers;
+mod join;
 mod leaves;
 mod line;
 mod paths;

@@ -14,6 +14,7 @@ ghost use Rattle.vortex_table_tokens.specs.Values.{HasValue, HasMember, IsRestOf
 
 use crate::columns;
 use crate::give_up::GiveUp;
+use crate::join::take_join;
 use crate::scan::take_scan;
 use crate::tokens::{next_token, take_key, take_object, take_object_end, take_text};
 use crate::tree::read_tree;
@@ -30,6 +31,9 @@ const APPEND: &[u8] = b"{\"cmd\":\"append\",";
 
 /// How a scan's line begins, where it is read here.
 const SCAN: &[u8] = b"{\"cmd\":\"scan\",";
+
+/// How a join's line begins, where it is read here.
+const JOIN: &[u8] = b"{\"cmd\":\"join\",";
 
 /// How deep a line may nest.
 const MAX_DEPTH: usize = 127;
@@ -131,6 +135,7 @@ fn take_append(alloc: Global, reader: &mut Reader<'_>) -> Result<Command, GiveUp
 enum Verb {
     Append,
     Scan,
+    Join,
 }
 
 /// The verb, by how the line begins.
@@ -140,6 +145,9 @@ fn verb_of(line: &[u8]) -> Option<Verb> {
     }
     if line.starts_with(SCAN) {
         return Some(Verb::Scan);
+    }
+    if line.starts_with(JOIN) {
+        return Some(Verb::Join);
     }
     None
 }
@@ -152,6 +160,7 @@ fn take_command(alloc: Global, reader: &mut Reader<'_>, verb: Verb) -> Result<Co
     match verb {
         Verb::Append => take_append(alloc, reader),
         Verb::Scan => take_scan(alloc, reader),
+        Verb::Join => take_join(reader),
     }
 }
 
@@ -184,11 +193,11 @@ fn read_tokens(alloc: Global, line: &[u8], scratch: &mut Scratch) -> Result<Comm
 }
 
 /// The command that a line is. An append without hints, whose keys come in the order `cmd`,
-/// `dtype`, `rows`, and a scan with `cmd`, `paths`, `where` are read token by token, with no JSON
-/// value between: the rows of an append into a column where the leaves of their type are truth
-/// values, integers, texts and bytes, and else into rows. What isn't read so is read by
-/// `vortex_table_request`, which alone refuses. The scratch is room for tokens, kept from line to
-/// line.
+/// `dtype`, `rows`, a scan with `cmd`, `paths`, `where` and a join with `cmd`, `group` are read
+/// token by token, with no JSON value between: the rows of an append into a column where the leaves
+/// of their type are truth values, integers, texts and bytes, and else into rows. What isn't read
+/// so is read by `vortex_table_request`, which alone refuses. The scratch is room for tokens, kept
+/// from line to line.
 pub fn read_command(
     alloc: Global,
     line: &[u8],
