@@ -84,7 +84,7 @@ pub(crate) fn are_end_to_end(offsets: &ArrayRef, sizes: &ArrayRef, count: usize)
     rows_follow(offsets, sizes, count)
 }
 
-/// The same of arrays of any layout, row by row.
+/// Whether lists stand end to end whose offsets or sizes are of another layout, row by row.
 fn rows_follow(offsets: &ArrayRef, sizes: &ArrayRef, count: usize) -> bool
     requires offsets { IsOffsets (array_type_of offsets.now) }
     requires sizes { IsOffsets (array_type_of sizes.now) }
