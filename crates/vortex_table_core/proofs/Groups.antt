@@ -1,7 +1,7 @@
 -- A scan goes from group to group, and in these from chunk to chunk.
 use Rattle.std.proofs.Common.{◌≡◌, refl, sym, ◌∙◌, ap, subst, ℕ, zero, suc, ◌+◌, ◌*◌, ◌<◌, ◌≤◌, List, [], ◌∷◌, ◌++◌, length, map, take, drop, count_by, get_or, Bool, true, false, not, ◌&&◌, if◌then◌else◌, IsTrue, add-one, add-zero, append-nil, arith}
 use Rattle.std.specs.Prelude.{sum, is_some}
-use Rattle.std.specs.List.{list_all}
+use Rattle.std.specs.List.{list_all, range_with_len}
 use Rattle.std.proofs.Math.Seq.{drop-cons}
 use Rattle.std.proofs.lemmas.List.{length-map, length-drop, length-take}
 use Rattle.vortex_model.specs.LogicalType.{LogicalType}
@@ -55,7 +55,7 @@ all_in_front p zero xs h = refl
 all_in_front p (suc n) [] h = refl
 all_in_front p (suc n) (x ∷ xs) h = (λ i. true_left (p x) (list_all p xs) h i && all_in_front p n xs (true_right (p x) (list_all p xs) h) i)
 
-all_behind : (p : Chunk → Bool) (n : ℕ) (xs : List Chunk) → list_all p xs ≡ true → list_all p (drop n xs) ≡ true
+pub all_behind : (p : Chunk → Bool) (n : ℕ) (xs : List Chunk) → list_all p xs ≡ true → list_all p (drop n xs) ≡ true
 all_behind p zero xs h = h
 all_behind p (suc n) [] h = refl
 all_behind p (suc n) (x ∷ xs) h = all_behind p n xs (true_right (p x) (list_all p xs) h)
@@ -117,10 +117,10 @@ all_numbers : (i : ℕ) (chunks : List (List Content)) → numbers is_skipped i 
 all_numbers i [] = refl
 all_numbers i (chunk ∷ chunks) = ap (λ ns. i ∷ ns) (all_numbers (suc i) chunks)
 
--- one more number
-pub numbers_more : (i n : ℕ) → numbers_from i (n + 1) ≡ numbers_from i n ++ (i + n) ∷ []
-numbers_more i zero = ap (λ m. m ∷ []) (sym (add-zero i))
-numbers_more i (suc n) = ap (numbers_from i) (let h : suc n + 1 ≡ suc (n + 1) = omega arith in h) ∙ ap (λ ns. i ∷ ns) (numbers_more (suc i) n ∙ ap (λ m. numbers_from (suc i) n ++ m ∷ []) (let h : suc i + n ≡ i + suc n = omega arith in h))
+-- so many numbers from one on
+pub numbers_ranged : (i n : ℕ) → range_with_len i n ≡ numbers_from i n
+numbers_ranged i zero = refl
+numbers_ranged i (suc n) = ap (λ ns. i ∷ ns) (ap (λ k. range_with_len k n) (add-one i) ∙ numbers_ranged (suc i) n)
 
 none_counted : (p : Outcome → Bool) → p skipped_in_group ≡ false → (chunks : List (List Content)) → count_by p (map (λ chunk. skipped_in_group) chunks) ≡ 0
 none_counted p none [] = refl

@@ -8,8 +8,10 @@ pub mod Progress
 pub mod Proven
 pub mod PushedGroups
 pub mod Rows
+pub mod Skipped
 pub mod Stretches
 pub mod Tables
+pub mod Truths
 pub mod Groups
 pub mod OwnType
 pub mod Rearrayed

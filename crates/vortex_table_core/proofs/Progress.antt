@@ -16,7 +16,7 @@ use Rattle.vortex_table_core.specs.Progress.{Question, answer_to, outcome_to, fo
 
 -- ---- counts that stay at the greatest
 
-saturated_twice : (a b : ℕ) → saturated (saturated a + b) ≡ saturated (a + b)
+pub saturated_twice : (a b : ℕ) → saturated (saturated a + b) ≡ saturated (a + b)
 saturated_twice a b = grind (arith, nat_tests)
 
 pub saturated_once : (a : ℕ) → saturated (saturated a) ≡ saturated a

@@ -1,22 +1,26 @@
 -- Neighbouring groups of one chunk each, whose chunks are looked at together.
-use Rattle.std.proofs.Common.{◌≡◌, refl, sym, ◌∙◌, ap, subst, ℕ, zero, suc, ◌+◌, ◌*◌, ◌<◌, ◌≤◌, List, [], ◌∷◌, ◌++◌, length, map, take, drop, get_or, count_by, not, Bool, true, false, Option, Some, None, add-zero, arith}
+use Rattle.std.proofs.Common.{◌≡◌, refl, sym, ◌∙◌, ap, subst, ℕ, zero, suc, ◌+◌, ◌*◌, ◌<◌, ◌≤◌, List, [], ◌∷◌, ◌++◌, length, map, take, drop, get_or, count_by, not, Bool, true, false, Option, Some, None, add-zero, add-one, arith}
 use Rattle.std.specs.Prelude.{is_some, option_map}
 use Rattle.std.specs.List.{list_all}
 use Rattle.std.proofs.lemmas.List.{length-drop, length-take, length-map, get_or-map}
 use Rattle.vortex_model.specs.Content.{Content}
+use Rattle.vortex_model.specs.LogicalType.{LogicalType}
+use Rattle.vortex_model.specs.Path.{Positions}
 use Rattle.vortex_model_table.specs.Table.{Table, bound_length}
 use Rattle.vortex_model_table.specs.Scan.{ScanAnswer, is_many, is_skipped, is_in_group, one_if, saturated}
 use Rattle.vortex_table_chunk.specs.Chunk.{chunk_rows}
 use Rattle.vortex_table_chunk.specs.Formed.{is_formed}
 use Rattle.vortex_table_chunk.specs.declared.chunk.Chunk.{Chunk}
-use Rattle.vortex_table_core.specs.Group.{HasStatistics, IsGroup, chunks_of}
+use Rattle.vortex_table_chunk.specs.declared.zones.bounds.ColumnBounds.{ColumnBounds}
+use Rattle.vortex_table_core.specs.Group.{HasStatistics, IsGroup, AreGroups, chunks_of}
 use Rattle.vortex_table_core.specs.Plan.{IsPlan, table_in, question_in, stretch_of}
-use Rattle.vortex_table_core.specs.Progress.{Question, answer_to, outcome_to, with_chunk, with_group, looked_at, is_group_skipped, outcome_in, group_proofs, no_answer}
+use Rattle.vortex_table_core.specs.Progress.{Question, answer_to, outcome_to, with_chunk, with_group, looked_at, is_group_skipped, outcome_in, group_proofs, no_answer, IsCounted}
 use Rattle.vortex_table_core.specs.declared.group.Group.{Group}
 use Rattle.vortex_table_core.specs.declared.plan.Scan.{Scan}
 use Rattle.vortex_table_core.proofs.Groups.{ahead, drop_on, formed_in, group_entered, Reached, at_start, starts_with_none, first_here, group_here, within, one_on, starts_behind, at_end}
 use Rattle.vortex_table_core.proofs.Progress.{proofs_after, saturated_once}
 use Rattle.vortex_table_core.proofs.Proven.{one_is_none, many_if}
+use Rattle.vortex_table_core.proofs.Walked.{there as is_inside, is_there, all_seen, few_groups}
 
 none_taken : {X : Type 0} (n : ℕ) → take {A = X} n [] ≡ []
 none_taken zero = refl
@@ -42,14 +46,20 @@ pub record Waiting (plan : Scan) (j first count : ℕ) (a : ScanAnswer) : Type 0
   pub reached : Reached plan j (ahead plan first (stretch_of plan first count) a)
   pub at : reached.start ≡ first + count
   pub inside : first + count ≤ length plan.table.now.chunks.items
-  pub proofs : saturated a.proofs ≡ a.proofs
+  pub counted : IsCounted a
+
+pub none_counted : (q : Question) (a : ScanAnswer) → a ≡ no_answer q → IsCounted a
+none_counted q a none = record {
+  tested = ap (λ (x : ScanAnswer). saturated x.rows_tested) none ∙ sym (ap (λ (x : ScanAnswer). x.rows_tested) none);
+  proofs = ap (λ (x : ScanAnswer). saturated x.proofs) none ∙ sym (ap (λ (x : ScanAnswer). x.proofs) none);
+}
 
 pub waiting_start : (plan : Scan) (a : ScanAnswer) → a ≡ no_answer (question_in plan) → Waiting plan 0 0 0 a
 waiting_start plan a none = record {
   reached = at_start plan a none;
   at = (let h = starts_with_none plan a none in omega (arith, h));
   inside = (let h : 0 ≤ length plan.table.now.chunks.items = omega arith in h);
-  proofs = ap (λ (x : ScanAnswer). saturated x.proofs) none ∙ sym (ap (λ (x : ScanAnswer). x.proofs) none);
+  counted = none_counted (question_in plan) a none;
 }
 
 -- ---- one more chunk that is a group
@@ -98,7 +108,7 @@ module _ (plan : Scan) (is : IsPlan plan) (j first count : ℕ) (a : ScanAnswer)
 
   saved : saturated before.proofs ≡ before.proofs
   saved =
-      let now = proofs_after q (outcome_to q) first (map chunk_rows (stretch_of plan first count)) a w.proofs in
+      let now = proofs_after q (outcome_to q) first (map chunk_rows (stretch_of plan first count)) a w.counted.proofs in
       ap saturated now
       ∙ saturated_once (a.proofs + (one_if (is_some q.falsifier) * count_by (λ o. not (is_in_group o)) (map (outcome_to q) (map chunk_rows (stretch_of plan first count)))
       + one_if (is_some q.satisfier) * count_by (λ o. not (is_skipped o)) (map (outcome_to q) (map chunk_rows (stretch_of plan first count)))))
@@ -133,7 +143,7 @@ module _ (plan : Scan) (is : IsPlan plan) (j first count : ℕ) (a : ScanAnswer)
         (let h = starts_behind plan j g before there here w.reached (ahead plan first (stretch_of plan first (count + 1)) a) one_by_one in
         let s = w.at in let o = one in omega (arith, h, s, o));
     inside = (let fits = within plan j g before there here w.reached in let f = first_so in let o = one in omega (arith, fits, f, o));
-    proofs = w.proofs;
+    counted = w.counted;
   }
 
 -- ---- once the chunks that wait are looked at
@@ -157,10 +167,13 @@ module _ (plan : Scan) (j first count : ℕ) (a b : ScanAnswer) (w : Waiting pla
             (let s = starts_behind plan j g b there here none_waits c made in
             let h = first_here plan j g b there here none_waits in omega (arith, s, h));
         inside = (let h = within plan j g b there here none_waits in omega (arith, h));
-        proofs =
-            ap saturated same
-            ∙ saturated_once (now.proofs + (one_if (is_some q.falsifier) * count_by (λ o. not (is_in_group o)) (map f rows) + one_if (is_some q.satisfier) * count_by (λ o. not (is_skipped o)) (map f rows)))
-            ∙ sym same;
+        counted = record {
+          tested = (one_on plan j g b there here none_waits c made).counted;
+          proofs =
+              (ap saturated same
+              ∙ saturated_once (now.proofs + (one_if (is_some q.falsifier) * count_by (λ o. not (is_in_group o)) (map f rows) + one_if (is_some q.satisfier) * count_by (λ o. not (is_skipped o)) (map f rows)))
+              ∙ sym same);
+        };
       }
 
 -- ---- the mask of a stretch
@@ -176,3 +189,49 @@ mask_within f mask chunks i made inside = let same : length mask ≡ length chun
 pub none_if : {X Y : Type 0} (f : X → Y) (o : Option X) → is_some o ≡ false → option_map f o ≡ None
 none_if f None h = refl
 none_if f (Some x) h = absurd (cc h)
+
+-- ---- as many groups as chunks
+
+lone_none : (k : LogicalType) (L : Positions → ℕ) (o : Option (List ColumnBounds)) (chunks : List Chunk) → length chunks ≡ 1 → HasStatistics k L o chunks → o ≡ None
+lone_none k L None chunks one h = refl
+lone_none k L (Some bounds) chunks one h = let many = h.0 in absurd (omega (arith, one, many))
+
+-- the first of so many groups has one chunk
+lone_first : (k : LogicalType) (L : Positions → ℕ) (i : ℕ) (g : Group) (groups : List Group) (chunks : List Chunk) → AreGroups k L i (g ∷ groups) chunks → suc (length groups) ≡ length chunks → g.chunks ≡ 1
+lone_first k L i g groups chunks h same =
+    let few = few_groups k L (i + g.chunks) groups (drop g.chunks chunks) h.2 in
+    let count = h.1.count in let some = h.1.some in let left = length-drop g.chunks chunks in let front = length-take g.chunks chunks in
+    omega (arith, few, count, some, left, front, same)
+
+module _ (plan : Scan) (is : IsPlan plan) (a : ScanAnswer) (none : a ≡ no_answer (question_in plan)) (same : length plan.table.now.groups ≡ length plan.table.now.chunks.items) where
+  abbrev groups_in : List Group
+  groups_in = plan.table.now.groups
+
+  abbrev chunks_all : List Chunk
+  chunks_all = plan.table.now.chunks.items
+
+  abbrev kind_in : LogicalType
+  kind_in = (table_in plan).kind
+
+  abbrev lengths_in : Positions → ℕ
+  lengths_in = bound_length (table_in plan)
+
+  next_waits : (j : ℕ) (left : List Group) → drop j groups_in ≡ left → j < length groups_in → Waiting plan j 0 j a → Waiting plan (j + 1) 0 (j + 1) a
+  next_waits j [] e inside w = let seen = all_seen groups_in j e in absurd (omega (arith, seen, inside))
+  next_waits j (g ∷ left) e inside w =
+      let grouped = group_here plan j g (ahead plan 0 (stretch_of plan 0 j) a) (is_inside groups_in j g left e) (is_there groups_in j g left e) w.reached in
+      let own = chunks_of chunks_all g in
+      let start = w.at in let behind_start = length-drop w.reached.start chunks_all in let behind_j = length-drop j groups_in in
+      let many : length (drop j groups_in) ≡ suc (length left) = ap length e in let all = same in
+      let one = lone_first kind_in lengths_in w.reached.start g left (drop w.reached.start chunks_all) (subst (λ gs. AreGroups kind_in lengths_in w.reached.start gs (drop w.reached.start chunks_all)) e w.reached.groups)
+      (omega (arith, start, behind_start, behind_j, many, all, inside)) in
+      one_waits plan is j 0 j a w g (is_inside groups_in j g left e) (is_there groups_in j g left e) (lone_none kind_in lengths_in _ own (grouped.count ∙ one) grouped.statistics)
+
+  all_wait : (j : ℕ) → j ≤ length groups_in → Waiting plan j 0 j a
+  all_wait zero h = waiting_start plan a none
+  all_wait (suc j) h = subst (λ n. Waiting plan n 0 n a) (add-one j) (next_waits j (drop j groups_in) refl (omega (arith, h)) (all_wait j (omega (arith, h))))
+
+  pub all_alone : (b : ScanAnswer) (count : ℕ) → count ≡ length chunks_all → b ≡ ahead plan 0 (stretch_of plan 0 count) a → b ≡ answer_to (question_in plan)
+  all_alone b count counts found =
+      let all = same in
+      all_looked_at plan count 0 count a b (all_wait count (omega (arith, counts, all))) found (omega (arith, counts, all))

@@ -7,4 +7,5 @@ pub mod Progress
 pub mod Retyped
 pub mod TableView
 pub mod Totals
+pub mod Truths
 pub mod WithArrays

@@ -1,5 +1,5 @@
 -- What an answer gains as a scan goes from chunk to chunk.
-use Rattle.std.specs.Prelude.{ℕ, zero, suc, ◌+◌, ◌*◌, List, [], ◌∷◌, ◌++◌, length, map, sum, Option, is_some, Bool, true, false, not, ◌&&◌, if◌then◌else◌}
+use Rattle.std.specs.Prelude.{◌≡◌, ℕ, zero, suc, ◌+◌, ◌*◌, List, [], ◌∷◌, ◌++◌, length, map, sum, Option, is_some, Bool, true, false, not, ◌&&◌, if◌then◌else◌}
 use Rattle.vortex_model.specs.Content.{Content}
 use Rattle.vortex_model.specs.Path.{Names}
 use Rattle.vortex_model_table.specs.Expression.{Expression}
@@ -66,12 +66,28 @@ with_chunks q outcome i [] a = a
 with_chunks q outcome i (chunk ∷ chunks) a =
     with_chunks q outcome (suc i) chunks (with_chunk q i chunk (outcome chunk) a)
 
--- ---- groups
-
 -- so many numbers from this one on
 abbrev pub numbers_from : ℕ → ℕ → List ℕ
 numbers_from i zero = []
 numbers_from i (suc n) = i ∷ numbers_from (suc i) n
+
+-- the answer with so many chunks that are skipped, of which the first has this number
+abbrev pub with_skipped : Question → ℕ → ℕ → ScanAnswer → ScanAnswer
+with_skipped q i n a = record {
+  rows = a.rows;
+  kind = a.kind;
+  skipped = a.skipped ++ numbers_from i n;
+  whole = a.whole;
+  rows_tested = a.rows_tested;
+  proofs = saturated (a.proofs + n * one_if (is_some q.falsifier));
+}
+
+-- the counts are of 64 bits
+pub record IsCounted (a : ScanAnswer) : Type 0 where
+  pub tested : saturated a.rows_tested ≡ a.rows_tested
+  pub proofs : saturated a.proofs ≡ a.proofs
+
+-- ---- groups
 
 -- a group of two or more chunks is skipped where it is proved that no row of it satisfies
 abbrev pub is_group_skipped : Question → List (List Content) → Bool

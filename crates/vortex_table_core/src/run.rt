@@ -1,7 +1,9 @@
-//! The run of a scan, group by group: the chunks of a group are looked at one by one unless its
-//! statistics prove that none of their rows is selected.
-ghost use Rattle.std.specs.Prelude.{◌≡◌, ◌<◌, ◌+◌, ◌^◌, ◌++◌, OnOk};
+//! The run of a scan, group by group: the chunks of a group are looked at unless its statistics
+//! prove that none of their rows is selected. Those that are skipped one behind the other are added
+//! at once.
+ghost use Rattle.std.specs.Prelude.{◌≡◌, ◌≤◌, ◌<◌, ◌+◌, ◌^◌, ◌++◌, OnOk, false, length, slice_index_or};
 ghost use Rattle.vortex_table_core.specs.Progress.{numbers_from};
+ghost use Rattle.vortex_table_core.specs.Truths.{is_block, AreTrue};
 
 use crate::group::Group;
 use crate::plan::Scan;
@@ -15,11 +17,49 @@ fn push_numbers(first: usize, count: usize, numbers: &mut Vec<usize>) -> Result<
     requires { first + count < 2 ^ 64 }
     ensures { OnOk result (numbers.new.items ≡ numbers.old.items ++ numbers_from first count) }
 {
-    numbers.reserve(count)?;
-    for offset in 0..count {
-        numbers.push(first + offset)?;
+    numbers.extend(first..first + count)
+}
+
+// Whether a block of truths is here in which all are true. They are seen at once.
+fn is_block(truths: &[bool], from: usize) -> bool
+    requires { from ≤ length truths.now }
+    ensures { result ≡ is_block truths.now from }
+{
+    if truths.len() - from < 64 {
+        return false;
     }
-    Ok(())
+    let block = &truths[from..from + 64];
+    !block.contains(&false)
+}
+
+// The place behind the blocks from here on in which all truths are true.
+fn past_blocks(truths: &[bool], from: usize) -> usize
+    requires { from ≤ length truths.now }
+    ensures order { from ≤ result }
+    ensures within { result ≤ length truths.now }
+    ensures truths { AreTrue truths.now from result }
+    ensures end { is_block truths.now result ≡ false }
+{
+    let mut at = from;
+    while is_block(truths, at) {
+        at += 64;
+    }
+    at
+}
+
+// The place of the first truth from here on that is not true, and else behind the last.
+fn past_true(truths: &[bool], from: usize) -> usize
+    requires { from ≤ length truths.now }
+    ensures order { from ≤ result }
+    ensures within { result ≤ length truths.now }
+    ensures truths { AreTrue truths.now from result }
+    ensures end { result < length truths.now → slice_index_or truths.now result false ≡ false }
+{
+    let mut at = past_blocks(truths, from);
+    while at < truths.len() && truths[at] {
+        at += 1;
+    }
+    at
 }
 
 impl Scan<'_> {
@@ -32,7 +72,7 @@ impl Scan<'_> {
     ghost use Rattle.vortex_table_chunk.specs.declared.chunk.Chunk.{Chunk};
     ghost use Rattle.vortex_table_core.specs.Group.{IsGroup, chunks_of};
     ghost use Rattle.vortex_table_core.specs.Plan.{IsPlan, table_in, question_in, answer_by, stretch_of, falsified_in};
-    ghost use Rattle.vortex_table_core.specs.Progress.{answer_to, outcome_to, with_chunks, with_group, is_group_skipped};
+    ghost use Rattle.vortex_table_core.specs.Progress.{answer_to, no_answer, outcome_to, with_chunks, with_skipped, with_group, is_group_skipped, IsCounted};
     ghost use Rattle.vortex_table_chunk.specs.Formed.{is_formed};
 
     // A group of one chunk isn't looked at, since its chunk is.
@@ -88,6 +128,35 @@ impl Scan<'_> {
         proved_zones(alloc, &self.falsifier, &stretch)
     }
 
+    // The number of proofs that are evaluated of so many chunks that are skipped.
+    fn proofs_at_skipped(&self, count: usize) -> u64
+        ensures { result ≡ count * one_if (is_some self.now.prepared.now.proofs.falsifier) }
+    {
+        if self.prepared.proofs.falsifier.is_some() {
+            count as u64
+        } else {
+            0
+        }
+    }
+
+    // Adds so many neighbouring chunks that are skipped, the first of which has the number `first`.
+    fn add_skipped(
+        &self,
+        first: usize,
+        count: usize,
+        answer: &mut ScanSelection,
+    ) -> Result<(), AllocError>
+        requires plan { IsPlan self.now }
+        requires fits { first + count < 2 ^ 64 }
+        ensures found { OnOk result (answer_by self.now answer.new
+            ≡ with_skipped (question_in self.now) first count (answer_by self.now answer.old)) }
+        ensures rows { answer.new.selections ≡ answer.old.selections }
+    {
+        push_numbers(first, count, &mut answer.skipped)?;
+        answer.proofs = answer.proofs.saturating_add(self.proofs_at_skipped(count));
+        Ok(())
+    }
+
     // `first` is the number of the first of the chunks, and `falsified` tells of each whether its
     // statistics make the falsifier true.
     fn add_chunks(
@@ -103,6 +172,7 @@ impl Scan<'_> {
             (is_formed (bound_length (table_in self.now)) (table_in self.now).kind) chunks.now) }
         requires falsified { falsified.now ≡ falsified_in self.now chunks.now }
         requires fits { first + length chunks.now < 2 ^ 64 }
+        requires counted { IsCounted (answer_by self.now answer.old) }
         requires typed { AreOfType (table_in self.now).kind answer.old.selections.items }
         ensures found { OnOk result (answer_by self.now answer.new
             ≡ with_chunks (question_in self.now) (outcome_to (question_in self.now)) first
@@ -110,8 +180,16 @@ impl Scan<'_> {
         ensures typed { OnOk result
             (AreOfType (table_in self.now).kind answer.new.selections.items) }
     {
-        for (offset, chunk) in chunks.iter().enumerate() {
-            self.add_chunk(alloc, first + offset, chunk, falsified[offset], answer)?;
+        let mut offset = 0;
+        while offset < chunks.len() {
+            if falsified[offset] {
+                let end = past_true(falsified, offset);
+                self.add_skipped(first + offset, end - offset, answer)?;
+                offset = end;
+            } else {
+                self.add_chunk(alloc, first + offset, &chunks[offset], false, answer)?;
+                offset += 1;
+            }
         }
         Ok(())
     }
@@ -126,6 +204,7 @@ impl Scan<'_> {
     ) -> Result<(), AllocError>
         requires plan { IsPlan self.now }
         requires within { first + count ≤ length self.now.table.now.chunks.items }
+        requires counted { IsCounted (answer_by self.now answer.old) }
         requires typed { AreOfType (table_in self.now).kind answer.old.selections.items }
         ensures found { OnOk result (answer_by self.now answer.new
             ≡ with_chunks (question_in self.now) (outcome_to (question_in self.now)) first
@@ -154,7 +233,7 @@ impl Scan<'_> {
             ≤ length self.now.table.now.chunks.items }
         requires group { IsGroup (table_in self.now).kind (bound_length (table_in self.now))
             group.now (chunks_of self.now.table.now.chunks.items group.now) }
-        requires counted { saturated answer.old.rows_tested ≡ answer.old.rows_tested }
+        requires counted { IsCounted (answer_by self.now answer.old) }
         requires typed { AreOfType (table_in self.now).kind answer.old.selections.items }
         ensures found { OnOk result (answer_by self.now answer.new
             ≡ with_group (question_in self.now) group.now.first
@@ -171,6 +250,52 @@ impl Scan<'_> {
         }
         self.add_stretch(alloc, group.first, group.chunks, answer)?;
         Ok(())
+    }
+
+    // Adds all groups in order to the answer of none.
+    fn add_groups(&self, alloc: Global, answer: &mut ScanSelection) -> Result<(), AllocError>
+        requires plan { IsPlan self.now }
+        requires none { answer_by self.now answer.old ≡ no_answer (question_in self.now) }
+        requires typed { AreOfType (table_in self.now).kind answer.old.selections.items }
+        ensures found { OnOk result
+            (answer_by self.now answer.new ≡ answer_to (question_in self.now)) }
+        ensures typed { OnOk result
+            (AreOfType (table_in self.now).kind answer.new.selections.items) }
+    {
+        let mut groups = self.table.groups.walk();
+        // The chunks of neighbouring groups of one chunk each, which are added together.
+        let mut first = 0;
+        let mut count = 0;
+        while let Some(group) = groups.next_item() {
+            if group.joined.is_some() {
+                self.add_stretch(alloc, first, count, answer)?;
+                self.add_group(alloc, group, answer)?;
+                first = group.first + group.chunks;
+                count = 0;
+            } else {
+                count += 1;
+            }
+        }
+        self.add_stretch(alloc, first, count, answer)?;
+        Ok(())
+    }
+
+    // As `add_groups`. As many groups as chunks have one chunk each, so that none is looked at.
+    fn add_all(&self, alloc: Global, answer: &mut ScanSelection) -> Result<(), AllocError>
+        requires plan { IsPlan self.now }
+        requires none { answer_by self.now answer.old ≡ no_answer (question_in self.now) }
+        requires typed { AreOfType (table_in self.now).kind answer.old.selections.items }
+        ensures found { OnOk result
+            (answer_by self.now answer.new ≡ answer_to (question_in self.now)) }
+        ensures typed { OnOk result
+            (AreOfType (table_in self.now).kind answer.new.selections.items) }
+    {
+        let chunks = self.table.chunks.len();
+        if self.table.groups.len() == chunks {
+            self.add_stretch(alloc, 0, chunks, answer)?;
+            return Ok(());
+        }
+        self.add_groups(alloc, answer)
     }
 
     /// What the whole scan finds, group by group in order.
@@ -190,21 +315,7 @@ impl Scan<'_> {
             rows_tested: 0,
             proofs: 0,
         };
-        let mut groups = self.table.groups.walk();
-        // The chunks of neighbouring groups of one chunk each, which are added together.
-        let mut first = 0;
-        let mut count = 0;
-        while let Some(group) = groups.next_item() {
-            if group.joined.is_some() {
-                self.add_stretch(alloc, first, count, &mut answer)?;
-                self.add_group(alloc, group, &mut answer)?;
-                first = group.first + group.chunks;
-                count = 0;
-            } else {
-                count += 1;
-            }
-        }
-        self.add_stretch(alloc, first, count, &mut answer)?;
+        self.add_all(alloc, &mut answer)?;
         Ok(answer)
     }
 }

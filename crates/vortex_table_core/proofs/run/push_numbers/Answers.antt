@@ -1,10 +1,12 @@
-use Rattle.std.proofs.Common.{sym, ap, ◌∙◌, ◌+◌, ◌++◌, ◌∷◌, [], append_assoc}
-use Rattle.vortex_table_core.specs.Progress.{numbers_from}
-use Rattle.vortex_table_core.proofs.Groups.{numbers_more}
+use Rattle.std.proofs.Common.{ap, refl, ◌∙◌, ◌+◌, ◌++◌, arith}
+use Rattle.std.proofs.lemmas.Iterator.{YieldsList-from_range}
+use Rattle.std.proofs.lemmas.Iterator.Adapters.{items_from_extend}
+use Rattle.std.proofs.lemmas.Result.{on_ok_weaker}
+use Rattle.vortex_table_core.proofs.Groups.{numbers_ranged}
 use Rattle.vortex_table_core.proofs.run.push_numbers.Goals as goal
 
-pub loop-offset-preserved : goal.loop-offset-preserved
-loop-offset-preserved c =
-    let old = c.args.numbers.now.items in let i = c.args.first in let n = c.loop-offset.offset in
-    c.in_ok-push.ensures.items ∙ ap (λ ns. ns ++ (i + n) ∷ []) c.loop-offset.invariant ∙ append_assoc old (numbers_from i n) ((i + n) ∷ [])
-    ∙ ap (λ ns. old ++ ns) (sym (numbers_more i n))
+pub returns : goal.returns
+returns c =
+    let i = c.args.first in let n = c.args.count in
+    on_ok_weaker c.extend.result (λ held. held.0 ∙ ap (λ ns. c.args.numbers.now.items ++ ns) (numbers_ranged i n))
+    (items_from_extend c.extend.result c.extend.ensures.ran (YieldsList-from_range i (i + n) n refl (omega arith)))

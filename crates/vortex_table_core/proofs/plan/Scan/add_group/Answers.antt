@@ -7,6 +7,7 @@ use Rattle.vortex_table_chunk.proofs.ProvenAlike.{is_there}
 use Rattle.vortex_table_core.specs.Group.{chunks_of}
 use Rattle.vortex_table_core.specs.Plan.{table_in, question_in, answer_by}
 use Rattle.vortex_table_core.specs.Progress.{group_proofs}
+use Rattle.vortex_table_core.proofs.Progress.{saturated_once}
 use Rattle.vortex_table_chunk.specs.Formed.{is_formed}
 use Rattle.vortex_table_core.proofs.Added.{stopped}
 use Rattle.vortex_table_core.proofs.Groups.{formed_in, group_skipped, group_entered}
@@ -25,7 +26,7 @@ returns-then-skipped-clause-found c =
     let tried : one_if (is_some plan.prepared.now.proofs.falsifier) * one_if (is_some g.joined) ≡ group_proofs (question_in plan) (is_many (map chunk_rows own)) =
     (λ i. one_if (is_there _ _ _ c.requires.plan.prepared.falsifier i) * one_if ((as_there (λ v. v.items) g.joined ∙ many_if plan c.requires.plan g own formed c.requires.group _ c.requires.group.statistics) i)) in
     group_skipped plan c.requires.plan g own formed c.requires.group (answer_by plan old) _ (sym (c.is_skipped-skipped.ensures own formed c.requires.group) ∙ c.if-skipped.true)
-    c.requires.counted refl refl c.in_ok-push_numbers.ensures refl refl
+    c.requires.counted.tested refl refl c.in_ok-push_numbers.ensures refl refl
     (c.saturating_add-answer.ensures ∙ stopped (old.proofs + c.proofs_at_group.result) ∙ ap (λ m. saturated (old.proofs + m)) (c.proofs_at_group.ensures ∙ tried))
 
 pub returns-clause-found : goal.returns-clause-found
@@ -55,3 +56,11 @@ returns-clause-found c =
       proofs = proofs i;
     })
     c.in_ok-add_stretch.ensures.found
+
+pub add_stretch-requires-clause-counted : goal.add_stretch-requires-clause-counted
+add_stretch-requires-clause-counted c =
+    let now = c.saturating_add-answer.ensures ∙ stopped (c.args.answer.now.proofs + c.proofs_at_group.result) in
+    record {
+      tested = c.requires.counted.tested;
+      proofs = ap saturated now ∙ saturated_once (c.args.answer.now.proofs + c.proofs_at_group.result) ∙ sym now;
+    }

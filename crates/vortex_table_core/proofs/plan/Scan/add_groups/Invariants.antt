@@ -3,7 +3,7 @@ use Rattle.vortex_table_blocks.specs.Blocks.{left_in}
 use Rattle.vortex_table_select.specs.Selected.{AreOfType}
 use Rattle.vortex_table_core.specs.Plan.{table_in, answer_by}
 use Rattle.vortex_table_core.proofs.Stretches.{Waiting}
-use Rattle.vortex_table_core.proofs.plan.Scan.run.Given as goal
+use Rattle.vortex_table_core.proofs.plan.Scan.add_groups.Given as goal
 
 abbrev pub invariant-loop-group : goal.invariant-loop-group
 invariant-loop-group l = record {
