@@ -1,18 +1,21 @@
 //! A shared list of bits, cut with no copy.
-ghost use Rattle.std.specs.Prelude.{◌≡◌, ◌<◌, ◌≤◌, ◌↔◌, ◌*◌, ◌&&◌, ◌||◌, ℕ, [], true, false, not, length, map, count_by, replicate, slice_index_or, slice_range, IsTrue, IfOk, All};
+ghost use Rattle.std.specs.Prelude.{◌≡◌, ◌<◌, ◌≤◌, ◌↔◌, ◌+◌, ◌*◌, ◌^◌, pos, ◌&&◌, ◌||◌, ℕ, [], true, false, not, length, map, count_by, replicate, slice_index_or, slice_range, IsTrue, IfOk, All};
 ghost use Rattle.std.specs.List.{zip};
 ghost use Rattle.vortex_arrays_buffer.specs.Bits.{bits_of, bits_at, positions_of};
+ghost use Rattle.vortex_arrays_buffer.specs.Places.{bit_at_number};
 
 use crate::bit::{bit, set_bit};
-use crate::bitwise::{both, either, moved, opposite};
+use crate::bitwise::{both, either, moved};
 use crate::buffer::Buffer;
 use crate::collect::collect_bytes;
-use crate::count::count_true;
-use crate::places::places_of;
+use crate::count::{count_bits, count_bytes};
+use crate::places::place_all;
 use crate::unpack::unpack;
+use crate::within::is_within;
 use std::alloc::{AllocError, Global};
 use std::marker::Model;
 use std::ops::Range;
+use vortex_dtype_native::native::NativePType;
 
 /// Part of a shared list of bits, packed eight to a byte, as Vortex's `BitBuffer`. A clone and a
 /// part share the bits.
@@ -145,16 +148,27 @@ impl BitBuffer {
         ensures { result ≡ count_by (λ b. b) self.now }
     {
         let bytes = self.bytes.as_slice();
-        count_true(bytes, self.start, self.start + self.len)
+        let end = self.start + self.len;
+        let first = self.start.div_ceil(8);
+        let last = end / 8;
+        if last < first {
+            return count_bits(bytes, self.start, end);
+        }
+        let before = count_bits(bytes, self.start, 8 * first);
+        let inside = count_bytes(bytes, first, last);
+        let behind = count_bits(bytes, 8 * last, end);
+        before + inside + behind
     }
 
     /// The places of the true bits, ascending, as Vortex's `BitBuffer::set_indices`.
-    #[tactic(auto, using(crate::proofs::BitLemmas::bits))]
+    #[tactic(auto, using(crate::proofs::BitLemmas::bits, crate::proofs::Placed::all_lent))]
     pub fn set_indices(&self, alloc: Global) -> Result<Vec<usize>, AllocError>
         ensures { IfOk result (λ places. places.items ≡ positions_of self.now) }
     {
         let bytes = self.bytes.as_slice();
-        places_of(alloc, bytes, self.start, self.start + self.len)
+        let mut places = vec![in alloc; 0; self.true_count()]?;
+        place_all(&mut places, bytes, self.start, self.start + self.len);
+        Ok(places)
     }
 
     /// Bytes of which the first bits are these. They are shared where these begin a byte.
@@ -175,7 +189,7 @@ impl BitBuffer {
         ensures { IfOk result (λ b. b ≡ map not self.now) }
     {
         let mine = self.packed(alloc)?;
-        let bytes = opposite(alloc, mine.as_slice())?;
+        let bytes = mine.as_slice().iter().map(|x| *x ^ 255).collect(alloc)?;
         BitBuffer::of_bytes(bytes, self.len())
     }
 
@@ -185,6 +199,34 @@ impl BitBuffer {
         ensures { IfOk result (λ b. b ≡ map (λ i. slice_index_or self.now i false) places.now) }
     {
         BitBuffer::collect_bool(alloc, places.len(), |i| self.value(places[i]))
+    }
+
+    /// The bits at the numbers, and false at each number that is no place.
+    pub(crate) fn at_numbers<T: NativePType>(
+        &self,
+        alloc: Global,
+        numbers: &[T],
+    ) -> Result<BitBuffer, AllocError>
+        ensures { IfOk result
+            (λ b. b ≡ map (bit_at_number self.now) (map T.integer numbers.now)) }
+    {
+        let bytes = self.bytes.as_slice();
+        let start = self.start;
+        let len = self.len;
+        BitBuffer::collect_bool(
+            alloc,
+            numbers.len(),
+            |i| -> bool
+                requires number { i < length numbers.now }
+                requires within { start + len ≤ 8 * length bytes.now }
+                requires small { start + len < 2 ^ 64 }
+                ensures { result ≡ bit_at_number (bits_of bytes.entry.now start len)
+                    (slice_index_or (map T.integer numbers.entry.now) i (pos 0)) }
+            {
+                let number = numbers[i].get();
+                is_within(number, len) && bit(bytes, start + number as usize)
+            },
+        )
     }
 
     /// At each place, whether both have a true bit.

@@ -1,5 +1,5 @@
-//! Bits of two lists met, and bits turned around, a byte at once.
-ghost use Rattle.std.specs.Prelude.{◌≡◌, ◌<◌, ◌≤◌, ◌+◌, ◌*◌, ◌^◌, ◌==◌, ℕ, length, map, bit_and, bit_or, bit_xor, slice_index_or, IfOk};
+//! Bits of two lists met, and bits moved, a byte at once.
+ghost use Rattle.std.specs.Prelude.{◌≡◌, ◌<◌, ◌≤◌, ◌+◌, ◌*◌, ◌^◌, ◌==◌, ℕ, length, map, bit_and, bit_or, IfOk};
 ghost use Rattle.std.specs.Int.{bit_at};
 ghost use Rattle.std.specs.List.{zip};
 ghost use Rattle.vortex_arrays_buffer.specs.Bits.{bit_of, bits_of};
@@ -24,13 +24,6 @@ pub(crate) fn either(alloc: Global, xs: &[u8], ys: &[u8]) -> Result<Vec<u8>, All
         .zip(ys.iter())
         .map(|(x, y)| *x | *y)
         .collect(alloc)
-}
-
-/// The bits that the byte hasn't, for each byte.
-pub(crate) fn opposite(alloc: Global, xs: &[u8]) -> Result<Vec<u8>, AllocError>
-    ensures { IfOk result (λ bytes. bytes.items ≡ map (λ x. bit_xor x 255) xs.now) }
-{
-    xs.iter().map(|x| *x ^ 255).collect(alloc)
 }
 
 /// Bytes of which so many bits are those from a place on.
@@ -64,15 +57,11 @@ fn eight_bits(bytes: &[u8], k: usize, by: usize) -> u8
     requires few { by < 8 }
     ensures { (j : ℕ) → j < 8 → (bit_at result j == 1) ≡ bit_of bytes.now (8 * k + by + j) }
 {
-    let low = byte_at(bytes, k) as u16;
-    let high = byte_at(bytes, k + 1) as u16;
+    let low = bytes[k] as u16;
+    let high = if k + 1 < bytes.len() {
+        bytes[k + 1] as u16
+    } else {
+        0
+    };
     (((256 * high + low) >> by) % 256) as u8
-}
-
-/// The byte at a place, 0 behind the last.
-#[inline(always)]
-fn byte_at(bytes: &[u8], k: usize) -> u8
-    ensures { result ≡ slice_index_or bytes.now k 0 }
-{
-    if k < bytes.len() { bytes[k] } else { 0 }
 }

@@ -4,26 +4,9 @@ ghost use Rattle.vortex_arrays_buffer.specs.Bits.{bits_of};
 
 use crate::bit::bit;
 
-/// How many bits of the bytes from a place to another are true.
-pub(crate) fn count_true(bytes: &[u8], start: usize, end: usize) -> usize
-    requires order { start ≤ end }
-    requires within { end ≤ 8 * length bytes.now }
-    ensures { result ≡ count_by (λ b. b) (bits_of bytes.now start (end - start)) }
-{
-    let first = start.div_ceil(8);
-    let last = end / 8;
-    if last < first {
-        return count_bits(bytes, start, end);
-    }
-    let before = count_bits(bytes, start, 8 * first);
-    let inside = count_bytes(bytes, first, last);
-    let behind = count_bits(bytes, 8 * last, end);
-    before + inside + behind
-}
-
 /// How many bits from a place to another are true, read one after the other.
 #[tactic(auto, using(crate::proofs::Counts::counted_bits))]
-fn count_bits(bytes: &[u8], start: usize, end: usize) -> usize
+pub(crate) fn count_bits(bytes: &[u8], start: usize, end: usize) -> usize
     requires order { start ≤ end }
     requires within { end ≤ 8 * length bytes.now }
     ensures count { result ≡ count_by (λ b. b) (bits_of bytes.now start (end - start)) }
@@ -39,7 +22,7 @@ fn count_bits(bytes: &[u8], start: usize, end: usize) -> usize
 }
 
 /// How many bits of the bytes from one to another are true.
-fn count_bytes(bytes: &[u8], first: usize, last: usize) -> usize
+pub(crate) fn count_bytes(bytes: &[u8], first: usize, last: usize) -> usize
     requires order { first ≤ last }
     requires within { last ≤ length bytes.now }
     requires small { 8 * last < 2 ^ 64 }

@@ -1,33 +1,12 @@
 //! The places of the true bits, a byte at once where one has all eight.
-ghost use Rattle.std.specs.Prelude.{◌≡◌, ◌<◌, ◌≤◌, ◌+◌, ◌-◌, ◌*◌, ◌^◌, length, count_by, IfOk};
+ghost use Rattle.std.specs.Prelude.{◌≡◌, ◌<◌, ◌≤◌, ◌+◌, ◌-◌, ◌*◌, ◌^◌, length, count_by};
 ghost use Rattle.vortex_arrays_buffer.specs.Bits.{bits_of, positions_of};
 ghost use Rattle.vortex_arrays_buffer.specs.Places.{AddsPlaces};
 
 use crate::bit::bit;
-use crate::count::count_true;
-use std::alloc::{AllocError, Global};
-
-/// The places of the true bits of the bytes from a place to another, the first of which is at 0.
-#[tactic(auto, using(crate::proofs::Placed::all_lent))]
-pub(crate) fn places_of(
-    alloc: Global,
-    bytes: &[u8],
-    start: usize,
-    end: usize,
-) -> Result<Vec<usize>, AllocError>
-    requires order { start ≤ end }
-    requires within { end ≤ 8 * length bytes.now }
-    ensures { IfOk result
-        (λ places. places.items ≡ positions_of (bits_of bytes.now start (end - start))) }
-{
-    let count = count_true(bytes, start, end);
-    let mut places = vec![in alloc; 0; count]?;
-    place_all(&mut places, bytes, start, end);
-    Ok(places)
-}
 
 /// Writes the places into a list that has just the room for them.
-fn place_all(places: &mut [usize], bytes: &[u8], start: usize, end: usize)
+pub(crate) fn place_all(places: &mut [usize], bytes: &[u8], start: usize, end: usize)
     requires order { start ≤ end }
     requires within { end ≤ 8 * length bytes.now }
     requires room { length places.old

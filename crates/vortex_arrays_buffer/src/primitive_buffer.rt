@@ -4,13 +4,14 @@ ghost use Rattle.vortex_model.specs.Valid.{InRange};
 ghost use Rattle.vortex_dtype_ptype.specs.Numbers.{integral};
 ghost use Rattle.vortex_dtype_ptype.specs.View.{number_kind_of};
 ghost use Rattle.vortex_scalar_value.specs.Numbers.{kind_of_number, integer_of};
-ghost use Rattle.vortex_arrays_buffer.specs.Places.{IsPlace};
+ghost use Rattle.vortex_arrays_buffer.specs.Places.{IsPlace, ArePlacesWhere, bit_at_number};
 ghost use Rattle.vortex_arrays_buffer.specs.PrimitiveBuffers.{kind_of_numbers, integers_of};
 
+use crate::bit_buffer::BitBuffer;
 use crate::buffer::Buffer;
 use crate::element::Element;
 use crate::in_range::{all_i8, all_i16, all_i32, all_i64, all_u8, all_u16, all_u32, all_u64};
-use crate::within::are_within;
+use crate::within::{are_within, are_within_where};
 use std::alloc::{AllocError, Global};
 use std::ops::Range;
 use vortex_dtype_ptype::ptype::PType;
@@ -146,6 +147,39 @@ impl PrimitiveBuffer {
             PrimitiveBuffer::I16(items) => are_within(items.as_slice(), count),
             PrimitiveBuffer::I32(items) => are_within(items.as_slice(), count),
             PrimitiveBuffer::I64(items) => are_within(items.as_slice(), count),
+        }
+    }
+
+    /// Whether each number whose bit is true is a place among so many.
+    pub fn are_within_where(&self, bits: &BitBuffer, count: usize) -> bool
+        requires { length bits.now ≡ length (integers_of self.now) }
+        ensures { IsTrue result ↔ ArePlacesWhere bits.now count (integers_of self.now) }
+    {
+        match self {
+            PrimitiveBuffer::U8(items) => are_within_where(items.as_slice(), bits, count),
+            PrimitiveBuffer::U16(items) => are_within_where(items.as_slice(), bits, count),
+            PrimitiveBuffer::U32(items) => are_within_where(items.as_slice(), bits, count),
+            PrimitiveBuffer::U64(items) => are_within_where(items.as_slice(), bits, count),
+            PrimitiveBuffer::I8(items) => are_within_where(items.as_slice(), bits, count),
+            PrimitiveBuffer::I16(items) => are_within_where(items.as_slice(), bits, count),
+            PrimitiveBuffer::I32(items) => are_within_where(items.as_slice(), bits, count),
+            PrimitiveBuffer::I64(items) => are_within_where(items.as_slice(), bits, count),
+        }
+    }
+
+    /// The bits at the numbers, and false at each number that is no place among the bits.
+    pub fn bits_at(&self, alloc: Global, bits: &BitBuffer) -> Result<BitBuffer, AllocError>
+        ensures { IfOk result (λ b. b ≡ map (bit_at_number bits.now) (integers_of self.now)) }
+    {
+        match self {
+            PrimitiveBuffer::U8(items) => bits.at_numbers(alloc, items.as_slice()),
+            PrimitiveBuffer::U16(items) => bits.at_numbers(alloc, items.as_slice()),
+            PrimitiveBuffer::U32(items) => bits.at_numbers(alloc, items.as_slice()),
+            PrimitiveBuffer::U64(items) => bits.at_numbers(alloc, items.as_slice()),
+            PrimitiveBuffer::I8(items) => bits.at_numbers(alloc, items.as_slice()),
+            PrimitiveBuffer::I16(items) => bits.at_numbers(alloc, items.as_slice()),
+            PrimitiveBuffer::I32(items) => bits.at_numbers(alloc, items.as_slice()),
+            PrimitiveBuffer::I64(items) => bits.at_numbers(alloc, items.as_slice()),
         }
     }
 

@@ -1,5 +1,5 @@
 -- What is picked from an array's parts.
-use Rattle.std.proofs.Common.{◌≡◌, ◌<◌, ◌≤◌, ◌+◌, ◌-◌, ◌*◌, ℕ, Bool, true, false, cond, List, [], ℤ, pos, negsuc, length, map, get_or, slice_range, Option, Some, None, refl, sym, ap, subst, ◌∙◌, arith}
+use Rattle.std.proofs.Common.{◌≡◌, ◌↔◌, IsTrue, ◌<◌, ◌≤◌, ◌+◌, ◌-◌, ◌*◌, ℕ, Bool, true, false, cond, List, [], ℤ, pos, negsuc, length, map, get_or, slice_range, Option, Some, None, refl, sym, ap, subst, ◌∙◌, arith}
 use Rattle.std.specs.List.{All, zip}
 use Rattle.std.specs.Prelude.{◌&&◌}
 use Rattle.std.proofs.lemmas.List.{length-map, get_or-map}
@@ -10,7 +10,7 @@ use Rattle.vortex_model.specs.Content.{Content, null, integer}
 use Rattle.vortex_model.specs.Valid.{InRange, IsContent}
 use Rattle.vortex_arrays_model.specs.Layout.{Strings, Layout, bools, numbers, strings, fixed_lists, Valid, required, all_valid, all_null, by_array, len_of, array_type_of, nullability_by, is_valid, content_at, IsInteger, IsCode, IsSound, HasLength}
 use Rattle.vortex_arrays_model.specs.Parts.{AreWithin}
-use Rattle.vortex_arrays_buffer.specs.Places.{IsPlace}
+use Rattle.vortex_arrays_buffer.specs.Places.{IsPlace, ArePlacesWhere, bit_at_number}
 use Rattle.vortex_arrays_model.specs.Picks.{Picks, PicksValid, PicksSomeValid, position_of, is_valid_some}
 use Rattle.vortex_arrays_model.specs.Column.{IsValidInBoth}
 use Rattle.vortex_arrays_model.proofs.ValidRows.{rows_valid}
@@ -185,3 +185,50 @@ code_where n z false h = tt
 -- numbers that are places, those of null rows too
 pub numbers_within : (k : IntKind) (xs : List ℤ) (v : Valid) (n : ℕ) → All (IsPlace n) xs → AreWithin (numbers k xs v) n
 numbers_within k xs v n h i l = code_where n (get_or xs i (pos 0)) (is_valid v i) (h i (pos 0) l)
+
+place_of_code : (n : ℕ) (z : ℤ) → IsCode n (integer z) → IsPlace n z
+place_of_code n (pos i) h = h
+place_of_code n (negsuc i) h = absurd h
+
+place_where : (n : ℕ) (z : ℤ) (b : Bool) → IsCode n (cond b (integer z) null) → IsTrue b → IsPlace n z
+place_where n z true h t = place_of_code n z h
+place_where n z false h t = absurd (cc (t))
+
+code_if : (n : ℕ) (z : ℤ) (b : Bool) → (IsTrue b → IsPlace n z) → IsCode n (cond b (integer z) null)
+code_if n z true h = code_of_place n z (h refl)
+code_if n z false h = tt
+
+-- numbers that are places where their bit says that they are not null
+pub within_where : (a : Layout) (k : IntKind) (zs : List ℤ) (v : Valid) (bits : List Bool) (n : ℕ) (b : Bool) → a ≡ numbers k zs v → v ≡ by_array (bools bits required) → (IsTrue b ↔ ArePlacesWhere bits n zs) → IsTrue b ↔ AreWithin a n
+within_where a k zs v bits n b e w h =
+    let here : IsTrue b ↔ AreWithin (numbers k zs (by_array (bools bits required))) n = (
+      λ t i l. code_if n (get_or zs i (pos 0)) (get_or bits i false) (h.0 t i l),
+      λ all. h.1 (λ i l. place_where n (get_or zs i (pos 0)) (get_or bits i false) (all i l)),
+    ) in
+    subst (λ x. IsTrue b ↔ AreWithin x n) (sym (e ∙ ap (numbers k zs) w)) here
+
+and_true : (b : Bool) → (b && true) ≡ b
+and_true true = refl
+and_true false = refl
+
+and_false : (b : Bool) → (b && false) ≡ false
+and_false true = refl
+and_false false = refl
+
+told_where : (bits : List Bool) (n : ℕ) (z : ℤ) (b : Bool) → IsCode n (cond b (integer z) null) → (bit_at_number bits z && b) ≡ is_valid_some (by_array (bools bits required)) (position_of (cond b (integer z) null))
+told_where bits n (pos i) true h = and_true (get_or bits i false)
+told_where bits n (negsuc i) true h = absurd h
+told_where bits n z false h = and_false (bit_at_number bits z)
+
+-- the rows that are not null at positions that are not null
+pub taken_by_bits : (v : Valid) (c r : Layout) (k : IntKind) (zs : List ℤ) (w u : Valid) (bits chosen : List Bool) (n m : ℕ) → v ≡ by_array (bools bits required) → c ≡ numbers k zs w → r ≡ bools chosen required → chosen ≡ map (bit_at_number bits) zs → n ≡ length zs → AreWithin c m → IsValidInBoth (by_array r) w u n → PicksSomeValid v u (nullability_of (array_type_of c)) (len_of c) (λ i. position_of (content_at c i))
+taken_by_bits v c r k zs w u bits chosen n m is e made read many within both =
+    let codes : AreWithin (numbers k zs w) m = subst (λ x. AreWithin x m) e within in
+    let rows : IsValidInBoth (by_array (bools (map (bit_at_number bits) zs) required)) w u (length zs) = subst (λ x. IsValidInBoth (by_array (bools (map (bit_at_number bits) zs) required)) w u x) many (subst (λ x. IsValidInBoth (by_array x) w u n) (made ∙ ap (λ x. bools x required) read) both) in
+    let same : PicksSomeValid (by_array (bools bits required)) u (nullability_by w) (length zs) (λ i. position_of (content_at (numbers k zs w) i)) = record {
+      fits = rows.fits;
+      nullability = rows.nullability ∙ sym (either_second (nullability_by w));
+      bits = λ i l. rows.bits i l ∙ ap (λ x. x && is_valid w i) (get_or-map (bit_at_number bits) zs i (pos 0) false l) ∙ told_where bits m (get_or zs i (pos 0)) (is_valid w i) (codes i l);
+    } in
+    subst (λ x. PicksSomeValid v u (nullability_of (array_type_of x)) (len_of x) (λ i. position_of (content_at x i))) (sym e)
+    (subst (λ y. PicksSomeValid y u (nullability_by w) (length zs) (λ i. position_of (content_at (numbers k zs w) i))) (sym is) same)

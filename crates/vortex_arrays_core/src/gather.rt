@@ -192,7 +192,6 @@ fn gather_fields(
     Ok(parts)
 }
 
-/// The positions as codes of a dictionary.
 fn position_codes(alloc: Global, positions: &[usize]) -> Result<ArrayRef, AllocError>
     ensures { IfOk result (λ codes. codes ≡ numbers u64 (map pos positions.now) required) }
 {

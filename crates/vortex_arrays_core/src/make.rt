@@ -184,7 +184,6 @@ fn dictionary_dtype(codes: &DType, values: &DType) -> Result<DType, AllocError>
     Ok(dtype)
 }
 
-/// The type of records of these fields.
 #[tactic(auto, using(crate::proofs::Constructors::of_records))]
 fn struct_dtype(
     alloc: Global,
@@ -202,7 +201,6 @@ fn struct_dtype(
     Ok(DType::Struct(all, nullability))
 }
 
-/// The type of each field.
 fn field_dtypes(alloc: Global, fields: &[ArrayRef]) -> Result<Vec<DType>, AllocError>
     ensures kinds { IfOk result (λ dtypes. map type_of dtypes.items
         ≡ map array_type_of fields.now) }

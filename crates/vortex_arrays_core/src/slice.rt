@@ -135,10 +135,7 @@ impl Validity {
             Validity::NonNullable => Ok(Validity::NonNullable),
             Validity::AllValid => Ok(Validity::AllValid),
             Validity::AllInvalid => Ok(Validity::AllInvalid),
-            Validity::Array(bits) => {
-                let bits = bits.rows_between(alloc, start, end)?;
-                Ok(Validity::Array(bits))
-            }
+            Validity::Array(bits) => Ok(Validity::Array(bits.rows_between(alloc, start, end)?)),
         }
     }
 }

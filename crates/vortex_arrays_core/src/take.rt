@@ -1,9 +1,9 @@
 //! The rows at positions.
 ghost use Rattle.std.specs.Prelude.{◌≡◌, ◌↔◌, IsTrue, IfOk, IfErr};
 ghost use Rattle.vortex_model.specs.LogicalType.{nullable, nullability_of, either_nullable};
-ghost use Rattle.vortex_arrays_model.specs.Layout.{len_of, array_type_of, nullability_by, content_at, IsInteger, IsCode, HasLength};
-ghost use Rattle.vortex_arrays_model.specs.Picks.{PicksSome, PicksSomeValid, position_of, is_valid_some};
-ghost use Rattle.vortex_arrays_core.specs.LayoutOf.{valid_of, integer_content};
+ghost use Rattle.vortex_arrays_model.specs.Layout.{len_of, array_type_of, nullability_by, content_at, IsInteger, HasLength};
+ghost use Rattle.vortex_arrays_model.specs.Picks.{PicksSome, PicksSomeValid, position_of};
+ghost use Rattle.vortex_arrays_core.specs.LayoutOf.{valid_of};
 ghost use Rattle.vortex_arrays_core.specs.Picking.{IsUnsigned, IsTakeFault};
 ghost use Rattle.vortex_arrays_model.specs.Parts.{AreWithin};
 
@@ -29,9 +29,12 @@ impl ArrayRef {
         requires { IsInteger (array_type_of self.now) }
         ensures { IsTrue result ↔ AreWithin self.now count }
     {
-        if let ArrayLayout::Primitive(items, _) = &self.data.layout {
+        if let ArrayLayout::Primitive(items, validity) = &self.data.layout {
             if items.are_within(count) {
                 return true;
+            }
+            if let Some(bits) = validity.packed() {
+                return items.are_within_where(bits, count);
             }
         }
         for i in 0..self.len() {
@@ -137,23 +140,19 @@ impl Validity {
             (nullability_of (array_type_of indices.now)) (len_of indices.now)
             (λ i. position_of (content_at indices.now i))) }
     {
-        let bits = BitBuffer::collect_bool(alloc, indices.len(), |i| {
-            self.is_valid_at(indices.integer(i), len)
+        if let (Some(rows), ArrayLayout::Primitive(places, nulls)) = (
+            self.packed(),
+            &indices.data.layout,
+        ) {
+            let rows = places.bits_at(alloc, rows)?;
+            let rows = ArrayRef::of_bools(alloc, rows, Validity::NonNullable)?;
+            return Validity::Array(rows).and(alloc, nulls, places.len());
+        }
+        let bits = BitBuffer::collect_bool(alloc, indices.len(), |i| match indices.integer(i) {
+            Some(place) => self.is_valid(place as usize, len),
+            None => false,
         })?;
         let rows = ArrayRef::of_bools(alloc, bits, Validity::NonNullable)?;
         Ok(Validity::Array(rows))
-    }
-
-    /// Whether the row at the position is not null, for an array of so many rows; at none it is.
-    fn is_valid_at(&self, position: Option<i128>, len: usize) -> bool
-        requires within { IsCode len (integer_content position) }
-        requires fits { HasLength (valid_of self.now) len }
-        ensures { result ≡ is_valid_some (valid_of self.now)
-            (position_of (integer_content position)) }
-    {
-        match position {
-            Some(place) => self.is_valid(place as usize, len),
-            None => false,
-        }
     }
 }

@@ -1,7 +1,7 @@
 //! Which rows are null, validities met, and whether a validity fits an array.
-ghost use Rattle.std.specs.Prelude.{◌≡◌, IfOk, IfErr};
+ghost use Rattle.std.specs.Prelude.{◌≡◌, IfOk, IfErr, IfSome};
 ghost use Rattle.vortex_dtype_ptype.specs.View.{nullability_of_flag};
-ghost use Rattle.vortex_arrays_model.specs.Layout.{nullability_by, by_array, len_of, HasLength};
+ghost use Rattle.vortex_arrays_model.specs.Layout.{nullability_by, bools, required, by_array, len_of, HasLength};
 ghost use Rattle.vortex_arrays_model.specs.Column.{IsValidInBoth};
 ghost use Rattle.vortex_arrays_core.specs.LayoutOf.{valid_of};
 ghost use Rattle.vortex_arrays_core.specs.Faults.{IsValidityFault};
@@ -19,9 +19,7 @@ impl Validity {
     {
         match self {
             Validity::NonNullable => Nullability::NonNullable,
-            Validity::AllValid => Nullability::Nullable,
-            Validity::AllInvalid => Nullability::Nullable,
-            Validity::Array(_) => Nullability::Nullable,
+            _ => Nullability::Nullable,
         }
     }
 
@@ -33,20 +31,29 @@ impl Validity {
         ensures fits { IfOk result (λ _. HasLength (valid_of self.now) len) }
         ensures refused { IfErr result (λ e. IsValidityFault e (valid_of self.now) len) }
     {
-        match self {
-            Validity::NonNullable => Ok(()),
-            Validity::AllValid => Ok(()),
-            Validity::AllInvalid => Ok(()),
-            Validity::Array(bits) => {
-                bits.is_sound();
-                if !bits.is_non_nullable_bool() {
-                    return Err(ArrayError::WrongType);
-                }
-                if bits.len() != len {
-                    return Err(ArrayError::LengthMismatch);
-                }
-                Ok(())
-            }
+        let Validity::Array(bits) = self else {
+            return Ok(());
+        };
+        bits.is_sound();
+        if !bits.is_non_nullable_bool() {
+            return Err(ArrayError::WrongType);
+        }
+        if bits.len() != len {
+            return Err(ArrayError::LengthMismatch);
+        }
+        Ok(())
+    }
+
+    /// The bits that are true where a row is not null, where they lie packed.
+    pub(crate) fn packed(&self) -> Option<&BitBuffer>
+        ensures { IfSome result (λ bits. valid_of self.now ≡ by_array (bools bits.now required)) }
+    {
+        let Validity::Array(rows) = self else {
+            return None;
+        };
+        match &rows.data.layout {
+            ArrayLayout::Bool(bits, Validity::NonNullable) => Some(bits),
+            _ => None,
         }
     }
 

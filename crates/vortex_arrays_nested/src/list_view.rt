@@ -4,32 +4,12 @@ ghost use Rattle.vortex_model.specs.LogicalType.{nullability_of};
 ghost use Rattle.vortex_dtype_ptype.specs.View.{nullability_of_flag};
 ghost use Rattle.vortex_dtype_core.specs.View.{type_of};
 ghost use Rattle.vortex_arrays_view.specs.declared.error.ArrayError.TheVariants.{Memory};
-ghost use Rattle.vortex_arrays_model.specs.Layout.{
-  list_views,
-  len_of,
-  array_type_of,
-  content_at,
-  number_in,
-  rows_of,
-  AreEndToEnd,
-  IsSound,
-};
+ghost use Rattle.vortex_arrays_model.specs.Layout.{list_views, len_of, array_type_of, content_at, number_in, rows_of, AreEndToEnd, IsSound};
 ghost use Rattle.vortex_arrays_model.specs.Picks.{Picks};
 ghost use Rattle.vortex_arrays_model.specs.Trimmed.{AreBounds};
 ghost use Rattle.vortex_arrays_core.specs.LayoutOf.{valid_of};
-ghost use Rattle.vortex_arrays_nested.specs.ListViews.{
-  IsListViews,
-  AreTyped,
-  AreAsMany,
-  LieWithin,
-  IsListViewFault,
-};
-ghost use Rattle.vortex_arrays_nested.specs.Parts.{
-  elements_of,
-  offsets_of,
-  sizes_of,
-  is_flagged,
-};
+ghost use Rattle.vortex_arrays_nested.specs.ListViews.{IsListViews, AreTyped, AreAsMany, LieWithin, IsListViewFault};
+ghost use Rattle.vortex_arrays_nested.specs.Parts.{elements_of, offsets_of, sizes_of, is_flagged};
 ghost use Rattle.vortex_arrays_model.specs.Parts.{valid_in};
 
 use crate::bounds::{element_bounds, total_size};

@@ -110,7 +110,7 @@ pub(crate) fn pair_at<T: Element, S: Element>(
 
 /// The number, and 0 in place of one below it.
 #[tactic(auto, using(crate::proofs::ReachLemmas::held))]
-fn natural_of<T: Element>(item: T) -> usize
+pub(crate) fn natural_of<T: Element>(item: T) -> usize
     ensures { result ≡ natural (T.integer item) }
 {
     let number = item.get();

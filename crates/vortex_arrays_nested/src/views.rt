@@ -1,12 +1,6 @@
 //! Offsets with their sizes.
 ghost use Rattle.std.specs.Prelude.{◌≡◌, ◌<◌, ◌+◌, ◌↔◌, IsTrue};
-ghost use Rattle.vortex_arrays_model.specs.Layout.{
-  len_of,
-  array_type_of,
-  IsOffsets,
-  IsView,
-  AreEndToEnd,
-};
+ghost use Rattle.vortex_arrays_model.specs.Layout.{len_of, array_type_of, IsOffsets, IsView, AreEndToEnd};
 ghost use Rattle.vortex_arrays_core.specs.LayoutOf.{integer_content};
 ghost use Rattle.vortex_arrays_nested.specs.ListViews.{LieWithin};
 

@@ -8,6 +8,7 @@ use vortex_dtype::{DTypeError, PType};
 pub fn run(alloc: Global, checks: &mut Checks<'_>) -> Result<(), DTypeError> {
     items(alloc, checks)?;
     bits(alloc, checks)?;
+    places(alloc, checks)?;
     of_kind(alloc, checks, "u8", [0u8, 7, u8::MAX], PType::U8)?;
     of_kind(alloc, checks, "u16", [0u16, 7, u16::MAX], PType::U16)?;
     of_kind(alloc, checks, "u32", [0u32, 7, u32::MAX], PType::U32)?;
@@ -84,6 +85,26 @@ fn are(checks: &mut Checks<'_>, name: &str, buffer: &BitBuffer, wanted: &[bool])
     for i in 0..wanted.len() {
         checks.holds_at(name, i, buffer.value(i) == wanted[i]);
     }
+}
+
+/// Bits at places that numbers name, and whether those of some numbers are places.
+fn places(alloc: Global, checks: &mut Checks<'_>) -> Result<(), DTypeError> {
+    let mut list = Vec::new(alloc);
+    for place in [2i32, 0, 9, -1, 1] {
+        list.push(place)?;
+    }
+    let numbers = PrimitiveBuffer::from_buffer(Buffer::from_vec(list)?);
+    let bits = BitBuffer::from_bools(alloc, &[true, false, true])?;
+    let found = numbers.bits_at(alloc, &bits)?;
+    are(checks, "bits_at", &found, &[true, true, false, false, false]);
+    let inside = BitBuffer::from_bools(alloc, &[true, true, false, false, true])?;
+    checks.holds("are_within_where", numbers.are_within_where(&inside, 3));
+    checks.holds("are_within_where of fewer", !numbers.are_within_where(&inside, 2));
+    let above = BitBuffer::from_bools(alloc, &[false, false, true, false, false])?;
+    checks.holds("are_within_where of one above", !numbers.are_within_where(&above, 9));
+    let below = BitBuffer::from_bools(alloc, &[false, false, false, true, false])?;
+    checks.holds("are_within_where of one below", !numbers.are_within_where(&below, 9));
+    Ok(())
 }
 
 fn of_kind<T: Element>(
