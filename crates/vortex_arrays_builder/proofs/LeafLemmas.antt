@@ -138,9 +138,8 @@ plain_integers k i n rs v zs same fit e p = subst (λ l. IsPlain (type_of_number
 
 pub ruleset integers = (plain_integers, all_within)
 
--- what is made of one more value
-pub step : {X Y Z : Type 0} (f : Y → Z) (g : X → Y) (xs : List X) (i : ℕ) (x : X) → i < length xs → x ≡ get_or xs i x → map f (map g (take (i + 1) xs)) ≡ map f (map g (take i xs)) ++ f (g x) ∷ []
-step f g xs i x l e =
-    ap (λ ys. map f (map g ys)) (take_more xs i x l ∙ ap (λ y. take i xs ++ y ∷ []) (sym e))
-    ∙ ap (map f) (map-append g (take i xs) (x ∷ []))
-    ∙ map-append f (map g (take i xs)) (g x ∷ [])
+-- what is said of a value stands in its place
+pub said_at : {V R X : Type 0} (f : R → X) (g : V → R) (vs : List V) (i : ℕ) (v : V) (d x : X) → i < length vs → v ≡ get_or vs i v → x ≡ f (g v) → x ≡ get_or (map f (map g vs)) i d
+said_at f g vs i v d x l e s =
+    let m : i < length (map g vs) = omega (arith, l, length-map vs g) in
+    s ∙ ap (λ y. f (g y)) e ∙ sym (ap f (get_or-map g vs i v (g v) l)) ∙ sym (get_or-map f (map g vs) i (g v) d m)

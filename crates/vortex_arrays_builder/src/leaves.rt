@@ -1,5 +1,5 @@
 //! Columns of values that have no values inside.
-ghost use Rattle.std.specs.Prelude.{◌≡◌, true, map, IfOk, IsTrue, All};
+ghost use Rattle.std.specs.Prelude.{◌≡◌, ◌<◌, true, false, length, map, slice_index_or, IfOk, IsTrue, All};
 ghost use Rattle.vortex_model.specs.LogicalType.{nullable, boolean_type, integer_type};
 ghost use Rattle.vortex_model.specs.Valid.{in_range, InRange};
 ghost use Rattle.vortex_dtype_ptype.specs.Numbers.{integral, is_integral, type_of_numbers};
@@ -37,11 +37,7 @@ pub fn nulls_of(
             if are_present(values) {
                 return Ok(Validity::AllValid);
             }
-            let mut bits = Vec::with_capacity(alloc, values.len())?;
-            for value in values {
-                bits.push(is_present(*value))?;
-            }
-            let bits = BitBuffer::from_bools(alloc, bits.as_slice())?;
+            let bits = present_bits(alloc, values)?;
             let array = ArrayRef::of_bools(alloc, bits, Validity::NonNullable)?;
             Ok(Validity::Array(array))
         }
@@ -60,6 +56,20 @@ fn are_present(values: &[Option<&ScalarValue>]) -> bool
         }
     }
     true
+}
+
+// A bit for each row, true where it has a value.
+fn present_bits(alloc: Global, values: &[Option<&ScalarValue>]) -> Result<BitBuffer, AllocError>
+    ensures { IfOk result (λ bits. bits ≡ map (is_there nullable) (map raw_at values.now)) }
+{
+    BitBuffer::collect_bool(alloc, values.len(), |i| is_present_at(values, i))
+}
+
+fn is_present_at(values: &[Option<&ScalarValue>], i: usize) -> bool
+    requires { i < length values.now }
+    ensures { result ≡ slice_index_or (map (is_there nullable) (map raw_at values.now)) i false }
+{
+    is_present(values[i])
 }
 
 /// Whether there is a value.
@@ -83,14 +93,24 @@ pub fn of_booleans(
     ensures { IfOk result (λ array. IsPlain (boolean_type (nullability_of_flag nullability))
         (map raw_at values.now) array) }
 {
-    let mut bits = Vec::with_capacity(alloc, values.len())?;
-    for value in values {
-        bits.push(boolean_or_false(*value))?;
-    }
+    let bits = boolean_bits(alloc, values)?;
     let validity = nulls_of(alloc, nullability, values)?;
-    let bits = BitBuffer::from_bools(alloc, bits.as_slice())?;
     let array = ArrayRef::of_bools(alloc, bits, validity)?;
     Ok(array)
+}
+
+// The truth values, each false where there is none.
+fn boolean_bits(alloc: Global, values: &[Option<&ScalarValue>]) -> Result<BitBuffer, AllocError>
+    ensures { IfOk result (λ bits. bits ≡ map boolean_or_false (map raw_at values.now)) }
+{
+    BitBuffer::collect_bool(alloc, values.len(), |i| boolean_at(values, i))
+}
+
+fn boolean_at(values: &[Option<&ScalarValue>], i: usize) -> bool
+    requires { i < length values.now }
+    ensures { result ≡ slice_index_or (map boolean_or_false (map raw_at values.now)) i false }
+{
+    boolean_or_false(values[i])
 }
 
 /// The truth value, and false where there is none.
@@ -136,12 +156,23 @@ fn numbers_of<T: Element>(
     ensures held { IfOk result
         (λ numbers. All (InRange (kind_of_numbers numbers)) (integers_of numbers)) }
 {
-    let mut items: Vec<T> = Vec::with_capacity(alloc, values.len())?;
-    for value in values {
-        items.push(number_or_zero(*value))?;
-    }
+    let items: Vec<T> = items_of(alloc, values)?;
     let items = Buffer::from_vec(items)?;
     Ok(PrimitiveBuffer::from_buffer(items))
+}
+
+fn items_of<T: NativePType>(
+    alloc: Global,
+    values: &[Option<&ScalarValue>],
+) -> Result<Vec<T>, AllocError>
+    requires { All (λ value. in_range T.kind (whole_or_zero (raw_at value)) ≡ true) values.now }
+    ensures { IfOk result
+        (λ items. map T.integer items.items ≡ map whole_or_zero (map raw_at values.now)) }
+{
+    values
+        .iter()
+        .map(|value| number_or_zero(*value))
+        .collect(alloc)
 }
 
 // The numbers of the values as a buffer of a kind of integers, with zeros where there are none.

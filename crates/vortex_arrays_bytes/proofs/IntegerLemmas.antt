@@ -1,7 +1,9 @@
 -- Integers from bytes that stand end to end.
-use Rattle.std.proofs.Common.{◌≡◌, ◌<◌, ◌≤◌, ◌+◌, ◌*◌, ◌/◌, ℕ, zero, suc, ℤ, pos, Bool, true, false, cond, IsTrue, List, [], ◌∷◌, ◌++◌, length, map, take, drop, get_or, inl, inr, refl, sym, ap, subst, ◌∙◌, arith}
+use Rattle.std.proofs.Common.{◌≡◌, ◌<◌, ◌≤◌, ◌+◌, ◌*◌, ◌/◌, ℕ, zero, suc, ℤ, pos, Bool, true, false, cond, IsTrue, List, [], ◌∷◌, ◌++◌, length, map, take, drop, set, get_or, inl, inr, refl, sym, ap, subst, ◌∙◌, arith}
 use Rattle.std.proofs.lemmas.Bool.{cases_eq}
-use Rattle.std.proofs.lemmas.List.{map-append, get_or_push, get_or_append_left, length_push}
+use Rattle.std.specs.List.{count_by}
+use Rattle.std.proofs.lemmas.List.{map-append, get_or_push, get_or_append_left, length_push, length-set, take_all, take_more_set}
+use Rattle.std.proofs.lemmas.List.Sums.{count_by_more_yes, count_by_more_no}
 use Rattle.std.proofs.lemmas.Nat.{mul-le}
 use Rattle.std.proofs.Math.Nat.{suc-mul, div-eq_of_eq-mul_left}
 use Rattle.vortex_model.specs.LogicalType.{IntKind, u8, u16, u32, u64, i8, i16, i32, i64}
@@ -10,7 +12,7 @@ use Rattle.vortex_dtype_native.specs.NativeBytes.{AreBytesOf}
 use Rattle.vortex_dtype_native.proofs.Encoded.{width_u8, width_u16, width_u32, width_u64, width_i8, width_i16, width_i32, width_i64}
 use Rattle.vortex_arrays_view.specs.declared.error.ArrayError.{ArrayError}
 use Rattle.vortex_arrays_view.specs.declared.error.ArrayError.TheVariants as error
-use Rattle.vortex_arrays_model.specs.Layout.{Layout, numbers, Valid, required, all_valid, all_null, by_array, is_valid, HasLength}
+use Rattle.vortex_arrays_model.specs.Layout.{Layout, bools, numbers, len_of, Valid, required, all_valid, all_null, by_array, is_valid, HasLength}
 use Rattle.vortex_arrays_core.specs.Faults.{IsValidityFault}
 use Rattle.vortex_arrays_bytes.specs.Integers.{valid_before, HoldIntegers, StandInBytes, IsOfBytes, IsTypeFault, IsBytesFault, IsValueBytesFault}
 
@@ -23,6 +25,41 @@ pub one_missing : (v : Valid) (i : ℕ) → is_valid v i ≡ false → valid_bef
 one_missing v i e = ap (valid_before v) (let s : i + 1 ≡ suc i = omega arith in s) ∙ ap (λ b. cond b (suc (valid_before v i)) (valid_before v i)) e
 
 pub ruleset counted = (one_there, one_missing)
+
+-- each row is there where none can be null
+pub each_there : (n : ℕ) → valid_before required n ≡ n
+each_there zero = refl
+each_there (suc n) = ap suc (each_there n)
+
+pub all_there : (n : ℕ) → n ≡ valid_before all_valid n
+all_there zero = refl
+all_there (suc n) = ap suc (all_there n)
+
+pub none_there : (n : ℕ) → 0 ≡ valid_before all_null n
+none_there zero = refl
+none_there (suc n) = none_there n
+
+pub each_counted : (n : ℕ) → n ≡ valid_before required n
+each_counted n = sym (each_there n)
+
+pub as_many_there : (a : Layout) (n m : ℕ) → HasLength (by_array a) n → m ≡ valid_before (by_array a) (len_of a) → m ≡ valid_before (by_array a) n
+as_many_there a n m h e = e ∙ ap (valid_before (by_array a)) h.1
+
+pub ruleset all_counted = (all_there, none_there, each_counted, as_many_there)
+
+one_bit : (bs : List Bool) (n m : ℕ) (b : Bool) → n < length bs → get_or bs n false ≡ b → m ≡ count_by (λ c. c) (take n bs) → cond b (suc m) m ≡ count_by (λ c. c) (take (n + 1) bs)
+one_bit bs n m true l e h = (let s : suc m ≡ m + 1 = omega arith in s) ∙ ap (λ k. k + 1) h ∙ sym (count_by_more_yes (λ c. c) bs n false l e)
+one_bit bs n m false l e h = h ∙ sym (count_by_more_no (λ c. c) bs n false l e)
+
+bits_before : (bs : List Bool) (n : ℕ) → n ≤ length bs → valid_before (by_array (bools bs required)) n ≡ count_by (λ c. c) (take n bs)
+bits_before bs zero l = refl
+bits_before bs (suc n) l =
+    one_bit bs n (valid_before (by_array (bools bs required)) n) (get_or bs n false) (omega (arith, l)) refl (bits_before bs n (omega (arith, l)))
+    ∙ ap (λ k. count_by (λ c. c) (take k bs)) (let s : n + 1 ≡ suc n = omega arith in s)
+
+pub bits_counted : (a : Layout) (bs : List Bool) (m : ℕ) → bools bs required ≡ a → m ≡ count_by (λ c. c) bs → m ≡ valid_before (by_array a) (len_of a)
+bits_counted a bs m e h =
+    subst (λ l. m ≡ valid_before (by_array l) (len_of l)) e (h ∙ sym (bits_before bs (length bs) (omega arith) ∙ ap (count_by (λ c. c)) (take_all (length bs) bs (omega arith))))
 
 grows : (b : Bool) (n : ℕ) → n ≤ cond b (suc n) n
 grows true n = omega arith
@@ -102,6 +139,37 @@ module _ (k : IntKind) (w : ℕ) (v : Valid) (bytes : List ℕ) (zs : List ℤ) 
 pub pushed : {X : Type 0} (number : X → ℤ) (ys zs : List X) (y : X) → zs ≡ ys ++ y ∷ [] → map number zs ≡ map number ys ++ number y ∷ []
 pushed number ys zs y e = ap (map number) e ∙ map-append number ys (y ∷ [])
 
+-- the first integers are read, in their places among all
+pub record PlacesAreRead {X : Type 0} (k : IntKind) (number : X → ℤ) (w : ℕ) (v : Valid) (bytes : List ℕ) (xs : List X) (all n start : ℕ) : Type 0 where
+  pub room : length xs ≡ all
+  pub read : AreRead k w v bytes (map number (take n xs)) n start
+
+pub no_place_read : {X : Type 0} (k : IntKind) (number : X → ℤ) (w : ℕ) (v : Valid) (bytes : List ℕ) (xs : List X) (all : ℕ) → length xs ≡ all → PlacesAreRead k number w v bytes xs all 0 0
+no_place_read k number w v bytes xs all e = record { room = e; read = none_read k w v bytes }
+
+module _ {X : Type 0} (k : IntKind) (number : X → ℤ) (w : ℕ) (v : Valid) (bytes : List ℕ) (xs ys : List X) (all n start next : ℕ) (x : X) (b : Bool) (h : PlacesAreRead k number w v bytes xs all n start) where
+  pub place_read : ys ≡ set xs n x → n < all → b ≡ is_valid v n → (b ≡ true → AreBytesOf k (number x) (take w (drop start bytes))) → (b ≡ false → number x ≡ pos 0) → next ≡ cond b (start + w) start → PlacesAreRead k number w v bytes ys all (n + 1) next
+  place_read e l valid_is item null moved = record {
+    room = ap length e ∙ length-set xs n x ∙ h.room;
+    read = subst (λ zs. AreRead k w v bytes zs (n + 1) next)
+        (sym (pushed number (take n xs) (take (n + 1) ys) x (ap (take (n + 1)) e ∙ take_more_set xs n x (subst (λ m. n < m) (sym h.room) l))))
+        (read_more k w v bytes (map number (take n xs)) n start next (number x) b h.read valid_is item null moved);
+  }
+
+pub places_read : {X : Type 0} (k : IntKind) (number : X → ℤ) (w : ℕ) (v : Valid) (bytes : List ℕ) (xs : List X) (all n start : ℕ) → PlacesAreRead k number w v bytes xs all n start → all ≤ n → StandInBytes k w v bytes (map number xs)
+places_read k number w v bytes xs all n start h done = subst (λ zs. StandInBytes k w v bytes (map number zs)) (take_all n xs (omega (arith, done, h.room))) h.read.stand
+
+-- of rows none of which is null
+valid_alike : (v : Valid) → ((i : ℕ) → IsTrue (is_valid v i)) → (n : ℕ) → valid_before v n ≡ n
+valid_alike v h zero = refl
+valid_alike v h (suc n) = ap (λ b. cond b (suc (valid_before v n)) (valid_before v n)) (h n) ∙ ap suc (valid_alike v h n)
+
+pub stand_alike : (k : IntKind) (w : ℕ) (bytes : List ℕ) (zs : List ℤ) → StandInBytes k w required bytes zs → (v : Valid) → ((i : ℕ) → IsTrue (is_valid v i)) → StandInBytes k w v bytes zs
+stand_alike k w bytes zs h v all = record {
+  valid = λ n l t. subst (λ m. AreBytesOf k (get_or zs n (pos 0)) (take w (drop (m * w) bytes))) (each_there n ∙ sym (valid_alike v all n)) (h.valid n l refl);
+  null = λ n l t. absurd (cc (sym t ∙ all n));
+}
+
 -- ---- how many bytes an integer takes
 
 width_is : (k : IntKind) → (w : ℕ) × ((x : ℕ) → HasByteWidth (integral k) x → (x ≡ w) × (0 < x))
@@ -129,11 +197,6 @@ pub ruleset one_width = (any_width)
 pub whole_any : (k : NumberKind) (w n : ℕ) (bytes : List ℕ) → is_integral k ≡ true → HasByteWidth k w → length bytes ≡ n * w → HoldIntegers k bytes n
 whole_any (integral k) w n bytes i h e = λ x g. e ∙ ap (λ y. n * y) (sym (same_width k w x h g))
 whole_any (floating f) w n bytes i h e = absurd (cc (i))
-
--- each row is there where none can be null
-pub each_there : (n : ℕ) → valid_before required n ≡ n
-each_there zero = refl
-each_there (suc n) = ap suc (each_there n)
 
 -- ---- refusals
 

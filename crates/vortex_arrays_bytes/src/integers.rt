@@ -1,30 +1,55 @@
 //! Integers read from bytes that stand end to end.
-ghost use Rattle.std.specs.Prelude.{◌≡◌, ◌+◌, ◌*◌, ◌≤◌, ◌<◌, ℕ, pos, true, false, cond, length, map, take, drop, IfOk, IsTrue};
+ghost use Rattle.std.specs.Prelude.{◌≡◌, ◌+◌, ◌*◌, ◌≤◌, ◌<◌, ℕ, pos, true, false, cond, length, map, take, drop, IfOk, IfSome, IsTrue};
 ghost use Rattle.vortex_dtype_ptype.specs.Numbers.{integral, is_integral, HasByteWidth};
 ghost use Rattle.vortex_dtype_ptype.specs.View.{number_kind_of};
 ghost use Rattle.vortex_dtype_native.specs.NativeBytes.{AreBytesOf};
-ghost use Rattle.vortex_arrays_model.specs.Layout.{HasLength};
+ghost use Rattle.vortex_arrays_model.specs.Layout.{Valid, bools, required, by_array, len_of, is_valid, HasLength};
 ghost use Rattle.vortex_arrays_core.specs.LayoutOf.{valid_of};
 ghost use Rattle.vortex_arrays_buffer.specs.PrimitiveBuffers.{kind_of_numbers, integers_of};
 ghost use Rattle.vortex_arrays_bytes.specs.Integers.{valid_before, HoldIntegers, StandInBytes};
 
 use std::alloc::{AllocError, Global};
+use vortex_arrays_buffer::bit_buffer::BitBuffer;
 use vortex_arrays_buffer::buffer::Buffer;
 use vortex_arrays_buffer::element::Element;
 use vortex_arrays_buffer::primitive_buffer::PrimitiveBuffer;
-use vortex_arrays_core::array::Validity;
+use vortex_arrays_core::array::{ArrayLayout, ArrayRef, Validity};
 use vortex_dtype_native::match_each_integer_ptype;
 use vortex_dtype_ptype::ptype::PType;
 
 /// How many of so many rows are not null.
-#[tactic(auto, using(crate::proofs::IntegerLemmas::counted))]
+#[tactic(auto, using(crate::proofs::IntegerLemmas::all_counted))]
 pub(crate) fn count_valid(validity: &Validity, rows: usize) -> usize
     requires { HasLength (valid_of validity.now) rows }
     ensures { result ≡ valid_before (valid_of validity.now) rows }
 {
+    match validity {
+        Validity::NonNullable => rows,
+        Validity::AllValid => rows,
+        Validity::AllInvalid => 0,
+        Validity::Array(valid) => count_true(valid),
+    }
+}
+
+// How many rows are true. Packed bits are counted.
+fn count_true(rows: &ArrayRef) -> usize
+    ensures { result ≡ valid_before (by_array rows.now) (len_of rows.now) }
+{
+    if let ArrayLayout::Bool(bits, validity) = rows.layout() {
+        if let Validity::NonNullable = validity {
+            return bits.true_count();
+        }
+    }
+    count_by_row(rows)
+}
+
+#[tactic(auto, using(crate::proofs::IntegerLemmas::counted))]
+fn count_by_row(rows: &ArrayRef) -> usize
+    ensures { result ≡ valid_before (by_array rows.now) (len_of rows.now) }
+{
     let mut count = 0;
-    for i in 0..rows {
-        if validity.is_valid(i, rows) {
+    for i in 0..rows.len() {
+        if rows.truth(i) {
             count += 1;
         }
     }
@@ -75,6 +100,94 @@ fn read_as<T: Element>(
 }
 
 fn read_items<T: Element>(
+    alloc: Global,
+    bytes: &[u8],
+    width: usize,
+    validity: &Validity,
+    rows: usize,
+) -> Result<Vec<T>, AllocError>
+    requires width { HasByteWidth (integral T.kind) width }
+    requires fits { HasLength (valid_of validity.now) rows }
+    requires whole { length bytes.now ≡ valid_before (valid_of validity.now) rows * width }
+    ensures many { IfOk result (λ items. length items.items ≡ rows) }
+    ensures values { IfOk result
+        (λ items. StandInBytes T.kind width (valid_of validity.now) bytes.now
+        (map T.integer items.items)) }
+{
+    if let Some(bits) = packed_rows(validity) {
+        return read_where(alloc, bytes, width, bits);
+    }
+    match validity {
+        Validity::NonNullable => read_each(alloc, bytes, width, rows),
+        Validity::AllValid => read_each(alloc, bytes, width, rows),
+        Validity::AllInvalid => read_by_row(alloc, bytes, width, validity, rows),
+        Validity::Array(_) => read_by_row(alloc, bytes, width, validity, rows),
+    }
+}
+
+// The bits that tell which rows are not null, where the validity has them.
+fn packed_rows(validity: &Validity) -> Option<&BitBuffer>
+    ensures { IfSome result (λ bits. valid_of validity.now ≡ by_array (bools bits.now required)) }
+{
+    if let Validity::Array(rows) = validity {
+        if let ArrayLayout::Bool(bits, Validity::NonNullable) = rows.layout() {
+            return Some(bits);
+        }
+    }
+    None
+}
+
+// The integers of rows none of which is null.
+fn read_each<T: Element>(
+    alloc: Global,
+    bytes: &[u8],
+    width: usize,
+    rows: usize,
+) -> Result<Vec<T>, AllocError>
+    requires width { HasByteWidth (integral T.kind) width }
+    requires whole { length bytes.now ≡ rows * width }
+    ensures many { IfOk result (λ items. length items.items ≡ rows) }
+    ensures values { IfOk result (λ items. (v : Valid) → ((i : ℕ) → IsTrue (is_valid v i))
+        → StandInBytes T.kind width v bytes.now (map T.integer items.items)) }
+{
+    let mut items = vec![in alloc; zero(); rows]?;
+    let mut start = 0;
+    for i in 0..rows {
+        let (item, next) = item_at(bytes, start, width, true);
+        items[i] = item;
+        start = next;
+    }
+    Ok(items)
+}
+
+// The integers of the rows whose bit is true, and 0 for the others.
+fn read_where<T: Element>(
+    alloc: Global,
+    bytes: &[u8],
+    width: usize,
+    bits: &BitBuffer,
+) -> Result<Vec<T>, AllocError>
+    requires width { HasByteWidth (integral T.kind) width }
+    requires whole { length bytes.now
+        ≡ valid_before (by_array (bools bits.now required)) (length bits.now) * width }
+    ensures many { IfOk result (λ items. length items.items ≡ length bits.now) }
+    ensures values { IfOk result
+        (λ items. StandInBytes T.kind width (by_array (bools bits.now required)) bytes.now
+        (map T.integer items.items)) }
+{
+    let rows = bits.len();
+    let mut items = vec![in alloc; zero(); rows]?;
+    let mut start = 0;
+    for i in 0..rows {
+        let (item, next) = item_at(bytes, start, width, bits.value(i));
+        items[i] = item;
+        start = next;
+    }
+    Ok(items)
+}
+
+// The same row by row, of a validity of any kind.
+fn read_by_row<T: Element>(
     alloc: Global,
     bytes: &[u8],
     width: usize,

@@ -53,12 +53,16 @@ fn cast_to<T: Element>(alloc: Global, numbers: &[u64]) -> Result<PrimitiveBuffer
     ensures kind { IfOk result (λ r. kind_of_numbers r ≡ T.kind) }
     ensures integers { IfOk result (λ r. integers_of r ≡ map pos numbers.now) }
 {
-    let mut items: Vec<T> = Vec::with_capacity(alloc, numbers.len())?;
-    for number in numbers {
-        items.push(cast(*number))?;
-    }
+    let items: Vec<T> = cast_items(alloc, numbers)?;
     let items = Buffer::from_vec(items)?;
     Ok(PrimitiveBuffer::from_buffer(items))
+}
+
+fn cast_items<T: NativePType>(alloc: Global, numbers: &[u64]) -> Result<Vec<T>, AllocError>
+    requires { All (λ n. in_range T.kind (pos n) ≡ true) numbers.now }
+    ensures { IfOk result (λ items. map T.integer items.items ≡ map pos numbers.now) }
+{
+    numbers.iter().map(|number| cast(*number)).collect(alloc)
 }
 
 // The number as one of a native type that holds it.

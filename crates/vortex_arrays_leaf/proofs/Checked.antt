@@ -22,6 +22,10 @@ no_text s views buffers v i l valid e other = record { row = i; within = l; vali
 pub rows_more : (P : ℕ → Type 0) (n : ℕ) → ((k : ℕ) → k < n → P k) → P n → (k : ℕ) → k < n + 1 → P k
 rows_more P n h last k l = elim (cases_lt k n) [ inl before ↦ h k before | inr g ↦ let e : n ≡ k = omega (arith, l, g) in subst P e last ]
 
+-- one view more
+pub each_more : (P : List ℕ → Type 0) (vs : List (List ℕ)) (i : ℕ) (x : List ℕ) → ((k : ℕ) → k < i → P (get_or vs k [])) → i < length vs → x ≡ get_or vs i x → P x → (k : ℕ) → k < i + 1 → P (get_or vs k [])
+each_more P vs i x h l e p = rows_more (λ k. P (get_or vs k [])) i h (subst P (get_or_read vs i x l e []) p)
+
 -- the view of a row that is not null has its value
 pub value_read : (a : Layout) (vs bs : List (List ℕ)) (i : ℕ) (x : List ℕ) → IsStrings a → IsSound a → i < len_of a → IsTrue (is_valid (valid_in a) i) → vs ≡ views_in a → bs ≡ buffers_in a → x ≡ get_or vs i x → HasValue x bs
 value_read (strings s ws cs v) vs bs i x t sound l valid e f is =

@@ -1,5 +1,5 @@
 //! Integers that may be missing.
-ghost use Rattle.std.specs.Prelude.{◌≡◌, List, Option, map, is_some, IfOk};
+ghost use Rattle.std.specs.Prelude.{◌≡◌, ◌<◌, false, List, Option, length, map, is_some, slice_index_or, IfOk};
 ghost use Rattle.std.specs.Iterator.{Drains, IsFinite};
 ghost use Rattle.vortex_model.specs.LogicalType.{integer_type, nullable};
 ghost use Rattle.vortex_arrays_model.specs.Layout.{bools, required, by_array, rows_of, array_type_of};
@@ -50,11 +50,10 @@ fn numbers_or_zero<T: Element>(alloc: Global, items: &[Option<T>]) -> Result<Vec
     ensures { IfOk result (λ numbers. map T.integer numbers.items
         ≡ map (number_or_zero T.integer) items.now) }
 {
-    let mut numbers = Vec::with_capacity(alloc, items.len())?;
-    for item in items {
-        numbers.push(number_or_zero_of(*item))?;
-    }
-    Ok(numbers)
+    items
+        .iter()
+        .map(|item| number_or_zero_of(*item))
+        .collect(alloc)
 }
 
 /// The integer, and 0 for `None`.
@@ -76,18 +75,21 @@ fn valid_where_some<T: Element>(alloc: Global, items: &[Option<T>]) -> Result<Va
     ensures { IfOk result (λ validity. valid_of validity
         ≡ by_array (bools (map is_some items.now) required)) }
 {
-    let bits = BitBuffer::from_bools(alloc, are_some(alloc, items)?.as_slice())?;
+    let bits = are_some(alloc, items)?;
     let valid = ArrayRef::of_bools(alloc, bits, Validity::NonNullable)?;
     Ok(Validity::Array(valid))
 }
 
 /// Whether each item is there.
-fn are_some<T: Element>(alloc: Global, items: &[Option<T>]) -> Result<Vec<bool>, AllocError>
-    ensures { IfOk result (λ there. there.items ≡ map is_some items.now) }
+fn are_some<T: Element>(alloc: Global, items: &[Option<T>]) -> Result<BitBuffer, AllocError>
+    ensures { IfOk result (λ there. there ≡ map is_some items.now) }
 {
-    let mut there = Vec::with_capacity(alloc, items.len())?;
-    for item in items {
-        there.push(item.is_some())?;
-    }
-    Ok(there)
+    BitBuffer::collect_bool(alloc, items.len(), |i| is_there(items, i))
+}
+
+fn is_there<T: Element>(items: &[Option<T>], i: usize) -> bool
+    requires { i < length items.now }
+    ensures { result ≡ slice_index_or (map is_some items.now) i false }
+{
+    items[i].is_some()
 }

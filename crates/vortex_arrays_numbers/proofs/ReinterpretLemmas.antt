@@ -1,8 +1,13 @@
 -- Integers by their bytes in another kind.
-use Rattle.std.proofs.Common.{◌≡◌, ◌<◌, ◌+◌, ◌-◌, ◌^◌, ◌+ℤ◌, ◌-ℤ◌, ℕ, ℤ, pos, List, [], ◌∷◌, ◌++◌, length, map, get_or, sym, ap, subst, ◌∙◌, arith, inl, inr}
+use Rattle.std.proofs.Common.{◌≡◌, ◌<◌, ◌-◌, ◌^◌, ◌+ℤ◌, ◌-ℤ◌, ℕ, zero, suc, ℤ, pos, List, [], ◌∷◌, Option, None, Result, Ok, Err, IfOk, Vec, length, map, get_or, refl, sym, ap, subst, ◌∙◌, arith}
+use Rattle.std.specs.Fn.{Called}
+use Rattle.std.specs.Iterator.{Yields, AlwaysYields}
+use Rattle.std.specs.Iterator.Adapters.{map_source, map_callee}
+use Rattle.std.specs.Vec.{vec_items}
+use Rattle.std.specs.declared.iter.Map.{Map}
+use denote.Param.Members.{Mut}
 use Rattle.std.proofs.lemmas.Int.{ints}
-use Rattle.std.proofs.lemmas.Bool.{cases_eq}
-use Rattle.std.proofs.lemmas.List.{get_or-map, get_or_push, get_or_append_left, length_push, map-append}
+use Rattle.std.proofs.lemmas.Iterator.{YieldsList, IsCollectResult, maps}
 use Rattle.vortex_model.specs.LogicalType.{IntKind}
 use Rattle.vortex_model.specs.Valid.{least_number, greatest_number}
 use Rattle.vortex_dtype_ptype.specs.Numbers.{NumberKind, integral, reach_of, HasByteWidth}
@@ -22,38 +27,39 @@ as_wide i j w e h = wide (least_number i) (greatest_number i) (least_number j) (
 
 pub ruleset item = (as_wide, at_most_eight)
 
--- one integer more
-pub record AreFirstReinterpreted (i : IntKind) (xs : List ℤ) (j : IntKind) (ys : List ℤ) (n : ℕ) : Type 0 where
-  pub many : length ys ≡ n
-  pub each : (k : ℕ) → k < n → HaveSameBytes i (get_or xs k (pos 0)) j (get_or ys k (pos 0))
+-- items that stand in a relation, one by one
+abbrev pub Pairs : {B R : Type 0} → (B → R → Type 0) → List B → List R → Type 0
+Pairs Q [] [] = Unit {0}
+Pairs Q (y ∷ ys) (r ∷ rs) = Q y r × Pairs Q ys rs
+Pairs Q ys rs = ⊥
 
-pub none_yet : (i j : IntKind) (xs ys : List ℤ) → length ys ≡ 0 → AreFirstReinterpreted i xs j ys 0
-none_yet i j xs ys e = record { many = e; each = λ k l. absurd (omega (arith, l)) }
+module _ {S A B F R : Type 0} (steps : S → Option A → S → Type 0) (v : A → B) (g : Mut F (A × Unit {0}) R) (Q : B → R → Type 0) (f : F) (called : (x : A) (r : R) (q : F) → Called g f (x, tt) r q → (q ≡ f) × Q (v x) r) where
+  paired : (ys : List B) (s : Map S F) (rs : List R) (t u : Map S F) → map_callee s ≡ f → AlwaysYields steps v (map_source s) ys → Yields (maps steps g) s rs t → maps steps g t None u → Pairs Q ys rs
+  paired [] s [] t u a e y p = tt
+  paired [] s (r ∷ rs) t u a e y p = absurd (e y.1.0 (map_source y.0) y.1.1)
+  paired (z ∷ ys) s [] t u a e y p = absurd (e.0 (map_source u) (subst (λ k. maps steps g k None u) (sym y) p).0)
+  paired (z ∷ ys) s (r ∷ rs) t u a e y p =
+      let m = called y.1.0 r (map_callee y.0) (subst (λ w. Called g w (y.1.0, tt) r (map_callee y.0)) a y.1.2) in
+      let n = e.1 y.1.0 (map_source y.0) y.1.1 in
+      (subst (λ b. Q b r) n.0 m.1, paired ys y.0 rs t u m.0 n.1 y.2 p)
 
-pub one_more : (i j : IntKind) (xs ys : List ℤ) (n : ℕ) (x y : ℤ) → AreFirstReinterpreted i xs j ys n → x ≡ get_or xs n (pos 0) → HaveSameBytes i x j y → AreFirstReinterpreted i xs j (ys ++ y ∷ []) (n + 1)
-one_more i j xs ys n x y h e b = record {
-  many = length_push ys y ∙ ap (λ k. k + 1) h.many;
-  each = λ k l. elim (cases_eq k n) [
-    | inl same ↦
-        let last : get_or (ys ++ y ∷ []) k (pos 0) ≡ y = get_or_push ys y (pos 0) k (h.many ∙ sym same) in
-        subst (λ z. HaveSameBytes i (get_or xs k (pos 0)) j z) (sym last) (subst (λ z. HaveSameBytes i z j y) (e ∙ ap (λ m. get_or xs m (pos 0)) (sym same)) b)
-    | inr other ↦
-        let before : k < n = omega (arith, l, other) in
-        subst (λ z. HaveSameBytes i (get_or xs k (pos 0)) j z) (sym (get_or_append_left ys (y ∷ []) (pos 0) k (let m = h.many in omega (arith, m, before)))) (h.each k before)
-  ];
-}
+pub collected : {S A B F R Z E : Type 0} {steps : S → Option A → S → Type 0} {v : A → B} {ys : List B} {s : Map S F} {g : Mut F (A × Unit {0}) R} (Q : B → R → Type 0) {f : F} (r : Result (Vec R Z) E) → IsCollectResult (maps steps g) s r → YieldsList steps v (map_source s) ys → map_callee s ≡ f → ((x : A) (r : R) (q : F) → Called g f (x, tt) r q → (q ≡ f) × Q (v x) r) → IfOk r (λ w. Pairs Q ys (vec_items w))
+collected {S} {A} {B} {F} {R} {Z} {E} {steps} {v} {ys} {s} {g} Q {f} (Ok w) d e a k =
+    let end = d.1.2 tt in
+    subst (Pairs Q ys) (sym d.2.0) (paired steps v g Q f k ys s d.0 d.1.0 end.0 a e.runs d.1.1 end.1)
+collected Q (Err x) d e a k = tt
 
-pub all_reinterpreted : (i j : IntKind) (xs ys : List ℤ) (n : ℕ) → AreFirstReinterpreted i xs j ys n → n ≡ length xs → AreReinterpreted i xs j ys
-all_reinterpreted i j xs ys n h e = record { many = h.many ∙ e; each = λ k l. h.each k (subst (λ m. k < m) (sym e) l) }
-
--- the number that is read at a place
-pub read_at : {X : Type 0} (number : X → ℤ) (xs : List X) (i : ℕ) (x : X) → i < length xs → x ≡ get_or xs i x → number x ≡ get_or (map number xs) i (pos 0)
-read_at number xs i x l e = ap number e ∙ sym (get_or-map number xs i x (pos 0) l)
-
-pub pushed : {X : Type 0} (number : X → ℤ) (ys zs : List X) (y : X) → zs ≡ ys ++ y ∷ [] → map number zs ≡ map number ys ++ number y ∷ []
-pushed number ys zs y e = ap (map number) e ∙ map-append number ys (y ∷ [])
-
-pub ruleset items = (none_yet)
+pub all_reinterpreted : {X Y : Type 0} (i j : IntKind) (p : X → ℤ) (q : Y → ℤ) (xs : List X) (ys : List Y) → Pairs (λ x y. HaveSameBytes i (p x) j (q y)) xs ys → AreReinterpreted i (map p xs) j (map q ys)
+all_reinterpreted i j p q [] [] h = record { many = refl; each = λ n l. absurd (omega (arith, l)) }
+all_reinterpreted i j p q [] (y ∷ ys) h = absurd h
+all_reinterpreted i j p q (x ∷ xs) [] h = absurd h
+all_reinterpreted i j p q (x ∷ xs) (y ∷ ys) h =
+    let below = all_reinterpreted i j p q xs ys h.1 in
+    record { many = ap suc below.many; each = each_from i j (p x) (q y) (map p xs) (map q ys) h.0 below }
+  where
+    each_from : (i j : IntKind) (a b : ℤ) (ms ns : List ℤ) → HaveSameBytes i a j b → AreReinterpreted i ms j ns → (n : ℕ) → n < length (a ∷ ms) → HaveSameBytes i (get_or (a ∷ ms) n (pos 0)) j (get_or (b ∷ ns) n (pos 0))
+    each_from i j a b ms ns e r zero l = e
+    each_from i j a b ms ns e r (suc n) l = r.each n (omega (arith, l))
 
 -- the array
 pub reinterpreted : (a r : Layout) (p : NumberKind) (k j : IntKind) (zs ws : List ℤ) (v : Valid) → k ≡ type_in a → zs ≡ integers_in a → v ≡ valid_in a → integral j ≡ p → AreReinterpreted k zs j ws → r ≡ numbers j ws v → IsReinterpreted a p r

@@ -87,7 +87,6 @@ fn reinterpret_slice<T: NativePType, U: Element>(
 }
 
 /// The items by their bytes as those of another native type.
-#[tactic(auto, using(crate::proofs::ReinterpretLemmas::items))]
 fn reinterpret_items<T: NativePType, U: NativePType>(
     alloc: Global,
     items: &[T],
@@ -96,11 +95,10 @@ fn reinterpret_items<T: NativePType, U: NativePType>(
     ensures { IfOk result (λ cast. AreReinterpreted T.kind (map T.integer items.now) U.kind
         (map U.integer cast.items)) }
 {
-    let mut cast = Vec::with_capacity(alloc, items.len())?;
-    for i in 0..items.len() {
-        cast.push(reinterpret_item(items[i]))?;
-    }
-    Ok(cast)
+    items
+        .iter()
+        .map(|item| reinterpret_item(*item))
+        .collect(alloc)
 }
 
 /// The item by its bytes as one of another native type.

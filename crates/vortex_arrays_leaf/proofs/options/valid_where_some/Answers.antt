@@ -2,9 +2,6 @@ use Rattle.std.proofs.Common.{rules}
 use Rattle.vortex_arrays_core.proofs.array.ArrayRef.TheLaws.TheTie as laws
 use Rattle.vortex_arrays_leaf.proofs.options.valid_where_some.Goals as goal
 
-pub returns-in_err-are_some : goal.returns-in_err-are_some
-returns-in_err-are_some c = search (rules, laws.the_lemmas)
-
 pub returns-in_err-bits : goal.returns-in_err-bits
 returns-in_err-bits c = search (rules, laws.the_lemmas)
 

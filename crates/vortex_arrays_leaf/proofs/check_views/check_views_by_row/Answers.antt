@@ -2,7 +2,7 @@ use Rattle.std.proofs.Common.{rules, ◌≡◌, true}
 use Rattle.vortex_arrays_core.specs.LayoutOf.{valid_of}
 use Rattle.vortex_arrays_leaf.specs.Strings.{HasValueAt}
 use Rattle.vortex_arrays_leaf.proofs.Checked.{rows_more}
-use Rattle.vortex_arrays_leaf.proofs.check_views.check_views.Goals as goal
+use Rattle.vortex_arrays_leaf.proofs.check_views.check_views_by_row.Goals as goal
 
 pub loop-i-preserved : goal.loop-i-preserved
 loop-i-preserved c =

@@ -1,0 +1,11 @@
+use Rattle.std.proofs.Common.{rules, ◌≡◌, true}
+use Rattle.vortex_arrays_model.specs.Layout.{bools, required, by_array}
+use Rattle.vortex_arrays_core.specs.LayoutOf.{strings_of}
+use Rattle.vortex_arrays_leaf.specs.Strings.{HoldsAt}
+use Rattle.vortex_arrays_leaf.proofs.Checked.{rows_more}
+use Rattle.vortex_arrays_leaf.proofs.check_views.check_values_where.Goals as goal
+
+pub loop-i-preserved : goal.loop-i-preserved
+loop-i-preserved c =
+    let holds : c.holds_where.result ≡ true = search rules in
+    rows_more (HoldsAt (strings_of c.args.kind) c.args.views.now c.args.buffers.now (by_array (bools c.args.bits.now required))) c.loop-i.i c.loop-i.invariant (c.holds_where.ensures.holds holds)

@@ -1,0 +1,8 @@
+use Rattle.std.proofs.Common.{ℕ, ◌<◌}
+use Rattle.vortex_arrays_model.specs.Layout.{bools, required, by_array}
+use Rattle.vortex_arrays_core.specs.LayoutOf.{strings_of}
+use Rattle.vortex_arrays_leaf.specs.Strings.{HoldsAt}
+use Rattle.vortex_arrays_leaf.proofs.check_views.check_values_where.Given as goal
+
+abbrev pub invariant-loop-i : goal.invariant-loop-i
+invariant-loop-i l = (k : ℕ) → k < l.i → HoldsAt (strings_of l.kind) l.views l.buffers (by_array (bools l.bits required)) k
