@@ -1,5 +1,6 @@
 -- Lists whose elements are cast, and lists that stand end to end.
-use Rattle.std.proofs.Common.{◌≡◌, ◌<◌, ◌≤◌, ◌+◌, ◌*◌, ◌==◌, ℕ, zero, suc, pos, Bool, true, false, ◌&&◌, cond, List, [], ◌∷◌, ◌++◌, length, map, take, get_or, refl, sym, ap, subst, ◌∙◌, arith}
+use Rattle.std.proofs.Common.{◌≡◌, ◌<◌, ◌≤◌, ◌+◌, ◌*◌, ◌==◌, ℕ, zero, suc, pos, Bool, true, false, ◌&&◌, cond, List, [], ◌∷◌, ◌++◌, length, map, take, get_or, refl, sym, ap, subst, ◌∙◌, ⊎_elim, arith}
+use Rattle.std.proofs.Math.Nat.{eq-or-lt_of_le}
 use Rattle.std.specs.List.{range_with_len}
 use Rattle.std.proofs.lemmas.Bool.Decides.{nat_tests}
 use Rattle.std.proofs.lemmas.Nat.{mul-add-lt}
@@ -9,7 +10,7 @@ use Rattle.vortex_model.specs.LogicalType.{LogicalType, list, fixed_list, Nullab
 use Rattle.vortex_model.specs.Content.{Content, null, integer, tuple, count}
 use Rattle.vortex_model.specs.Convert.{converts, all_convert}
 use Rattle.vortex_dtype_core.proofs.Views.{one_level}
-use Rattle.vortex_arrays_model.specs.Layout.{Layout, list_views, fixed_lists, Valid, len_of, array_type_of, nullability_by, content_at, is_valid, number_in, span, rows_of, IsView, IsSound}
+use Rattle.vortex_arrays_model.specs.Layout.{Layout, list_views, fixed_lists, Valid, len_of, array_type_of, nullability_by, content_at, is_valid, number_in, span, rows_of, AreEndToEnd, IsView, IsSound}
 use Rattle.vortex_arrays_model.specs.Canonical.{counts, items_of, IsCanonical, IsLaidOut}
 use Rattle.vortex_arrays_model.proofs.CanonicalLemmas.{items_valid, items_null, canonical_more, canonical_none, canonical_all}
 use Rattle.vortex_arrays_model.proofs.PicksLemmas.{eq_span}
@@ -115,6 +116,21 @@ module _ (k : LogicalType) (e d o s : Layout) (f : Bool) (v w : Valid) (m : Null
     layout = (c.layout, laid_out p);
   }
 
+-- ---- null lists without elements
+
+-- of the first n lists the null ones have no elements
+abbrev pub AreEmpty : Valid → List ℕ → ℕ → Type 0
+AreEmpty v sizes n = (i : ℕ) → i < n → is_valid v i ≡ false → get_or sizes i 0 ≡ 0
+
+pub none_empty : (v : Valid) (sizes : List ℕ) → AreEmpty v sizes 0
+none_empty v sizes i l t = absurd (omega (arith, l))
+
+pub more_empty : (v : Valid) (sizes : List ℕ) (n : ℕ) → AreEmpty v sizes n → (is_valid v n ≡ false → get_or sizes n 0 ≡ 0) → AreEmpty v sizes (n + 1)
+more_empty v sizes n h here i l =
+    ⊎_elim (λ e t. ap (λ k. get_or sizes k 0) e ∙ here (ap (λ k. is_valid v k) (sym e) ∙ t)) (λ b. h i b) (eq-or-lt_of_le (let le : i ≤ n = omega (arith, l) in le))
+
+pub ruleset empty_lists = (none_empty, more_empty)
+
 -- ---- lists that stand end to end
 
 -- a range in two parts
@@ -171,7 +187,28 @@ module _ (e : Layout) (os ss : List ℕ) (v : Valid) where
         (subst (λ xs. IsCanonical (take i (rows_of lists)) xs (take i ss) (map (content_at e) (range_with_len 0 end))) (take_all i os (omega (arith, done))) h)));
   }
 
-pub ruleset checked = (first_stand, more_stand, all_stand)
+  -- of lists that follow one another from the first element on, the lists up to one stand so
+  first_lists : length ss ≡ length os → AreEndToEnd (counts os) (counts ss) → get_or os 0 0 ≡ 0 → ((i : ℕ) → i < length ss → is_valid v i ≡ false → get_or ss i 0 ≡ 0) → (i : ℕ) → i < length os → FirstStand (i + 1) (get_or os i 0 + get_or ss i 0)
+  first_lists many follow first empty zero l =
+      more_stand 0 0 (get_or ss 0 0) (get_or os 0 0 + get_or ss 0 0) many l first_stand first refl (empty 0 (subst (λ n. 0 < n) (sym many) l)) (ap (λ o. o + get_or ss 0 0) first)
+  first_lists many follow first empty (suc i) l =
+      let before : i < length os = omega (arith, l) in
+      let before_ss : i < length ss = subst (λ n. i < n) (sym many) before in
+      let there : suc i < len_of (counts os) = subst (λ n. suc i < n) (sym (length-map os pos)) l in
+      let begins : get_or os (suc i) 0 ≡ get_or os i 0 + get_or ss i 0 =
+      sym (number_there os (suc i) l) ∙ follow i there ∙ (λ j. number_there os i before j + number_there ss i before_ss j) in
+      let counted : i + 1 ≡ suc i = omega arith in
+      let h = subst (λ n. FirstStand n (get_or os i 0 + get_or ss i 0)) counted (first_lists many follow first empty i before) in
+      more_stand (suc i) (get_or os i 0 + get_or ss i 0) (get_or ss (suc i) 0) (get_or os (suc i) 0 + get_or ss (suc i) 0) many l h begins refl
+      (empty (suc i) (subst (λ n. suc i < n) (sym many) l)) (ap (λ o. o + get_or ss (suc i) 0) begins)
+
+  spanned_by : (n : ℕ) → length os ≡ n → length ss ≡ length os → AreEndToEnd (counts os) (counts ss) → (length os ≡ 0 → len_of e ≡ 0) → get_or os 0 0 ≡ 0 → ((n : ℕ) → length os ≡ suc n → get_or os n 0 + get_or ss n 0 ≡ len_of e) → ((i : ℕ) → i < length ss → is_valid v i ≡ false → get_or ss i 0 ≡ 0) → IsLaidOut e (counts os) (counts ss) v (list_views e (counts os) (counts ss) true v)
+  spanned_by zero p many follow none first last empty = all_stand 0 0 many (sym p) (sym (none p)) first_stand
+  spanned_by (suc n) p many follow none first last empty =
+      all_stand (n + 1) (get_or os n 0 + get_or ss n 0) many (omega (arith, p)) (last n p) (first_lists many follow first empty n (omega (arith, p)))
+
+  pub spanned : length ss ≡ length os → AreEndToEnd (counts os) (counts ss) → (length os ≡ 0 → len_of e ≡ 0) → get_or os 0 0 ≡ 0 → ((n : ℕ) → length os ≡ suc n → get_or os n 0 + get_or ss n 0 ≡ len_of e) → ((i : ℕ) → i < length ss → is_valid v i ≡ false → get_or ss i 0 ≡ 0) → IsLaidOut e (counts os) (counts ss) v (list_views e (counts os) (counts ss) true v)
+  spanned = spanned_by (length os) refl
 
 pub ruleset fixed = (one_level, cast_fixed_lists)
 

@@ -1,19 +1,20 @@
 //! Lists of elements that were cast.
-ghost use Rattle.std.specs.Prelude.{◌≡◌, ◌<◌, ◌+◌, ◌*◌, ◌^◌, length, map, replicate, true, false, IfOk, IfSome, IsTrue};
+ghost use Rattle.std.specs.Prelude.{◌≡◌, ◌<◌, ◌+◌, ◌*◌, ◌^◌, ℕ, suc, length, map, replicate, slice_index_or, true, false, IfOk, IfSome, IsTrue};
 ghost use Rattle.std.specs.List.{range_with_len};
-ghost use Rattle.vortex_arrays_model.specs.Layout.{list_views, len_of, HasLength, IsSound};
+ghost use Rattle.vortex_arrays_model.specs.Layout.{bools, list_views, required, by_array, len_of, is_valid, AreEndToEnd, HasLength, IsSound};
 ghost use Rattle.vortex_arrays_model.specs.Canonical.{counts, IsLaidOut};
 ghost use Rattle.vortex_arrays_core.specs.LayoutOf.{valid_of};
 ghost use Rattle.vortex_arrays_cast.specs.Cast.{StandEvenly};
 
+use crate::leaves::packed_rows;
 use std::alloc::{AllocError, Global};
+use vortex_arrays_buffer::bit_buffer::BitBuffer;
 use vortex_arrays_buffer::buffer::Buffer;
 use vortex_arrays_buffer::primitive_buffer::PrimitiveBuffer;
 use vortex_arrays_core::array::{ArrayLayout, ArrayRef, Validity};
 
 /// Whether the lists are laid out as by a rebuilding: they are known to follow one another, from
 /// the first of these elements to the last, offsets and sizes are u64, and null lists have size 0.
-#[tactic(auto, using(crate::proofs::ListLemmas::checked))]
 pub(crate) fn are_laid_out(
     elements: &ArrayRef,
     offsets: &ArrayRef,
@@ -32,7 +33,7 @@ pub(crate) fn are_laid_out(
     let Some(sizes) = counts_in(sizes) else {
         return false;
     };
-    follow && stand_end_to_end(elements, offsets, sizes, validity)
+    follow && take_all(elements, offsets, sizes, validity)
 }
 
 // The numbers, where they are u64 in their own order and none can be null.
@@ -47,41 +48,95 @@ fn counts_in(array: &ArrayRef) -> Option<&[u64]>
     }
 }
 
-// Each list begins where the one before ends, the first with the first element, and the last ends
-// with the last. Null lists have no elements.
-fn stand_end_to_end(
-    elements: &ArrayRef,
-    offsets: &[u64],
-    sizes: &[u64],
-    validity: &Validity,
-) -> bool
+// Of lists that follow one another, whether the first begins with the first element and the last
+// ends with the last, and null lists have no elements.
+fn take_all(elements: &ArrayRef, offsets: &[u64], sizes: &[u64], validity: &Validity) -> bool
     requires count { length sizes.now ≡ length offsets.now }
-    requires fits { HasLength (valid_of validity.now) (length offsets.now) }
+    requires fits { HasLength (valid_of validity.now) (length sizes.now) }
+    requires follow { AreEndToEnd (counts offsets.now) (counts sizes.now) }
     ensures { IsTrue result → IsLaidOut elements.now (counts offsets.now) (counts sizes.now)
         (valid_of validity.now) (list_views elements.now (counts offsets.now) (counts sizes.now)
         true (valid_of validity.now)) }
 {
-    let mut end = 0;
-    for i in 0..offsets.len() {
-        let is_valid = validity.is_valid(i, offsets.len());
-        let Some(next) = next_end(end, offsets[i], sizes[i], is_valid) else {
-            return false;
-        };
-        end = next;
-    }
-    end == elements.len() as u64
+    span_all(elements, offsets, sizes) && are_null_lists_empty(sizes, validity)
 }
 
-// Where a list ends that has to begin at the end of the one before, and to be empty where it is
-// null.
-fn next_end(end: u64, offset: u64, size: u64, is_valid: bool) -> Option<u64>
-    ensures { IfSome result
-        (λ next. (offset ≡ end) × (is_valid ≡ false → size ≡ 0) × (next ≡ end + size)) }
+// Whether the first list begins with the first element, and the last ends with the last.
+fn span_all(elements: &ArrayRef, offsets: &[u64], sizes: &[u64]) -> bool
+    requires { length sizes.now ≡ length offsets.now }
+    ensures none { IsTrue result → length offsets.now ≡ 0 → len_of elements.now ≡ 0 }
+    ensures first { IsTrue result → slice_index_or offsets.now 0 0 ≡ 0 }
+    ensures last { IsTrue result → (n : ℕ) → length offsets.now ≡ suc n
+        → slice_index_or offsets.now n 0 + slice_index_or sizes.now n 0 ≡ len_of elements.now }
 {
-    if offset != end || (size != 0 && !is_valid) {
-        return None;
+    if offsets.is_empty() {
+        return elements.is_empty();
     }
-    end.checked_add(size)
+    let last = offsets.len() - 1;
+    offsets[0] == 0 && ends_at(offsets[last], sizes[last], elements.len() as u64)
+}
+
+// Whether a list ends there.
+fn ends_at(offset: u64, size: u64, end: u64) -> bool
+    ensures { IsTrue result → offset + size ≡ end }
+{
+    match offset.checked_add(size) {
+        Some(sum) => sum == end,
+        None => false,
+    }
+}
+
+fn are_null_lists_empty(sizes: &[u64], validity: &Validity) -> bool
+    requires { HasLength (valid_of validity.now) (length sizes.now) }
+    ensures { IsTrue result → (i : ℕ) → i < length sizes.now
+        → is_valid (valid_of validity.now) i ≡ false → slice_index_or sizes.now i 0 ≡ 0 }
+{
+    if let Some(bits) = packed_rows(validity) {
+        return are_empty_where_false(sizes, bits);
+    }
+    match validity {
+        Validity::NonNullable => true,
+        Validity::AllValid => true,
+        Validity::AllInvalid => are_empty_where_null(sizes, validity),
+        Validity::Array(_) => are_empty_where_null(sizes, validity),
+    }
+}
+
+#[tactic(auto, using(crate::proofs::ListLemmas::empty_lists))]
+fn are_empty_where_null(sizes: &[u64], validity: &Validity) -> bool
+    requires { HasLength (valid_of validity.now) (length sizes.now) }
+    ensures { IsTrue result → (i : ℕ) → i < length sizes.now
+        → is_valid (valid_of validity.now) i ≡ false → slice_index_or sizes.now i 0 ≡ 0 }
+{
+    for i in 0..sizes.len() {
+        let is_valid = validity.is_valid(i, sizes.len());
+        if !is_valid_or_empty(is_valid, sizes[i]) {
+            return false;
+        }
+    }
+    true
+}
+
+// Whether each list whose bit is false has no elements.
+#[tactic(auto, using(crate::proofs::ListLemmas::empty_lists))]
+fn are_empty_where_false(sizes: &[u64], bits: &BitBuffer) -> bool
+    requires { length bits.now ≡ length sizes.now }
+    ensures { IsTrue result → (i : ℕ) → i < length sizes.now
+        → is_valid (by_array (bools bits.now required)) i ≡ false
+        → slice_index_or sizes.now i 0 ≡ 0 }
+{
+    for i in 0..sizes.len() {
+        if !is_valid_or_empty(bits.value(i), sizes[i]) {
+            return false;
+        }
+    }
+    true
+}
+
+fn is_valid_or_empty(is_valid: bool, size: u64) -> bool
+    ensures { IsTrue result → is_valid ≡ false → size ≡ 0 }
+{
+    is_valid || size == 0
 }
 
 /// Whether the lists have this size, and stand end to end from the first of these elements to the

@@ -85,7 +85,7 @@ fn cast_items<T: NativePType, U: LowBits>(
 }
 
 // Whether there is a range, and the type holds all of it.
-fn holds_range<U: NativePType>(range: Option<(i128, i128)>) -> bool
+fn holds_range<U: LowBits>(range: Option<(i128, i128)>) -> bool
     ensures { result ≡ holds_range U.kind range }
 {
     match range {
@@ -95,7 +95,7 @@ fn holds_range<U: NativePType>(range: Option<(i128, i128)>) -> bool
 }
 
 // Whether the other type holds each of the items.
-fn holds_all<T: NativePType, U: NativePType>(items: &[T]) -> bool
+fn holds_all<T: NativePType, U: LowBits>(items: &[T]) -> bool
     ensures { result ≡ list_all (in_range U.kind) (map T.integer items.now) }
 {
     items
@@ -103,10 +103,12 @@ fn holds_all<T: NativePType, U: NativePType>(items: &[T]) -> bool
         .fold(true, |all, item| all & holds::<U>(item.get()))
 }
 
-fn holds<U: NativePType>(number: i128) -> bool
+// Whether the type holds the number. Only the low bits are compared, of many numbers at once.
+#[tactic(auto, using(crate::proofs::LowBitsLemmas::held_where_same))]
+fn holds<U: LowBits>(number: i128) -> bool
     ensures { result ≡ in_range U.kind number }
 {
-    U::of(number).is_some()
+    U::of_low_bits(number).get() == number
 }
 
 // The items as those of the other type, as by Rust's `as`.

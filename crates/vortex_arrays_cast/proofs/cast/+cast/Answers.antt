@@ -5,7 +5,7 @@ use Rattle.vortex_dtype_ptype.specs.View.{nullability_of_flag}
 use Rattle.vortex_dtype_core.specs.View.{type_of, fields_of, fields_in}
 use Rattle.vortex_dtype_core.proofs.Views.{type_of-List, type_of-FixedSizeList, type_of-Struct}
 use Rattle.vortex_dtype_fields.specs.Records.{names_of}
-use Rattle.vortex_arrays_model.specs.Layout.{dictionary, fixed_lists, list_views, records, len_of, size_of, row_at, IsSound}
+use Rattle.vortex_arrays_model.specs.Layout.{fixed_lists, list_views, records, len_of, size_of, row_at, IsSound}
 use Rattle.vortex_arrays_model.specs.Parts.{columns_of}
 use Rattle.vortex_arrays_model.proofs.PicksLemmas.{field_size}
 use Rattle.vortex_model.specs.Content.{tuple}
