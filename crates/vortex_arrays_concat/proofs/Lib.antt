@@ -1,3 +1,5 @@
+pub mod ColumnLemmas
+pub mod RecordLemmas
 pub mod RowLemmas
 pub mod TypeLemmas
 pub mod ValidityLemmas

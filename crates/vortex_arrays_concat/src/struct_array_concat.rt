@@ -7,8 +7,9 @@ ghost use Rattle.vortex_arrays_builder.specs.Types.{HasPlain, IsPlainLayout};
 ghost use Rattle.vortex_arrays_concat.specs.EndToEnd.{AreOfType, IsConcatenation, IsConcatFault};
 
 use crate::plain_types::has_plain;
+use crate::records::concat_records;
 use crate::rows::{count_rows, lend, rows_of};
-use std::alloc::Global;
+use std::alloc::{AllocError, Global};
 use vortex_arrays_builder::plain::build_plain;
 use vortex_arrays_core::array::ArrayRef;
 use vortex_arrays_struct::struct_array::StructArray;
@@ -46,8 +47,9 @@ impl StructArrayConcat for StructArray {
     }
 }
 
-// The records of the arrays as an array of any layout.
-#[tactic(auto, using(crate::proofs::RowLemmas::whole))]
+// The records of the arrays as an array of any layout: field by field where their columns can be
+// set end to end, else by the values of all rows.
+#[tactic(auto, using(crate::proofs::RecordLemmas::whole))]
 fn concat(alloc: Global, arrays: &[StructArray]) -> Result<ArrayRef, ArrayError>
     ensures made { IfOk result (λ a. IsConcatenation arrays.now a) }
     ensures layout { IfOk result (λ a. IsPlainLayout a) }
@@ -59,6 +61,37 @@ fn concat(alloc: Global, arrays: &[StructArray]) -> Result<ArrayRef, ArrayError>
     let Some(count) = count_rows(arrays) else {
         return Err(ArrayError::Total);
     };
+    let shared = share(alloc, arrays)?;
+    if let Some(array) = concat_records(alloc, shared.as_slice(), count)? {
+        return Ok(array);
+    }
+    concat_rows(alloc, dtype, arrays, count)
+}
+
+// The same arrays, shared, as arrays of any layout.
+fn share(alloc: Global, arrays: &[StructArray]) -> Result<Vec<ArrayRef>, AllocError>
+    ensures { IfOk result (λ shared. shared.items ≡ arrays.now) }
+{
+    let mut shared = Vec::with_capacity(alloc, arrays.len())?;
+    for array in arrays {
+        shared.push(array.as_array().clone()?)?;
+    }
+    Ok(shared)
+}
+
+// The records of the arrays, of which there are so many together, by the values of all rows.
+#[tactic(auto, using(crate::proofs::RowLemmas::whole))]
+fn concat_rows(
+    alloc: Global,
+    dtype: &DType,
+    arrays: &[StructArray],
+    count: usize,
+) -> Result<ArrayRef, ArrayError>
+    requires { AreOfType arrays.now (type_of dtype.now) }
+    ensures made { IfOk result (λ a. IsConcatenation arrays.now a) }
+    ensures layout { IfOk result (λ a. IsPlainLayout a) }
+    ensures refused { IfErr result (λ e. IsConcatFault e arrays.now) }
+{
     let rows = rows_of(alloc, arrays, count)?;
     let lent = lend(alloc, rows.as_slice())?;
     build_plain(alloc, dtype, lent.as_slice())

@@ -80,9 +80,13 @@ fn count_rows(parts: &[(Validity, usize)]) -> Option<usize>
     Some(rows)
 }
 
-// The validities end to end, of so many rows together.
+/// The validities end to end, of so many rows together.
 #[tactic(auto, using(crate::proofs::ValidityLemmas::joined))]
-fn join(alloc: Global, parts: &[(Validity, usize)], rows: usize) -> Result<Validity, AllocError>
+pub(crate) fn join(
+    alloc: Global,
+    parts: &[(Validity, usize)],
+    rows: usize,
+) -> Result<Validity, AllocError>
     requires some { 0 < length parts.now }
     requires fit { HaveLengths (parts_of parts.now) }
     requires count { rows ≡ lengths_of_all (parts_of parts.now) }

@@ -1,16 +1,16 @@
-use Rattle.std.proofs.Common.{◌≡◌, map, true, sym, subst, rules}
-use Rattle.std.specs.List.{All}
-use Rattle.vortex_model.specs.Valid.{valid}
+use Rattle.std.proofs.Common.{◌≡◌, rules}
 use Rattle.vortex_dtype_core.specs.View.{type_of}
-use Rattle.vortex_scalar_value.specs.View.{raw_at, raw_in}
 use Rattle.vortex_arrays_concat.specs.EndToEnd.{AreOfType}
-use Rattle.vortex_arrays_concat.proofs.RowLemmas.{valid_lent}
+use Rattle.vortex_arrays_concat.specs.Columns.{IsJoined}
+use Rattle.vortex_arrays_concat.proofs.RecordLemmas.{joined_made}
 use Rattle.vortex_arrays_concat.proofs.struct_array_concat.concat.Goals as goal
 
-pub build_plain-requires-clause-valid : goal.build_plain-requires-clause-valid
-build_plain-requires-clause-valid c =
+pub returns-in-Some-2-clause-made : goal.returns-in-Some-2-clause-made
+returns-in-Some-2-clause-made c =
+    let ls = c.args.arrays.now in
+    let shared = c.as_slice.result.now in
     let k = type_of c.in-Some.dtype.now in
-    let t : AreOfType c.args.arrays.now k = search rules in
-    let e : map raw_at c.in_ok-lent.lent.items ≡ map raw_in c.in_ok-rows.rows.items = search rules in
-    subst (All (λ value. valid k (raw_at value) ≡ true)) (sym c.as_slice-2.ensures.value)
-    (valid_lent k c.in_ok-rows.rows.items c.in_ok-lent.lent.items e (c.in_ok-rows.ensures.valid k t.kinds))
+    let kinds : AreOfType ls k = search rules in
+    let same : shared ≡ ls = search rules in
+    let joined : IsJoined shared c.in-Some-2.array = search rules in
+    joined_made ls shared k c.in-Some-2.array kinds same joined
