@@ -1,8 +1,9 @@
 -- Masks of which the valid rows are kept, run by run.
-use Rattle.std.proofs.Common.{◌≡◌, refl, sym, ap, ◌∙◌, subst, ℕ, zero, suc, ◌+◌, ◌-◌, ◌≤◌, Bool, true, false, ◌&&◌, ◌||◌, ◌<◌, List, [], ◌∷◌, ◌++◌, length, get_or, take, drop, map, arith}
+use Rattle.std.proofs.Common.{◌≡◌, refl, sym, ap, ◌∙◌, subst, ℕ, zero, suc, ◌+◌, ◌-◌, ◌≤◌, Bool, true, false, ◌&&◌, ◌||◌, ◌<◌, List, [], ◌∷◌, ◌++◌, length, get_or, take, drop, map, arith, Option, Some, None}
 use Rattle.std.specs.List.{zip, list_any, slice_range}
+use Rattle.std.specs.Borrow.{Bor}
 use Rattle.std.proofs.lemmas.List.{take_more, get_or-drop, length-drop}
-use Rattle.vortex_stats_mask.specs.Columns.{kept_first}
+use Rattle.vortex_stats_mask.specs.Columns.{both_rows, kept, kept_first}
 use Rattle.vortex_stats_mask.proofs.Changed.{changed_length, cut_beside}
 
 -- ---- whether a mask has a row of a run
@@ -77,3 +78,27 @@ swapped_beside (m ∷ ms) (v ∷ vs) = λ i. and_swapped m v i ∷ swapped_besid
 
 pub kept_beside : (ms vs : List Bool) → map (λ p. p.0 && p.1) (zip (take (length vs) ms) vs) ≡ map (λ p. p.0 && p.1) (zip vs ms)
 kept_beside ms vs = cut_beside (λ (m : Bool) (v : Bool). m && v) ms vs ∙ swapped_beside ms vs
+
+-- what two masks have, of which the valid rows are kept
+kept_valid : (vs ms rows : List Bool) → map (λ p. p.0 && p.1) (zip vs (both_rows ms rows)) ≡ both_rows ms (map (λ p. p.0 && p.1) (zip vs rows))
+kept_valid [] [] rows = refl
+kept_valid [] (m ∷ ms) rows = refl
+kept_valid (v ∷ vs) [] rows = refl
+kept_valid (v ∷ vs) (m ∷ ms) [] = refl
+kept_valid (v ∷ vs) (m ∷ ms) (r ∷ rows) = λ i. one v m r i ∷ kept_valid vs ms rows i
+  where
+    one : (v m r : Bool) → (v && (m && r)) ≡ (m && (v && r))
+    one true m r = refl
+    one false true r = refl
+    one false false r = refl
+
+pub kept_both : (o : Option (Bor (List Bool))) (ms rows : List Bool) → kept o (both_rows ms rows) ≡ both_rows ms (kept o rows)
+kept_both None ms rows = refl
+kept_both (Some vs) ms rows = kept_valid vs.now ms rows
+
+-- rows of a mask beyond what stands beside them have no part in it
+pub cut_both : {A : Type 0} (f : A → Bool) (ms : List Bool) (xs : List A) → both_rows (take (length xs) ms) (map f xs) ≡ both_rows ms (map f xs)
+cut_both f [] [] = refl
+cut_both f (m ∷ ms) [] = refl
+cut_both f [] (x ∷ xs) = refl
+cut_both f (m ∷ ms) (x ∷ xs) = ap (λ ys. (m && f x) ∷ ys) (cut_both f ms xs)

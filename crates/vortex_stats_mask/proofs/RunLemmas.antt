@@ -1,7 +1,8 @@
 -- Masks whose rows are told one by one.
-use Rattle.std.proofs.Common.{◌≡◌, ℕ, ◌+◌, ◌*◌, ◌<◌, ◌≤◌, ◌≢◌, inl, inr, Result, Ok, Err, IfOk, List, [], ◌∷◌, Bool, false, length, get_or, set, map, replicate, refl, sym, ap, subst, ◌∙◌, arith}
+use Rattle.std.proofs.Common.{◌≡◌, ℕ, ◌+◌, ◌<◌, ◌≤◌, inl, inr, Result, Ok, Err, IfOk, List, [], ◌∷◌, Bool, false, ◌&&◌, suc, zero, length, get_or, set, map, replicate, refl, sym, subst, ◌∙◌, arith}
 use Rattle.std.proofs.lemmas.Bool.{cases_eq}
 use Rattle.std.proofs.lemmas.List.{ext_get_or, get_or-map, get_or-set_same, get_or-set_other, length-map, length-set, length-replicate}
+use Rattle.vortex_stats_mask.specs.Columns.{both_rows}
 use Rattle.vortex_stats_mask.specs.Runs.{Says}
 
 pub said_none : (P : ℕ → Bool → Type 0) (many : ℕ) → Says P (replicate many false) 0 many
@@ -34,3 +35,38 @@ told_all f (x ∷ xs) bs e h =
     ext_get_or false bs (map f (x ∷ xs)) (e ∙ sym (length-map (x ∷ xs) f)) (λ k l.
     let m : k < length (x ∷ xs) = subst (λ n. k < n) e l in
     h k x m ∙ sym (get_or-map f (x ∷ xs) k x false m))
+
+-- ---- masks whose rows are told anew
+
+-- the first n rows are as P says beside what they were, and the others as they were
+pub record Retold (P : ℕ → Bool → Bool → Type 0) (all mask : List Bool) (n : ℕ) : Type 0 where
+  pub rows : (i : ℕ) → i < n → P i (get_or all i false) (get_or mask i false)
+  pub rest : (i : ℕ) → n ≤ i → get_or mask i false ≡ get_or all i false
+  pub count : length mask ≡ length all
+
+pub retold_none : (P : ℕ → Bool → Bool → Type 0) (all : List Bool) → Retold P all all 0
+retold_none P all = record { rows = λ i l. absurd (omega arith); rest = λ i l. refl; count = refl }
+
+pub retold_more : (P : ℕ → Bool → Bool → Type 0) (all mask : List Bool) (n : ℕ) (b : Bool) → n < length all → P n (get_or mask n false) b → Retold P all mask n → Retold P all (set mask n b) (n + 1)
+retold_more P all mask n b l holds s = record {
+  rows = λ i h. elim (cases_eq i n) [
+    | inl e ↦ subst (λ k. P k (get_or all k false) (get_or (set mask n b) k false)) (sym e)
+        (subst (P n (get_or all n false)) (sym (get_or-set_same mask n b false (omega (arith, s.count))))
+        (subst (λ was. P n was b) (s.rest n (omega arith)) holds))
+    | inr d ↦ subst (P i (get_or all i false)) (sym (get_or-set_other mask n i b false d)) (s.rows i (omega arith))
+  ];
+  rest = λ i h. get_or-set_other mask n i b false (λ e. absurd (omega (arith, e, h))) ∙ s.rest i (omega arith);
+  count = length-set mask n b ∙ s.count;
+}
+
+pub ruleset retold = (retold_none, retold_more)
+
+-- each row beside a test of what stands there
+pub told_beside : {A : Type 0} (f : A → Bool) (old new : List Bool) (xs : List A) → length new ≡ length old → length old ≤ length xs →
+    ((i : ℕ) (d : A) → i < length old → get_or new i false ≡ (get_or old i false && f (get_or xs i d))) → new ≡ both_rows old (map f xs)
+told_beside f [] [] xs e h t = refl
+told_beside f [] (n ∷ ns) xs e h t = absurd (omega (arith, e))
+told_beside f (o ∷ os) [] xs e h t = absurd (omega (arith, e))
+told_beside f (o ∷ os) (n ∷ ns) [] e h t = absurd (omega (arith, h))
+told_beside f (o ∷ os) (n ∷ ns) (x ∷ xs) e h t = λ i. t zero x (omega arith) i
+    ∷ told_beside f os ns xs (omega (arith, e)) (omega (arith, h)) (λ k d l. t (suc k) d (omega (arith, l))) i

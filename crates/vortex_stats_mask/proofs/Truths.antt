@@ -1,9 +1,9 @@
 -- The wanted truths of connectives and comparisons.
-use Rattle.std.proofs.Common.{◌≡◌, refl, sym, ap, ◌∙◌, Bool, true, false, not, ◌&&◌, ◌||◌, if◌then◌else◌, Option, Some, None, option_map}
+use Rattle.std.proofs.Common.{◌≡◌, refl, sym, ap, ◌∙◌, Bool, true, false, not, ◌||◌, if◌then◌else◌, Option, Some, None, option_map}
 use Rattle.std.specs.declared.cmp.Ordering.{Ordering}
 use Rattle.std.specs.declared.cmp.Ordering.TheVariants.{Less, Equal, Greater}
 use Rattle.std.specs.Ordering.{ordering_reverse}
-use Rattle.vortex_model.specs.Content.{Content, null, boolean, integer, text, byte_string, tuple, tagged, scalar, is_null}
+use Rattle.vortex_model.specs.Content.{Content, null, boolean, is_null}
 use Rattle.vortex_model.specs.Order.{content_cmp}
 use Rattle.vortex_model_table.specs.Expression.{Comparison, equal, not_equal, greater, at_least, less, at_most}
 use Rattle.vortex_model_table.specs.Truth.{test_of, compared, kleene_and, kleene_or, kleene_not, is_true}
@@ -124,3 +124,7 @@ pub compared_swapped : (op : Comparison) (c d : Content) → compared op c d ≡
 compared_swapped op c d =
     (λ i. if or_swapped (is_null c) (is_null d) i then null else swapped_by_order op (content_cmp c d) i)
     ∙ (λ i. if is_null d || is_null c then null else by_order (swapped op) (sym (reversed c d) i))
+
+pub wanted_true : (c : Content) → is_true c ≡ is_wanted true c
+wanted_true (boolean b) = refl
+wanted_true c = refl

@@ -1,5 +1,5 @@
 -- The contents of a leaf column, and masks of its rows.
-use Rattle.std.specs.Prelude.{ℕ, List, length, map, take, drop, ◌++◌, Option, Some, None, Bool, true, false, cond, ◌&&◌}
+use Rattle.std.specs.Prelude.{ℕ, List, map, take, drop, ◌++◌, Option, Some, None, Bool, true, false, cond, ◌&&◌}
 use Rattle.std.specs.List.{zip}
 use Rattle.std.specs.Borrow.{Bor}
 use Rattle.vortex_model.specs.Content.{Content, null, boolean, integer, text, byte_string}
@@ -59,3 +59,7 @@ kept (Some vs) mask = map (λ p. p.0 && p.1) (zip vs.now mask)
 -- a mask of which the first n rows are kept where they are valid
 abbrev pub kept_first : ℕ → List Bool → List Bool → List Bool
 kept_first n vs mask = map (λ p. p.0 && p.1) (zip (take n mask) (take n vs)) ++ drop n mask
+
+-- the rows that both masks have
+abbrev pub both_rows : List Bool → List Bool → List Bool
+both_rows xs ys = map (λ p. p.0 && p.1) (zip xs ys)

@@ -7,12 +7,14 @@ ghost use Rattle.vortex_arrays_buffer.specs.PrimitiveBuffers.{integers_of};
 ghost use Rattle.vortex_scalar_value.specs.View.{content_at};
 ghost use Rattle.vortex_stats_expr.specs.Tree.{comparison_of};
 ghost use Rattle.vortex_stats_mask.specs.Columns.{values_of, contents_of, column_of};
+ghost use Rattle.vortex_stats_mask.specs.Wanted.{is_wanted};
 
 use crate::column::{Column, Items, Strings};
 use crate::literal;
 use crate::masks::{keep_valid, no_rows};
 use crate::numbers::compare_numbers;
 use crate::strings::compare_strings;
+use crate::turned::wanted;
 use std::alloc::{AllocError, Global};
 use vortex_arrays_buffer::primitive_buffer::PrimitiveBuffer;
 use vortex_scalar_value::scalar_value::ScalarValue;
@@ -130,4 +132,19 @@ pub fn compare_literal(
 {
     let mask = compare_items(alloc, comparison, &column.items, literal)?;
     Ok(keep_valid(mask, column.validity))
+}
+
+/// For which rows of a column the comparison with a literal has the wanted truth.
+pub fn compare_wanted(
+    alloc: Global,
+    comparison: Comparison,
+    want: bool,
+    column: &Column<'_>,
+    literal: Option<&ScalarValue>,
+) -> Result<Vec<bool>, AllocError>
+    ensures { IfOk result (λ mask. mask.items ≡ map
+        (λ c. is_wanted want (compared (comparison_of comparison) c (content_at literal.entry)))
+        (column_of column.now)) }
+{
+    compare_literal(alloc, wanted(comparison, want), column, literal)
 }

@@ -6,6 +6,7 @@ pub mod compare;
 pub mod laws;
 mod literal;
 pub mod masks;
+pub mod narrow;
 pub mod numbers;
 pub mod pairs;
 mod runs;

@@ -58,29 +58,35 @@ pub fn no_rows(alloc: Global, len: usize) -> Result<Vec<bool>, AllocError>
 pub fn keep_valid(mask: Vec<bool>, validity: Option<&BitBuffer>) -> Vec<bool>
     ensures { result.items ≡ kept validity.entry mask.items }
 {
+    let mut mask = mask;
+    narrow_valid(&mut mask, validity);
+    mask
+}
+
+/// Keeps the valid rows of a mask.
+pub fn narrow_valid(mask: &mut Vec<bool>, validity: Option<&BitBuffer>)
+    ensures { mask.new.items ≡ kept validity.entry mask.old.items }
+{
     match validity {
         Some(valid) => {
-            let mut mask = mask;
             mask.truncate(valid.len());
-            keep_bits(mask, valid)
+            keep_bits(mask, valid);
         }
-        None => mask,
+        None => {}
     }
 }
 
-// The rows of a mask whose bits are true.
-fn keep_bits(mask: Vec<bool>, bits: &BitBuffer) -> Vec<bool>
-    requires { length mask.items ≤ length bits.now }
-    ensures { result.items ≡ map (λ p. p.0 && p.1) (zip mask.items bits.now) }
+// Keeps the rows of a mask whose bits are true.
+fn keep_bits(mask: &mut Vec<bool>, bits: &BitBuffer)
+    requires { length mask.old.items ≤ length bits.now }
+    ensures { mask.new.items ≡ map (λ p. p.0 && p.1) (zip mask.old.items bits.now) }
 {
-    let mut mask = mask;
     let runs = mask.len() / 16;
     for k in 0..runs {
-        keep_run(&mut mask, bits, 16 * k, 16 * k + 16);
+        keep_run(mask, bits, 16 * k, 16 * k + 16);
     }
     let len = mask.len();
-    keep_rows(&mut mask, bits, 16 * runs, len);
-    mask
+    keep_rows(mask, bits, 16 * runs, len);
 }
 
 // Keeps the rows of a run whose bits are true. Most runs of a mask have no row, which is seen of

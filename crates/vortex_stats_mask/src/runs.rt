@@ -1,5 +1,5 @@
 //! Tests of rows one by one, in runs of sixteen without a branch.
-ghost use Rattle.std.specs.Prelude.{◌≡◌, ◌<◌, ◌≤◌, ◌+◌, ◌^◌, ℕ, false, length, slice_index_or, IfOk};
+ghost use Rattle.std.specs.Prelude.{◌≡◌, ◌<◌, ◌≤◌, ◌+◌, ◌^◌, ℕ, Bool, false, length, slice_index_or, IfOk};
 ghost use Rattle.vortex_stats_mask.specs.Runs.{Says};
 
 use std::alloc::{AllocError, Global};
@@ -36,5 +36,19 @@ fn test_run<F: Fn(usize) -> bool>(mask: &mut Vec<bool>, f: &F, first: usize, n: 
 {
     for j in 0..n {
         mask[first + j] = f(first + j);
+    }
+}
+
+/// Tells the rows of a mask anew: what `f` says of each and of what the mask told of it.
+#[tactic(auto, using(crate::proofs::RunLemmas::retold))]
+#[inline(always)]
+pub(crate) fn retell_rows<F: Fn(usize, bool) -> bool>(mask: &mut Vec<bool>, f: F)
+    requires { (i : ℕ) (row : Bool) → i < length mask.old.items → F.pre f i row }
+    ensures count { length mask.new.items ≡ length mask.old.items }
+    ensures rows { (i : ℕ) → i < length mask.old.items → F.post f i
+        (slice_index_or mask.old.items i false) (slice_index_or mask.new.items i false) }
+{
+    for i in 0..mask.len() {
+        mask[i] = f(i, mask[i]);
     }
 }

@@ -1,5 +1,5 @@
 -- What masks say of the rows that are asked about.
-use Rattle.std.proofs.Common.{◌≡◌, refl, sym, ap, ◌∙◌, subst, Bool, true, false, not, ◌&&◌, ◌≤◌, List, [], ◌∷◌, length, map, arith, Option, Some, None, option_map}
+use Rattle.std.proofs.Common.{◌≡◌, refl, sym, ap, ◌∙◌, Bool, true, false, not, ◌&&◌, ◌≤◌, List, [], ◌∷◌, length, map, arith, Option, Some, None}
 use Rattle.std.specs.Prelude.{Result, IfOk, IfSome, Vec}
 use Rattle.std.specs.List.{zip}
 use Rattle.std.specs.declared.alloc.Global.{Global}
@@ -10,8 +10,8 @@ use Rattle.vortex_stats_bind.specs.Bound.{Bound, each, some, bound_value}
 use Rattle.vortex_stats_mask.specs.Wanted.{joined_by, is_wanted}
 use Rattle.vortex_stats_mask.proofs.Truths.{wanted_of_and, wanted_of_or}
 use Rattle.vortex_stats_select.specs.declared.asked.Asked.{Asked}
-use Rattle.vortex_stats_select.specs.Asked.{leaves_open, open_rows, seen, seen_behind}
-use Rattle.vortex_stats_select.specs.Wants.{wanted_rows, joined_masks}
+use Rattle.vortex_stats_select.specs.Asked.{leaves_open, open_rows, seen}
+use Rattle.vortex_stats_select.specs.Wants.{wanted_rows}
 use Rattle.vortex_stats_select.proofs.PairLemmas.{paired}
 
 -- what is told of all rows is told of those
@@ -98,23 +98,13 @@ asked_matters (Some a) join xs ys = over a.at a.mask.now xs ys
     over at (m ∷ ms) (x ∷ xs) [] = refl
     over at (m ∷ ms) (x ∷ xs) (y ∷ ys) = λ i. one (leaves_open at m) x y i ∷ over at ms xs ys i
 
-pub parts_seen : (asked : Option Asked) (join : Bool) (xs ys : List Bool) (left right found : Option (Vec Bool Global)) →
-    IfSome left (λ mask. seen asked mask.items ≡ seen asked xs) → IfSome right (λ mask. seen_behind join left mask.items ≡ seen_behind join left ys) →
-    option_map (λ mask. mask.items) found ≡ joined_masks join left right → IfSome found (λ mask. seen asked mask.items ≡ seen asked (map (λ p. joined_by join p.0 p.1) (zip xs ys)))
-parts_seen asked join xs ys left right None l r e = tt
-parts_seen asked join xs ys None right (Some m) l r e = absurd (cc (e))
-parts_seen asked join xs ys (Some x) None (Some m) l r e = absurd (cc (e))
-parts_seen asked join xs ys (Some x) (Some y) (Some m) l r e =
-    let same : m.items ≡ joined_rows join x.items y.items = cc (e) in
-    ap (seen asked) (same ∙ open_matters join x.items y.items ∙ ap (joined_rows join x.items) r ∙ sym (open_matters join x.items ys))
-    ∙ asked_matters asked join x.items ys ∙ ap (λ rows. seen asked (joined_rows join rows ys)) l ∙ sym (asked_matters asked join xs ys)
+-- so of the first part what is told of those rows is enough
+pub first_seen : (asked : Option Asked) (join : Bool) (mask xs ys : List Bool) → seen asked mask ≡ seen asked xs → seen asked (joined_rows join mask ys) ≡ seen asked (joined_rows join xs ys)
+first_seen asked join mask xs ys l = asked_matters asked join mask ys ∙ ap (λ rows. seen asked (joined_rows join rows ys)) l ∙ sym (asked_matters asked join xs ys)
 
--- what is asked of the second part, by what the first told
-pub asked_behind : (asked : Option Asked) (join : Bool) (left right : Option (Vec Bool Global)) (ys : List Bool) →
-    ((rows : List Bool) → seen asked rows ≡ seen_behind join left rows) → IfSome right (λ mask. seen asked mask.items ≡ seen asked ys) →
-    IfSome right (λ mask. seen_behind join left mask.items ≡ seen_behind join left ys)
-asked_behind asked join left None ys e h = tt
-asked_behind asked join left (Some m) ys e h = sym (e m.items) ∙ h ∙ e ys
+-- and of the second what is told of the rows that the first leaves open
+pub last_seen : (join : Bool) (mask rows ys : List Bool) → open_rows join mask rows ≡ open_rows join mask ys → joined_rows join mask rows ≡ joined_rows join mask ys
+last_seen join mask rows ys e = open_matters join mask rows ∙ ap (joined_rows join mask) e ∙ sym (open_matters join mask ys)
 
 -- ---- connectives, whichever part comes first
 

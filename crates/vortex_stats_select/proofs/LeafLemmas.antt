@@ -1,6 +1,6 @@
 -- The rows of arrays that are laid out plain, as leaf columns.
 use Rattle.std.proofs.Common.{◌≡◌, sym, ap, subst, ◌∙◌, ℕ, ℤ, pos, Bool, true, false, cond, List, [], length, map, get_or, Option, Some, None}
-use Rattle.std.specs.Prelude.{MatchOption}
+use Rattle.std.specs.Prelude.{IfSome, MatchOption}
 use Rattle.std.specs.List.{zip, range_with_len}
 use Rattle.std.proofs.lemmas.List.{length-map, get_or-map}
 use Rattle.std.proofs.lemmas.List.FromFn.{fill_by_all}
@@ -36,3 +36,10 @@ module _ (v : Valid) (n : ℕ) (o : Option (List Bool)) (told : MatchOption o ((
   strings_shown s vs bs e =
       ap (shown_by o) (through (string_content s) (λ x. value_of x bs) vs)
       ∙ leaf_made (λ x. string_content s (value_of x bs)) [] vs v o (subst (λ n. MatchOption o ((i : ℕ) → is_valid v i ≡ true) (λ rows. rows ≡ map (is_valid v) (range_with_len 0 n))) (sym e) told)
+
+-- what is told of a validity that can be shared
+pub shared_told : (v : Valid) (n : ℕ) (shared : Option (Option (List Bool))) (o : Option (List Bool)) → shared ≡ Some o →
+    IfSome shared (λ found. MatchOption found ((i : ℕ) → is_valid v i ≡ true) (λ rows. rows ≡ map (is_valid v) (range_with_len 0 n))) →
+    MatchOption o ((i : ℕ) → is_valid v i ≡ true) (λ rows. rows ≡ map (is_valid v) (range_with_len 0 n))
+shared_told v n shared o e h =
+    subst (λ s. IfSome s (λ found. MatchOption found ((i : ℕ) → is_valid v i ≡ true) (λ rows. rows ≡ map (is_valid v) (range_with_len 0 n)))) e h

@@ -1,5 +1,5 @@
 -- Comparisons of operands.
-use Rattle.std.proofs.Common.{◌≡◌, refl, sym, ap, ◌∙◌, ℕ, zero, suc, Bool, true, false, List, ◌∷◌, length, map, replicate, Option, option_copied, Bor}
+use Rattle.std.proofs.Common.{◌≡◌, refl, sym, ap, ◌∙◌, ℕ, zero, suc, Bool, List, ◌∷◌, length, map, replicate, Option, option_copied, Bor}
 use Rattle.std.specs.List.{zip, range_with_len}
 use Rattle.std.proofs.lemmas.Simd.{splat_is_map}
 use Rattle.std.proofs.lemmas.List.FromFn.{length-range_with_len}
@@ -11,10 +11,9 @@ use Rattle.vortex_scalar_value.specs.View.{raw_at, raw_in}
 use Rattle.vortex_scalar_value.specs.declared.scalar_value.ScalarValue.{ScalarValue}
 use Rattle.vortex_scalar_value.proofs.Sizes.{raw_at-copied}
 use Rattle.vortex_arrays_model.specs.Layout.{constant, rows_of}
-use Rattle.vortex_stats_mask.specs.Wanted.{is_wanted, negated, swapped}
-use Rattle.vortex_stats_mask.proofs.Truths.{compared_swapped, wanted_false}
+use Rattle.vortex_stats_mask.specs.Wanted.{swapped}
+use Rattle.vortex_stats_mask.proofs.Truths.{compared_swapped}
 use Rattle.vortex_stats_select.proofs.PairLemmas.{beside, beside_left, alike}
-use Rattle.vortex_stats_select.proofs.WantLemmas.{wanted_true}
 
 pub constant_rows : (k : LogicalType) (r : Raw) (n : ℕ) → rows_of (constant k r n) ≡ replicate n (content_of r)
 constant_rows k r n = sym (splat_is_map (range_with_len 0 n) n (content_of r) (length-range_with_len 0 n))
@@ -30,20 +29,6 @@ module _ (op : Comparison) (n : ℕ) where
 
   pub value_with_value : (c d : Content) → replicate n (is_true (compared op c d)) ≡ map (λ p. is_true (compared op p.0 p.1)) (zip (replicate n c) (replicate n d))
   value_with_value c d = sym (alike (λ c d. is_true (compared op c d)) c d n)
-
--- a comparison at both truths
-pub true_wanted : (op : Comparison) (ps : List (Content × Content)) → map (λ p. is_true (compared op p.0 p.1)) ps ≡ map (λ p. is_wanted true (compared op p.0 p.1)) ps
-true_wanted op ps = λ i. map (λ p. wanted_true (compared op p.0 p.1) i) ps
-
-pub false_wanted : (op : Comparison) (ps : List (Content × Content)) → map (λ p. is_true (compared (negated op) p.0 p.1)) ps ≡ map (λ p. is_wanted false (compared op p.0 p.1)) ps
-false_wanted op ps = λ i. map (λ p. sym (wanted_false op p.0 p.1) i) ps
-
--- and of each row with one value
-pub true_wanted_with : (op : Comparison) (d : Content) (cs : List Content) → map (λ c. is_true (compared op c d)) cs ≡ map (λ c. is_wanted true (compared op c d)) cs
-true_wanted_with op d cs = λ i. map (λ c. wanted_true (compared op c d) i) cs
-
-pub false_wanted_with : (op : Comparison) (d : Content) (cs : List Content) → map (λ c. is_true (compared (negated op) c d)) cs ≡ map (λ c. is_wanted false (compared op c d)) cs
-false_wanted_with op d cs = λ i. map (λ c. sym (wanted_false op c d) i) cs
 
 -- a test of one value for all rows
 pub tested_alike : (test : Content → Bool) (c : Content) (n : ℕ) → replicate n (test c) ≡ map test (replicate n c)

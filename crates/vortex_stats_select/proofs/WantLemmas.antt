@@ -6,7 +6,7 @@ use Rattle.std.proofs.lemmas.List.{length-map}
 use Rattle.vortex_model.specs.Path.{Positions, at}
 use Rattle.vortex_model_table.specs.ZoneMap.{values_at}
 use Rattle.vortex_model_table.specs.Expression.{Comparison, equal}
-use Rattle.vortex_model_table.specs.Truth.{compared, is_true}
+use Rattle.vortex_model_table.specs.Truth.{compared}
 use Rattle.vortex_stats_bind.specs.Bound.{Bound, opposite, value_test, bound_value}
 use Rattle.vortex_stats_mask.specs.Wanted.{is_wanted}
 use Rattle.vortex_stats_mask.proofs.Truths.{wanted_of_not}
@@ -28,10 +28,6 @@ denied false false = refl
 
 pub value_tested : (want : Bool) (x : Bound) (rows : List Content) → map (λ row. is_wanted (not want) (boolean (is_null (bound_value x row)))) rows ≡ wanted_rows want (value_test x) rows
 value_tested want x rows = λ i. map (λ row. denied want (is_null (bound_value x row)) i) rows
-
-pub wanted_true : (c : Content) → is_true c ≡ is_wanted true c
-wanted_true (boolean b) = refl
-wanted_true c = refl
 
 -- a truth value is the wanted one where it is equal to it
 pub equal_to_wanted : (want : Bool) (c : Content) → is_wanted true (compared equal c (boolean want)) ≡ is_wanted want c

@@ -1,7 +1,6 @@
 -- The rows that one part of AND or OR leaves open, and what a mask says of those.
-use Rattle.std.specs.Prelude.{List, Bool, true, false, not, ◌&&◌, map, Option, Some, None, Vec}
+use Rattle.std.specs.Prelude.{List, Bool, true, false, not, ◌&&◌, map, Option, Some, None}
 use Rattle.std.specs.List.{zip}
-use Rattle.std.specs.declared.alloc.Global.{Global}
 use Rattle.vortex_stats_bind.specs.Bound.{Bound, opposite, match_test}
 use Rattle.vortex_stats_select.specs.declared.asked.Asked.{Asked}
 
@@ -18,11 +17,6 @@ open_rows at mask rows = map (λ p. leaves_open at p.0 && p.1) (zip mask rows)
 abbrev pub seen : Option Asked → List Bool → List Bool
 seen None rows = rows
 seen (Some asked) rows = open_rows asked.at asked.mask.now rows
-
--- what is seen behind the mask of a part
-abbrev pub seen_behind : Bool → Option (Vec Bool Global) → List Bool → List Bool
-seen_behind at None rows = rows
-seen_behind at (Some mask) rows = open_rows at mask.items rows
 
 -- LIKE
 abbrev pub is_match : Bound → Bool

@@ -1,6 +1,6 @@
 //! Rows that one part of AND or OR leaves open, so that the other part decides.
-ghost use Rattle.std.specs.Prelude.{◌≡◌, List, Bool};
-ghost use Rattle.vortex_stats_select.specs.Asked.{leaves_open, is_match, is_late, seen, seen_behind};
+ghost use Rattle.std.specs.Prelude.{◌≡◌, List, Bool, Some};
+ghost use Rattle.vortex_stats_select.specs.Asked.{leaves_open, is_match, is_late, open_rows, seen};
 
 use vortex_stats_bind::bound::{BoundNode, BoundTree};
 
@@ -17,17 +17,11 @@ pub(crate) fn is_open(at: bool, row: bool) -> bool
     if at { row } else { !row }
 }
 
-// The rows that the mask of one part leaves open. All are where there is none.
-pub(crate) fn open_behind(at: bool, mask: &Option<Vec<bool>>) -> Option<Asked<'_>>
-    ensures { (rows : List Bool) → seen result rows ≡ seen_behind at mask.now rows }
+// The rows that the mask of one part leaves open.
+pub(crate) fn open_behind(at: bool, mask: &[bool]) -> Asked<'_>
+    ensures { (rows : List Bool) → seen (Some result) rows ≡ open_rows at mask.now rows }
 {
-    match mask {
-        None => None,
-        Some(mask) => Some(Asked {
-            mask: mask.as_slice(),
-            at,
-        }),
-    }
+    Asked { mask, at }
 }
 
 fn is_match(e: &BoundTree) -> bool

@@ -3,7 +3,9 @@ ghost use Rattle.std.specs.Prelude.{◌≡◌, List, length, IfOk, IfSome};
 ghost use Rattle.vortex_model.specs.Content.{Content};
 ghost use Rattle.vortex_model_table.specs.ZoneMap.{values_at};
 ghost use Rattle.vortex_arrays_model.specs.Layout.{rows_of};
+ghost use Rattle.vortex_stats_select.specs.Leaves.{leaf_rows};
 
+use crate::leaf::Leaf;
 use std::alloc::{AllocError, Global};
 use vortex_arrays_core::array::ArrayRef;
 use vortex_arrays_struct::part::part_at_positions;
@@ -21,6 +23,11 @@ pub trait Columns {
     fn column(&self, alloc: Global, path: &[usize]) -> Result<Option<ArrayRef>, AllocError>
         ensures { IfOk result (λ found. IfSome found
             (λ column. rows_of column ≡ values_at path.now (rows self.now))) };
+
+    /// The leaf column at these positions, where it is kept. `None` says nothing.
+    fn leaf(&self, path: &[usize]) -> Option<&Leaf>
+        ensures { IfSome result
+            (λ leaf. leaf_rows leaf.now ≡ values_at path.now (rows self.now)) };
 }
 
 /// The rows of an array.
@@ -42,5 +49,9 @@ impl Columns for ArrayColumns<'_> {
     #[tactic(auto, using(vortex_arrays_struct::proofs::Parts::part_rows))]
     fn column(&self, alloc: Global, path: &[usize]) -> Result<Option<ArrayRef>, AllocError> {
         part_at_positions(alloc, self.array, path)
+    }
+
+    fn leaf(&self, _path: &[usize]) -> Option<&Leaf> {
+        None
     }
 }

@@ -19,7 +19,7 @@ use vortex_stats_expr::operator::Comparison;
 use vortex_stats_mask::compare::compare_literal;
 use vortex_stats_mask::masks::{both_into, either_into};
 use vortex_stats_mask::pairs::compare_columns;
-use vortex_stats_mask::turned::{negated, swapped};
+use vortex_stats_mask::turned::{swapped, wanted};
 
 fn compare_constants(
     alloc: Global,
@@ -86,16 +86,11 @@ pub(crate) fn compare_wanted_with(
         (λ c. is_wanted want (compared (comparison_of comparison) c (content_at literal.entry)))
         (operand_rows operand.now len)) }
 {
-    let comparison = if want {
-        comparison
-    } else {
-        negated(comparison)
-    };
-    compare_operand(alloc, comparison, operand, literal, len)
+    compare_operand(alloc, wanted(comparison, want), operand, literal, len)
 }
 
 // A mask that is told.
-fn told(mask: Result<Vec<bool>, AllocError>) -> Result<Option<Vec<bool>>, AllocError>
+pub(crate) fn told(mask: Result<Vec<bool>, AllocError>) -> Result<Option<Vec<bool>>, AllocError>
     ensures { (rows : List Bool) → IfOk mask (λ mask. mask.items ≡ rows)
         → IfOk result (λ found. IfSome found (λ mask. mask.items ≡ rows)) }
 {
@@ -159,12 +154,7 @@ pub(crate) fn compare_wanted(
         ≡ map (λ p. is_wanted want (compared (comparison_of comparison) p.0 p.1))
         (zip (operand_rows left.now len) (operand_rows right.now len)))) }
 {
-    let comparison = if want {
-        comparison
-    } else {
-        negated(comparison)
-    };
-    compare_operands(alloc, comparison, left, right, len)
+    compare_operands(alloc, wanted(comparison, want), left, right, len)
 }
 
 // For which rows AND has the wanted truth, where two masks tell it of its parts. OR is AND of the

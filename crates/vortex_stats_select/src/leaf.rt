@@ -6,7 +6,7 @@ ghost use Rattle.vortex_arrays_view.specs.Views.{value_of};
 ghost use Rattle.vortex_stats_mask.specs.Columns.{contents_of, column_of};
 ghost use Rattle.vortex_stats_select.specs.Leaves.{leaf_values, leaf_rows};
 
-use crate::validity::valid_rows_of;
+use crate::validity::{shared_valid_rows, valid_rows_of};
 use bytes::Bytes;
 use std::alloc::{AllocError, Global};
 use std::rc::Rc;
@@ -15,8 +15,8 @@ use vortex_arrays_core::array::{ArrayLayout, ArrayRef, StringKind};
 use vortex_arrays_view::view::BinaryView;
 use vortex_stats_mask::column::{Column, Items, Strings};
 
-// The values of a leaf column. Those of null rows mean nothing.
-pub(crate) enum LeafItems {
+/// The values of a leaf column. Those of null rows mean nothing.
+pub enum LeafItems {
     Bools(Vec<bool>),
     Numbers(PrimitiveBuffer),
     // Views with the buffers that long values lie in.
@@ -35,10 +35,10 @@ impl Drop for LeafItems {
     }
 }
 
-// A leaf column: its values, and which of them are valid, a bit for each, shared with the array
-// that it is of. No validity means all.
+/// A leaf column: its values, and which of them are valid, a bit for each, shared with the array
+/// that it is of. No validity means all.
 #[derive(Drop)]
-pub(crate) struct Leaf {
+pub struct Leaf {
     pub(crate) items: LeafItems,
     pub(crate) validity: Option<BitBuffer>,
 }
@@ -99,6 +99,36 @@ pub(crate) fn leaf_of(alloc: Global, array: &ArrayRef) -> Result<Option<Leaf>, A
             let items = string_items(*kind, views.clone()?, buffers.clone()?);
             Ok(Some(Leaf { items, validity }))
         }
+        ArrayLayout::Constant(_, _) => Ok(None),
+        ArrayLayout::Dict(_, _, _) => Ok(None),
+        ArrayLayout::FixedSizeList(_, _, _, _) => Ok(None),
+        ArrayLayout::ListView(_, _, _, _, _) => Ok(None),
+        ArrayLayout::Struct(_, _, _, _) => Ok(None),
+    }
+}
+
+/// The items of an array as a leaf column that shares them all. `None` also where something would
+/// have to be made: truth values, and validities that aren't laid out plain.
+pub fn shared_leaf(array: &ArrayRef) -> Result<Option<Leaf>, AllocError>
+    ensures { IfOk result
+        (λ found. IfSome found (λ leaf. leaf_rows leaf ≡ rows_of array.now)) }
+{
+    match array.layout() {
+        ArrayLayout::Primitive(numbers, validity) => {
+            let Some(validity) = shared_valid_rows(validity, numbers.len())? else {
+                return Ok(None);
+            };
+            let items = LeafItems::Numbers(numbers.clone()?);
+            Ok(Some(Leaf { items, validity }))
+        }
+        ArrayLayout::VarBinView(kind, views, buffers, validity) => {
+            let Some(validity) = shared_valid_rows(validity, views.len())? else {
+                return Ok(None);
+            };
+            let items = string_items(*kind, views.clone()?, buffers.clone()?);
+            Ok(Some(Leaf { items, validity }))
+        }
+        ArrayLayout::Bool(_, _) => Ok(None),
         ArrayLayout::Constant(_, _) => Ok(None),
         ArrayLayout::Dict(_, _, _) => Ok(None),
         ArrayLayout::FixedSizeList(_, _, _, _) => Ok(None),

@@ -4,9 +4,10 @@
 mod asked;
 pub mod columns;
 mod compare;
-mod leaf;
+pub mod leaf;
 mod like;
 mod matches;
+mod narrow;
 mod nulls;
 mod operand;
 pub mod select;

@@ -5,6 +5,7 @@ ghost use Rattle.vortex_arrays_model.specs.Parts.{AreWithin};
 ghost use Rattle.vortex_model_table.specs.ZoneMap.{values_at};
 ghost use Rattle.vortex_scalar_value.specs.View.{content_at};
 ghost use Rattle.vortex_stats_bind.specs.Bound.{fixed, bound_value};
+ghost use Rattle.vortex_stats_select.specs.Leaves.{leaf_rows};
 ghost use Rattle.vortex_stats_select.specs.Operands.{operand_rows};
 
 use crate::columns::Columns;
@@ -40,6 +41,17 @@ pub(crate) fn literal_of(e: &BoundTree) -> Option<Option<&ScalarValue>>
 {
     match &e.node {
         BoundNode::Literal(value) => Some(value.as_ref()),
+        _ => None,
+    }
+}
+
+// The leaf column that an expression is, where it is kept.
+pub(crate) fn kept_leaf<'a, S: Columns>(e: &BoundTree, columns: &'a S) -> Option<&'a Leaf>
+    ensures { IfSome result
+        (λ leaf. leaf_rows leaf.now ≡ map (bound_value e.now) (S.rows columns.now)) }
+{
+    match &e.node {
+        BoundNode::Column(path) => columns.leaf(path),
         _ => None,
     }
 }

@@ -1,5 +1,5 @@
 //! The rows that have the wanted truth of a predicate, with no truth of three values for any row.
-ghost use Rattle.std.specs.Prelude.{◌≡◌, map, option_map, IfOk, IfSome};
+ghost use Rattle.std.specs.Prelude.{◌≡◌, map, IfOk, IfSome};
 ghost use Rattle.std.specs.List.{zip};
 ghost use Rattle.vortex_model_table.specs.Truth.{compared, kleene_and, end_of};
 ghost use Rattle.vortex_scalar_value.specs.View.{content_at};
@@ -7,19 +7,21 @@ ghost use Rattle.vortex_stats_bind.specs.Bound.{bound_value};
 ghost use Rattle.vortex_stats_expr.specs.Tree.{comparison_of, is_strict};
 ghost use Rattle.vortex_stats_mask.specs.Wanted.{is_wanted, joined_by};
 ghost use Rattle.vortex_stats_select.specs.Asked.{seen};
-ghost use Rattle.vortex_stats_select.specs.Wants.{wanted_rows, joined_masks};
+ghost use Rattle.vortex_stats_select.specs.Wants.{wanted_rows};
 
 use crate::asked::{Asked, is_late, open_behind};
 use crate::columns::Columns;
-use crate::compare::{compare_wanted, compare_wanted_with, join};
+use crate::compare::{compare_wanted, compare_wanted_with, join, told};
 use crate::like::like_test;
+use crate::narrow::{narrow, narrow_comparison};
 use crate::nulls::null_test;
-use crate::operand::{Operand, literal_of, operand_of};
+use crate::operand::{Operand, kept_leaf, literal_of, operand_of};
 use std::alloc::{AllocError, Global};
 use vortex_scalar_value::scalar_value::ScalarValue;
 use vortex_stats_bind::bound::{BoundNode, BoundTree};
 use vortex_stats_expr::operator::Comparison;
 use vortex_stats_expr::options::BetweenOptions;
+use vortex_stats_mask::compare;
 use vortex_stats_mask::turned::swapped;
 
 // A comparison of two expressions. A literal is read where it stands.
@@ -56,6 +58,9 @@ fn literal_comparison<S: Columns>(
         ≡ map (λ row. is_wanted want (compared (comparison_of comparison)
         (bound_value input.now row) (content_at literal.entry))) (S.rows columns.now))) }
 {
+    if let Some(leaf) = kept_leaf(input, columns) {
+        return told(compare::compare_wanted(alloc, comparison, want, &leaf.as_column(), literal));
+    }
     let Some(operand) = operand_of(alloc, input, columns)? else {
         return Ok(None);
     };
@@ -104,7 +109,7 @@ fn truth<S: Columns>(
     Ok(found)
 }
 
-// BETWEEN is AND of two comparisons. Where both ends are literals the value is read once.
+// BETWEEN is AND of two comparisons. A value that isn't kept is read once between literals.
 fn range_test<S: Columns>(
     alloc: Global,
     want: bool,
@@ -121,6 +126,9 @@ fn range_test<S: Columns>(
         (compared (end_of (is_strict options.upper_strict)) (bound_value value.now row)
         (bound_value upper.now row)))) (S.rows columns.now))) }
 {
+    if kept_leaf(value, columns).is_some() {
+        return operand_range(alloc, want, value, lower, upper, options, columns);
+    }
     match (literal_of(lower), literal_of(upper)) {
         (Some(least), Some(greatest)) => {
             literal_range(alloc, want, value, least, greatest, options, columns)
@@ -177,20 +185,15 @@ fn operand_range<S: Columns>(
     let Some(above) = comparison(alloc, above, want, lower, value, columns)? else {
         return Ok(None);
     };
+    let mut mask = above;
     let below = options.upper_strict.to_comparison();
+    if narrow_comparison(&mut mask, want, below, want, value, upper, columns) {
+        return Ok(Some(mask));
+    }
     let Some(below) = comparison(alloc, below, want, value, upper, columns)? else {
         return Ok(None);
     };
-    Ok(Some(join(want, above, &below)))
-}
-
-// Of two masks, where both are told.
-fn join_found(want: bool, left: Option<Vec<bool>>, right: Option<Vec<bool>>) -> Option<Vec<bool>>
-    ensures { option_map (λ mask. mask.items) result ≡ joined_masks want left right }
-{
-    let left = left?;
-    let right = right?;
-    Some(join(want, left, &right))
+    Ok(Some(join(want, mask, &below)))
 }
 
 // The truths of a test that is no connective and no LIKE, whatever rows are open.
@@ -238,9 +241,35 @@ fn both_parts<S: Columns>(
         (zip (wanted_rows want first.now (S.rows columns.now))
         (wanted_rows want last.now (S.rows columns.now)))))) }
 {
-    let left = select_asked(alloc, first, want, asked, columns)?;
-    let right = select_asked(alloc, last, want, open_behind(join, &left), columns)?;
-    Ok(join_found(join, left, right))
+    let Some(mask) = select_asked(alloc, first, want, asked, columns)? else {
+        return Ok(None);
+    };
+    part_behind(alloc, join, want, mask, last, columns)
+}
+
+// The second part beside the mask of the first, which becomes the answer.
+#[cycle(asked)]
+fn part_behind<S: Columns>(
+    alloc: Global,
+    at: bool,
+    want: bool,
+    mask: Vec<bool>,
+    last: &BoundTree,
+    columns: &S,
+) -> Result<Option<Vec<bool>>, AllocError>
+    ensures { IfOk result (λ found. IfSome found (λ all. all.items
+        ≡ map (λ p. joined_by at p.0 p.1)
+        (zip mask.items (wanted_rows want last.now (S.rows columns.now))))) }
+{
+    let mut mask = mask;
+    if narrow(&mut mask, at, last, want, columns) {
+        return Ok(Some(mask));
+    }
+    let asked = open_behind(at, &mask);
+    let Some(rows) = select_asked(alloc, last, want, Some(asked), columns)? else {
+        return Ok(None);
+    };
+    Ok(Some(join(at, mask, &rows)))
 }
 
 // As `select`, of the rows that are open. What it tells of the others means nothing.

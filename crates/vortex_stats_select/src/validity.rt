@@ -1,5 +1,5 @@
 //! Validities, a bit for each row.
-ghost use Rattle.std.specs.Prelude.{◌≡◌, ℕ, true, map, IfOk, MatchOption};
+ghost use Rattle.std.specs.Prelude.{◌≡◌, ℕ, true, map, IfOk, IfSome, MatchOption};
 ghost use Rattle.std.specs.List.{range_with_len};
 ghost use Rattle.vortex_arrays_model.specs.Layout.{is_valid, by_array, len_of, HasLength};
 ghost use Rattle.vortex_arrays_core.specs.LayoutOf.{valid_of};
@@ -24,24 +24,36 @@ fn packed(alloc: Global, rows: &ArrayRef) -> Result<BitBuffer, AllocError>
     BitBuffer::from_bools(alloc, &truths)
 }
 
+// The bits of an array of truth values that is laid out plain, which shares them.
+fn shared_truths(rows: &ArrayRef) -> Result<Option<BitBuffer>, AllocError>
+    requires { HasLength (by_array rows.now) (len_of rows.now) }
+    ensures { IfOk result (λ found. IfSome found (λ truths. truths
+        ≡ map (is_valid (by_array rows.now)) (range_with_len 0 (len_of rows.now)))) }
+{
+    match rows.layout() {
+        ArrayLayout::Bool(bits, _) => {
+            let truths = bits.clone()?;
+            Ok(Some(truths))
+        }
+        ArrayLayout::Primitive(_, _) => Ok(None),
+        ArrayLayout::VarBinView(_, _, _, _) => Ok(None),
+        ArrayLayout::Constant(_, _) => Ok(None),
+        ArrayLayout::Dict(_, _, _) => Ok(None),
+        ArrayLayout::FixedSizeList(_, _, _, _) => Ok(None),
+        ArrayLayout::ListView(_, _, _, _, _) => Ok(None),
+        ArrayLayout::Struct(_, _, _, _) => Ok(None),
+    }
+}
+
 // The bits of an array of truth values, which it shares where it is laid out plain.
 fn truths_of(alloc: Global, rows: &ArrayRef) -> Result<BitBuffer, AllocError>
     requires { HasLength (by_array rows.now) (len_of rows.now) }
     ensures { IfOk result (λ truths. truths
         ≡ map (is_valid (by_array rows.now)) (range_with_len 0 (len_of rows.now))) }
 {
-    match rows.layout() {
-        ArrayLayout::Bool(bits, _) => {
-            let truths = bits.clone()?;
-            Ok(truths)
-        }
-        ArrayLayout::Primitive(_, _) => packed(alloc, rows),
-        ArrayLayout::VarBinView(_, _, _, _) => packed(alloc, rows),
-        ArrayLayout::Constant(_, _) => packed(alloc, rows),
-        ArrayLayout::Dict(_, _, _) => packed(alloc, rows),
-        ArrayLayout::FixedSizeList(_, _, _, _) => packed(alloc, rows),
-        ArrayLayout::ListView(_, _, _, _, _) => packed(alloc, rows),
-        ArrayLayout::Struct(_, _, _, _) => packed(alloc, rows),
+    match shared_truths(rows)? {
+        Some(truths) => Ok(truths),
+        None => packed(alloc, rows),
     }
 }
 
@@ -67,5 +79,26 @@ pub(crate) fn valid_rows_of(
             let rows = truths_of(alloc, rows)?;
             Ok(Some(rows))
         }
+    }
+}
+
+// As `valid_rows_of`, where that makes nothing. `None` where it would.
+pub(crate) fn shared_valid_rows(
+    validity: &Validity,
+    len: usize,
+) -> Result<Option<Option<BitBuffer>>, AllocError>
+    requires { HasLength (valid_of validity.now) len }
+    ensures { IfOk result (λ shared. IfSome shared (λ found. MatchOption found
+        ((i : ℕ) → is_valid (valid_of validity.now) i ≡ true)
+        (λ rows. rows ≡ map (is_valid (valid_of validity.now)) (range_with_len 0 len)))) }
+{
+    match validity {
+        Validity::NonNullable => Ok(Some(None)),
+        Validity::AllValid => Ok(Some(None)),
+        Validity::AllInvalid => Ok(None),
+        Validity::Array(rows) => match shared_truths(rows)? {
+            Some(truths) => Ok(Some(Some(truths))),
+            None => Ok(None),
+        },
     }
 }

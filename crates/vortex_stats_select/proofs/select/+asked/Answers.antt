@@ -1,19 +1,36 @@
-use Rattle.std.proofs.Common.{◌≡◌, ◌∙◌, ap, sym, subst, not}
+use Rattle.std.proofs.Common.{◌≡◌, ◌∙◌, ap, sym, subst, not, cond, Some}
 use Rattle.std.specs.Prelude.{IfOk, IfSome}
 use Rattle.vortex_stats_bind.specs.Bound.{each, some}
 use Rattle.vortex_stats_bind.specs.BoundTree.{bound_tree}
 use Rattle.vortex_stats_select.specs.Asked.{seen}
 use Rattle.vortex_stats_select.specs.Wants.{wanted_rows}
-use Rattle.vortex_stats_select.proofs.AskedLemmas.{joined_rows, asked_behind, parts_seen, and_wanted, and_turned, or_wanted, or_turned}
+use Rattle.vortex_stats_select.proofs.AskedLemmas.{joined_rows, first_seen, last_seen, told_of_all, and_wanted, and_turned, or_wanted, or_turned}
 use Rattle.vortex_stats_select.proofs.select.+asked.Goals as goal
 
 pub both_parts-returns : goal.both_parts-returns
 both_parts-returns g t c =
     let rows = g.S.Columns.rows c.args.columns.now in let want = c.args.want in let join = c.args.join in
-    let xs = wanted_rows want c.args.first.now rows in let ys = wanted_rows want c.args.last.now rows in
-    let left = c.in_ok-left.left in let right = c.in_ok-right.right in
-    parts_seen c.args.asked join xs ys left right c.join_found.result c.in_ok-left.ensures
-    (asked_behind c.open_behind.result join left right ys c.open_behind.ensures c.in_ok-right.ensures) c.join_found.ensures
+    let xs = wanted_rows want c.args.first.now rows in let ys = wanted_rows want c.args.last.now rows in let mask = c.in-Some.mask.items in
+    let told = subst (λ o. IfSome o (λ mask. seen c.args.asked mask.items ≡ seen c.args.asked xs)) c.in-Some.is c.in_ok-mask.ensures in
+    subst (λ rs. IfOk c.part_behind.result (λ found. IfSome found (λ all. seen c.args.asked all.items ≡ rs)))
+    (first_seen c.args.asked join mask xs ys told)
+    (told_of_all c.args.asked c.part_behind.result (joined_rows join mask ys) c.part_behind.ensures)
+
+pub part_behind-returns-then-narrow : goal.part_behind-returns-then-narrow
+part_behind-returns-then-narrow g t c =
+    let rows = g.S.Columns.rows c.args.columns.now in let ms = c.args.mask.items in
+    c.narrow.ensures ∙ (λ i. cond (c.if-narrow.true i) (joined_rows c.args.at ms (wanted_rows c.args.want c.args.last.now rows)) ms)
+
+pub part_behind-returns : goal.part_behind-returns
+part_behind-returns g t c =
+    let rows = g.S.Columns.rows c.args.columns.now in let at = c.args.at in let ms = c.args.mask.items in
+    let ys = wanted_rows c.args.want c.args.last.now rows in let behind = c.open_behind-asked.ensures in
+    let same = c.narrow.ensures ∙ (λ i. cond (c.if-narrow.false i) (joined_rows at ms ys) ms) in
+    let told = subst (λ o. IfSome o (λ mask. seen (Some c.open_behind-asked.result) mask.items ≡ seen (Some c.open_behind-asked.result) ys)) c.in-Some.is c.in_ok-rows.ensures in
+    let all = c.in-Some.rows.items in let view = c.deref.ensures.value in
+    c.join.ensures ∙ (λ i. joined_rows at (sym view i) (c.deref-2.ensures.value i))
+    ∙ last_seen at c.deref.result.now all ys (sym (behind all) ∙ told ∙ behind ys)
+    ∙ ap (λ xs. joined_rows at xs ys) (view ∙ same)
 
 pub select_asked-returns-then-is_late : goal.select_asked-returns-then-is_late
 select_asked-returns-then-is_late g t c =

@@ -4,7 +4,10 @@ use Rattle.vortex_stats_bind.specs.Bound.{bound_size}
 use Rattle.vortex_stats_select.proofs.select.+asked.Given as goal
 
 abbrev pub decreases-select_asked : goal.decreases-select_asked
-decreases-select_asked g l = 2 * bound_size l.predicate.now
+decreases-select_asked g l = 3 * bound_size l.predicate.now
 
 abbrev pub decreases-both_parts : goal.decreases-both_parts
-decreases-both_parts g l = 2 * (bound_size l.first.now + bound_size l.last.now) + 1
+decreases-both_parts g l = 3 * (bound_size l.first.now + bound_size l.last.now) + 2
+
+abbrev pub decreases-part_behind : goal.decreases-part_behind
+decreases-part_behind g l = 3 * bound_size l.last.now + 1

@@ -4,7 +4,7 @@ use Rattle.vortex_model.specs.LogicalType.{boolean_type, non_nullable}
 use Rattle.vortex_arrays_model.specs.Layout.{bools, by_array, array_type_of, len_of, is_valid}
 use Rattle.vortex_arrays_core.specs.LayoutOf.{layout_of, valid_of}
 use Rattle.vortex_stats_select.proofs.ValidityLemmas.{packed}
-use Rattle.vortex_stats_select.proofs.validity.truths_of.Goals as goal
+use Rattle.vortex_stats_select.proofs.validity.shared_truths.Goals as goal
 
 pub returns-in_ok-truths-in-Bool : goal.returns-in_ok-truths-in-Bool
 returns-in_ok-truths-in-Bool c =
