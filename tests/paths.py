@@ -41,6 +41,8 @@ ODD_LETTERS = [*r"\ud800 \udc00 \udc00\ud800 \ud83ex \u12 \x41".split(), "\x01",
 DIGITS = ["00", "ff", "7F", "aB", "Fe", "deadBEEF", r"\u0036\u0061", r"\u0041f"]
 ODD_DIGITS = ["1", "f", "g0", "0G", "@0", "`0", "/0", ":0", "é", " ", r"\u0000", r"\n", r"\u00e9"]
 ODD = '{} [] [[]] "" {"a":1} null true false nul True " NaN'.split()
+HINTS = ['"plain"', '"dictionary"', '"constant"', r'"\u0070lain"']
+ODD_HINTS = [*ODD, '"Plain"', '"dictionary "']
 SPOILERS = b'{}[]",:0-+.eE\\u \x00\x1f\x80\xc3\xff'
 
 
@@ -205,12 +207,18 @@ class Lines:
         kinds = [
             lambda: '"dtype":' + dtype,
             lambda: '"rows":' + self.rows(form),
-            lambda: '"layouts":["plain","dictionary"]',
+            lambda: '"layouts":' + self.hints(),
             lambda: r'"\u0063md":"append"',
             lambda: '"more":' + self.chance.choice(ODD),
         ]
         count = 2 + self.chance.randrange(3)
         return [self.chance.choice([*kinds[:2], *kinds])() for _ in range(count)]
+
+    def hints(self):
+        """The hints of an append, for fewer columns than there are, as many or more."""
+        return "[%s]" % ",".join(
+            self.one_of(HINTS, ODD_HINTS) for _ in range(self.chance.randrange(5))
+        )
 
     def deep(self):
         """Lists in lists, about as deep as a line may nest."""
@@ -240,6 +248,8 @@ class Lines:
         in_order = not self.one_in(8)
         if in_order:
             members = ['"dtype":' + dtype, '"rows":' + self.rows(form)]
+            if self.one_in(3):
+                members.append('"layouts":' + self.hints())
         else:
             members = self.deep() if self.one_in(40) else self.members(dtype, form)
         rest = ",".join(members) + "}"

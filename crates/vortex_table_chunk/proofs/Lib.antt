@@ -3,6 +3,7 @@ pub mod EqualLeaves
 pub mod Formed
 pub mod JoinLists
 pub mod JoinedLemmas
+pub mod KeptLemmas
 pub mod LeafBounds
 pub mod LeafPlaces
 pub mod LeafSums

@@ -4,6 +4,7 @@ pub mod Bounds
 pub mod Chunk
 pub mod Formed
 pub mod Joined
+pub mod Kept
 pub mod Proved
 pub mod Rows
 pub mod zones

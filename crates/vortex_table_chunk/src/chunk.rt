@@ -1,18 +1,21 @@
 //! Chunks of rows with statistics of their leaf columns.
 ghost use Rattle.std.specs.Prelude.{◌≡◌, length, IfOk, IsTrue, option_map};
 ghost use Rattle.std.proofs.Math.Logic.{∥∥₁_prop};
-ghost use Rattle.vortex_arrays_model.specs.Layout.{array_type_of, rows_of, IsSound};
+ghost use Rattle.vortex_arrays_model.specs.Layout.{array_type_of, len_of, rows_of, IsSound};
 ghost use Rattle.vortex_table_schema.specs.Leaves.{leaf_positions};
 ghost use Rattle.vortex_table_chunk.specs.Rows.{are_rows_valid};
 ghost use Rattle.vortex_table_chunk.specs.Bounds.{AreBoundsOf, AreBoundsOf-prop, are_sums_of};
 ghost use Rattle.vortex_table_chunk.specs.BoundStat.{bounds_at};
+ghost use Rattle.vortex_table_chunk.specs.Kept.{AreKeptOf, AreKeptOf-prop};
 
 use crate::bounds::all_bounds;
+use crate::kept::kept_columns;
 use crate::zones::bounds::ColumnBounds;
 use std::alloc::{AllocError, Global};
 use std::rc::Rc;
 use vortex_arrays_core::array::ArrayRef;
 use vortex_model::laws::tests_of_validity_are_right;
+use vortex_stats_select::leaf::Leaf;
 use vortex_table_schema::leaves::LeafPath;
 
 /// The rows of one append as an array of records, with statistics of their leaf columns, which stay
@@ -28,23 +31,33 @@ pub struct Chunk {
     pub lengths: Rc<Vec<usize>>,
     /// The statistics of each leaf column, in the order of `leaves`.
     pub bounds: Vec<ColumnBounds>,
+    /// Leaf columns that share their items with the array, in the order of `leaves`. One that is
+    /// `None` or missing is found in the array.
+    pub columns: Vec<Option<Leaf>>,
+    /// How many rows there are.
+    pub rows: usize,
     pub ghost sound: { ∥ IsSound array ∥₁ } by { ∥∥₁_prop },
     pub ghost typed: { IsTrue (are_rows_valid array) },
     pub ghost honest: { AreBoundsOf lengths.value.items leaves.value.items bounds.items
         (rows_of array) } by { AreBoundsOf-prop lengths.value.items leaves.value.items bounds.items
             (rows_of array) },
+    pub ghost kept: { AreKeptOf leaves.value.items columns.items
+        (rows_of array) } by { AreKeptOf-prop leaves.value.items columns.items (rows_of array) },
+    pub ghost counted: { rows ≡ len_of array },
 }
 
-/// The chunk of these rows, with statistics that are theirs.
+/// The chunk of these rows, with statistics and columns that are theirs.
 #[tactic(auto, using(crate::proofs::TypedRows::passed))]
 pub(crate) fn with_bounds(
     leaves: &Rc<Vec<LeafPath>>,
     lengths: &Rc<Vec<usize>>,
     array: ArrayRef,
     bounds: Vec<ColumnBounds>,
+    columns: Vec<Option<Leaf>>,
 ) -> Result<Chunk, AllocError>
-    requires { AreBoundsOf lengths.now.value.items leaves.now.value.items bounds.items
+    requires bounds { AreBoundsOf lengths.now.value.items leaves.now.value.items bounds.items
         (rows_of array) }
+    requires columns { AreKeptOf leaves.now.value.items columns.items (rows_of array) }
     ensures array { IfOk result (λ chunk. chunk.array ≡ array) }
     ensures leaves { IfOk result (λ chunk. chunk.leaves.value.items ≡ leaves.now.value.items) }
     ensures lengths { IfOk result (λ chunk. chunk.lengths.value.items ≡ lengths.now.value.items) }
@@ -53,13 +66,15 @@ pub(crate) fn with_bounds(
     let leaves = leaves.clone()?;
     let lengths = lengths.clone()?;
     // Both tell the proof that the rows are of the array's type.
-    let _ = array.len();
+    let rows = array.len();
     tests_of_validity_are_right();
     Ok(Chunk {
         array,
         leaves,
         lengths,
         bounds,
+        columns,
+        rows,
     })
 }
 
@@ -80,7 +95,8 @@ pub fn new_chunk(
         (are_sums_of (array_type_of array) chunk.leaves.value.items chunk.bounds.items)) }
 {
     let bounds = all_bounds(alloc, &array, leaves, lengths)?;
-    let chunk = with_bounds(leaves, lengths, array, bounds)?;
+    let columns = kept_columns(alloc, &array, leaves)?;
+    let chunk = with_bounds(leaves, lengths, array, bounds, columns)?;
     Ok(chunk)
 }
 

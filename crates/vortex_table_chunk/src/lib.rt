@@ -3,5 +3,6 @@
 
 pub mod bounds;
 pub mod chunk;
+mod kept;
 pub mod retyped;
 pub mod zones;

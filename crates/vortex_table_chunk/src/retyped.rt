@@ -294,6 +294,6 @@ pub fn retyped_chunk(
         (are_sums_of (array_type_of array) new.leaves.value.items new.bounds.items)) }
 {
     let bounds = all_retyped(alloc, chunk, &array, leaves, lengths)?;
-    let new = with_bounds(leaves, lengths, array, bounds)?;
+    let new = with_bounds(leaves, lengths, array, bounds, Vec::new(alloc))?;
     Ok(new)
 }

@@ -18,7 +18,8 @@ use Rattle.vortex_table_check.specs.declared.error.TableError.{TableError}
 use Rattle.vortex_table_check.specs.declared.error.TableError.TheVariants as error
 use Rattle.vortex_table_check.proofs.Explained.{explained_first, explained_second, explained_two, none_both}
 use Rattle.vortex_table_layout.specs.TooLarge.{AreTooLarge}
-use Rattle.vortex_table_core.specs.Arrays.{AddsArray}
+use Rattle.vortex_table_layout.proofs.HintLemmas.{unhinted}
+use Rattle.vortex_table_core.specs.Arrays.{AddsArray, IsTakenAs, IsTakenBy}
 use Rattle.vortex_table_core.specs.Totals.{PassesTotal}
 
 -- what explains an error beside no refusal explains it beside any that is none
@@ -109,3 +110,7 @@ contents_in (v ∷ vs) = ap (λ cs. content_in v ∷ cs) (contents_in vs)
 pub adds_wider : (P Q : Layout → Type 0) (old new : List Layout) → ((a : Layout) → P a → Q a) → AddsArray P old new → AddsArray Q old new
 adds_wider P Q old new f (inl e) = inl e
 adds_wider P Q old new f (inr h) = inr (h.0, h.1, f h.0 h.2)
+
+-- an array that is taken without hints is taken as it is where its layout is kept
+pub taken_as : (k : LogicalType) (a b : Layout) → IsTakenBy k [] a b → IsTakenAs k a b
+taken_as k a b t = record { kept = λ h. unhinted a b (t.kept h); plain = t.anew }

@@ -17,8 +17,10 @@ use vortex_table_check::check::check_type;
 use vortex_table_check::error::TableError;
 use vortex_table_chunk::chunk::Chunk;
 use vortex_table_layout::compact::compact_array;
+use vortex_table_layout::hint::hint_array;
 use vortex_table_layout::keep::keeps_layout;
 use vortex_table_layout::rows::row_values;
+use vortex_table_schema::layout::Layout;
 
 impl Table {
     ghost use Rattle.std.specs.Prelude.{◌≡◌, None, Some, map, option_map, slice_get, IfOk, OnOk, IfErr, OnErr, IsErrOf};
@@ -29,7 +31,7 @@ impl Table {
     ghost use Rattle.vortex_table_check.specs.Error.{Explains};
     ghost use Rattle.vortex_table_check.specs.declared.error.TableError.TheVariants.{Total};
     ghost use Rattle.vortex_table_core.specs.Append.{AppendsArray};
-    ghost use Rattle.vortex_table_core.specs.Arrays.{arrays_of, AddsArray, IsTakenAs, AreAllCompacted, AnyHasTooManyItems};
+    ghost use Rattle.vortex_table_core.specs.Arrays.{arrays_of, AddsArray, IsTakenAs, IsTakenBy, AreAllCompacted, AnyHasTooManyItems};
     ghost use Rattle.vortex_table_core.specs.TableView.{table_of};
 
     /// Keeps the rows of an array of records as one new chunk, as `append` does: no rows make none,
@@ -48,19 +50,41 @@ impl Table {
             (AddsArray (IsTakenAs (type_of self.old.dtype) array) (arrays_of self.old)
             (arrays_of self.new)) }
     {
+        self.append_hinted(array, &[])
+    }
+
+    /// Keeps the rows of an array of records as `append_array` does, with a hint for each column,
+    /// in the order of the table's fields, of how it is to be laid out.
+    ///
+    /// Where the array's type is the table's and each record that is reached through records alone
+    /// has a column for each field, a column stays as it is if its hint is plain or doesn't fit or
+    /// there is none. Else the rows are laid out by the hints as in `append`.
+    pub fn append_hinted(&mut self, array: ArrayRef, layouts: &[Layout]) -> Result<(), TableError>
+        ensures appends { AppendsArray (table_of self.old) (array_type_of array) (rows_of array)
+            result (table_of self.new) }
+        ensures layout { OnOk result
+            (AddsArray (IsTakenBy (type_of self.old.dtype) layouts.now array)
+            (arrays_of self.old) (arrays_of self.new)) }
+    {
         let alloc = *self.chunks.allocator();
         check_type(alloc, array.dtype())?;
-        let taken = self.take_array(alloc, array)?;
+        let taken = self.take_array(alloc, array, layouts)?;
         self.push_array(alloc, taken)?;
         Ok(())
     }
 
     // The rows of the array, which is of a type that a table can hold, as an array of the table's
     // type.
-    fn take_array(&self, alloc: Global, array: ArrayRef) -> Result<ArrayRef, TableError>
+    fn take_array(
+        &self,
+        alloc: Global,
+        array: ArrayRef,
+        layouts: &[Layout],
+    ) -> Result<ArrayRef, TableError>
         ensures dtype { IfOk result (λ taken. array_type_of taken ≡ type_of self.now.dtype) }
         ensures rows { IfOk result (λ taken. rows_of taken ≡ rows_of array) }
-        ensures layout { IfOk result (λ taken. IsTakenAs (type_of self.now.dtype) array taken) }
+        ensures layout { IfOk result
+            (λ taken. IsTakenBy (type_of self.now.dtype) layouts.now array taken) }
         ensures converts { OnOk result (first_unconvertible 0 (array_type_of array)
             (type_of self.now.dtype) (rows_of array) ≡ None) }
         ensures refused { IfErr result (λ e. Explains
@@ -73,11 +97,12 @@ impl Table {
             // Both tell the proof that the rows are of the array's type.
             let _rows = array.len();
             tests_of_validity_are_right();
-            return Ok(array);
+            let taken = hint_array(alloc, &array, layouts)?;
+            return Ok(taken);
         }
         let values = row_values(alloc, &array)?;
         let rows = convert_rows(alloc, array.dtype(), &self.dtype, CowSlice::Owned(values))?;
-        self.lay_out(alloc, &rows, &[])
+        self.lay_out(alloc, &rows, layouts)
     }
 
     /// Rebuilds the list views of all chunks that are reached through records alone: their lists
@@ -162,12 +187,15 @@ fn put_arrays(chunks: &mut Vec<Chunk>, arrays: Vec<ArrayRef>)
     }
 }
 
+// The columns that are kept would hold on to the old array.
 fn put_array(chunk: &mut Chunk, array: ArrayRef)
     requires { rows_of array ≡ chunk_rows chunk.old }
     ensures { IsWithArray chunk.old array chunk.new }
 {
     // Both tell the proof that the rows are of the array's type.
-    let _rows = array.len();
+    let rows = array.len();
     tests_of_validity_are_right();
+    chunk.columns.clear();
+    chunk.rows = rows;
     chunk.array = array;
 }

@@ -75,8 +75,7 @@ impl Scan<'_> {
             return Pruning::Skip;
         }
         let bounds = chunk.bounds.as_slice();
-        let rows = chunk.array.len();
-        let satisfied = self.proves(bounds, rows, &self.satisfier);
+        let satisfied = self.proves(bounds, chunk.rows, &self.satisfier);
         if satisfied {
             return Pruning::TakeAll;
         }
@@ -119,7 +118,7 @@ impl Scan<'_> {
                 Ok(())
             }
             Pruning::Filter => {
-                select_rows(alloc, &self.prepared.bound, &chunk.array, found)?;
+                select_rows(alloc, &self.prepared.bound, &chunk.array, chunk, found)?;
                 Ok(())
             }
         }
@@ -172,7 +171,7 @@ fn tested_rows(outcome: Pruning, chunk: &Chunk) -> u64
     ensures { result ≡ tested_rows (outcome_of outcome) (chunk_rows chunk.now) }
 {
     match outcome {
-        Pruning::Filter => chunk.array.len() as u64,
+        Pruning::Filter => chunk.rows as u64,
         Pruning::Skip => 0,
         Pruning::TakeAll => 0,
     }

@@ -229,7 +229,7 @@ parts_valid fs rs j f h l e = λ i d b.
     let w : i < length rs = subst (λ m. i < m) (length-map rs (λ r. raw_part r j)) b in
     subst (λ r. valid (type_of f.dtype) r ≡ true) (sym (get_or-map (λ r. raw_part r j) rs i raw_null d w)) (part_valid fs (get_or rs i raw_null) j f (h i raw_null w) l e)
 
-all_unmapped : (k : LogicalType) (vs : List Value) → All (λ r. valid k r ≡ true) (map raw_at vs) → All (λ value. valid k (raw_at value) ≡ true) vs
+pub all_unmapped : (k : LogicalType) (vs : List Value) → All (λ r. valid k r ≡ true) (map raw_at vs) → All (λ value. valid k (raw_at value) ≡ true) vs
 all_unmapped k vs h = λ i d l. sym (ap (valid k) (get_or-map raw_at vs i d raw_null l)) ∙ h i raw_null (subst (λ n. i < n) (sym (length-map vs raw_at)) l)
 
 pub column_valid : (fs : List StructField) (rs : List Raw) (j : ℕ) (f : StructField) (vs : List Value) → All (λ r. valid (struct (fields_of fs) non_nullable) r ≡ true) rs → j < length fs → f ≡ get_or fs j f → map raw_at vs ≡ parts_at j rs → All (λ value. valid (type_of f.dtype) (raw_at value) ≡ true) vs

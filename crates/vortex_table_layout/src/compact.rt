@@ -83,7 +83,7 @@ fn compact_fields(
 }
 
 // The records of these fields.
-fn with_fields(
+pub(crate) fn with_fields(
     alloc: Global,
     names: &Rc<FieldNames>,
     fields: Vec<ArrayRef>,

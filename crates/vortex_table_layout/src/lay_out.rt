@@ -136,7 +136,7 @@ fn column_values<'a>(
 }
 
 // The hint of a column. Without one it is plain.
-fn hint_at(hints: &[Layout], index: usize) -> Layout
+pub(crate) fn hint_at(hints: &[Layout], index: usize) -> Layout
     ensures { result ≡ hint_at hints.now index }
 {
     if index < hints.len() {
@@ -226,7 +226,7 @@ fn dictionary_or_plain(
 
 // The first of the values, which are all equal, so many times.
 #[tactic(auto, using(crate::proofs::ConstantLemmas::equal))]
-fn constant_of(
+pub(crate) fn constant_of(
     alloc: Global,
     dtype: &DType,
     values: &[Option<&ScalarValue>],

@@ -1,5 +1,5 @@
 -- What contracts see of a command, without where it lies in memory.
-use Rattle.std.specs.Prelude.{◌≡◌, ℕ, List, [], map, Some, codes, Option, Result, IfOk}
+use Rattle.std.specs.Prelude.{◌≡◌, ℕ, List, map, Some, codes, Option, Result, IfOk}
 use Rattle.std.specs.List.{range_with_len}
 use Rattle.serde_json.specs.Data.{Data}
 use Rattle.serde_json.specs.Find.{get}
@@ -48,7 +48,7 @@ abbrev pub shown : Command → model.Command
 shown (Create dtype length lengths) =
     model.create (type_of dtype) length (map entry_of lengths.items)
 shown (Append dtype values layouts) = model.append (type_of dtype) (map raw_in values.items)
-shown (AppendArray array) = model.append (array_type_of array) (raw_rows array)
+shown (AppendArray array layouts) = model.append (array_type_of array) (raw_rows array)
 shown (Scan paths predicate) = model.scan (map steps_of paths.items) predicate
 shown (Join group) = model.join group
 shown (Retype dtype) = model.retype (type_of dtype)
@@ -59,7 +59,8 @@ shown (Describe path group) = model.describe (steps_of path) group
 abbrev pub HasHintsOf : Data → Command → Type 0
 HasHintsOf d (Append dtype values layouts) =
     layouts_in (get (codes "layouts") d) ≡ Some (map layout_of layouts.items)
-HasHintsOf d (AppendArray array) = layouts_in (get (codes "layouts") d) ≡ Some []
+HasHintsOf d (AppendArray array layouts) =
+    layouts_in (get (codes "layouts") d) ≡ Some (map layout_of layouts.items)
 HasHintsOf d c = Unit {0}
 
 -- what an object was read as is this command, and has the object's hints

@@ -41,10 +41,12 @@ pub enum Command {
         /// How columns are to be laid out, one hint a column of the row's type.
         layouts: Vec<Layout>,
     },
-    /// Rows for the table that stand in an array of records, without hints.
+    /// Rows for the table that stand in an array of records.
     AppendArray {
         /// The rows, of the type that the table's type may widen.
         array: ArrayRef,
+        /// How columns are to be laid out, one hint a column of the row's type.
+        layouts: Vec<Layout>,
     },
     /// Which rows a predicate selects, cut by paths.
     Scan {
@@ -96,7 +98,8 @@ fn read_layout_items(alloc: Global, items: &[Value]) -> Result<Vec<Layout>, Pars
     Ok(layouts)
 }
 
-fn read_layouts(alloc: Global, list: Option<&Value>) -> Result<Vec<Layout>, ParseError>
+/// The hints of an append, of which there are none where there is no list.
+pub fn read_layouts(alloc: Global, list: Option<&Value>) -> Result<Vec<Layout>, ParseError>
     ensures { Gives (λ v. map layout_of v.items) result
         (layouts_in (option_map (λ v. view v.now) list.entry)) }
 {

@@ -104,7 +104,7 @@ impl Session {
     }
 
     /// Appends the rows of an array to the table. Once it has changed, the answer takes no memory.
-    fn answer_append_array(&mut self, array: ArrayRef) -> Response
+    fn answer_append_array(&mut self, array: ArrayRef, layouts: &[Layout]) -> Response
         ensures { (out : List ℕ)
             → Responds (table_in self.old) (append (array_type_of array) (raw_rows array))
             result out (table_in self.new) }
@@ -115,7 +115,7 @@ impl Session {
         let Some(table) = &mut self.table else {
             return Response::Short(without_table());
         };
-        match table.append_array(array) {
+        match table.append_hinted(array, layouts) {
             Ok(()) => Response::Done,
             Err(error) => fault(error),
         }
@@ -180,7 +180,7 @@ impl Session {
                 values,
                 layouts,
             } => self.answer_append(&dtype, values, &layouts),
-            Command::AppendArray { array } => self.answer_append_array(array),
+            Command::AppendArray { array, layouts } => self.answer_append_array(array, &layouts),
             Command::Scan { paths, predicate } => self.answer_scan(alloc, &paths, &predicate, out),
             Command::Join { group } => self.answer_join(group),
             Command::Retype { dtype } => self.answer_retype(dtype),

@@ -23,7 +23,7 @@ use Rattle.vortex_arrays_core.specs.RawRows.{raw_row}
 use Rattle.vortex_arrays_core.proofs.RawRowsLemmas.{says, raw_valid}
 use Rattle.vortex_stats_bind.specs.Bound.{Bound, bound_value}
 use Rattle.vortex_stats_select.specs.Wants.{wanted_rows}
-use Rattle.vortex_stats_select.proofs.WantLemmas.{wanted_true}
+use Rattle.vortex_stats_mask.proofs.Truths.{wanted_true}
 use Rattle.vortex_table_schema.specs.Rows.{row_content}
 use Rattle.vortex_table_schema.specs.Cut.{Tree, tree_of, content_cut, raw_cut}
 use Rattle.vortex_table_schema.proofs.Cuts.{cut_content_of}
@@ -148,7 +148,17 @@ mask_within predicate a mask e = subst (λ n. All (λ i. i < n) (positions_of ma
 pub mask_selects : (predicate : Bound) (a : Layout) (mask : List Bool) → mask ≡ map (is_selected predicate) (rows_of a) → map (content_at a) (positions_of mask) ≡ selected_rows predicate (rows_of a)
 mask_selects predicate a mask e = ap (λ m. map (content_at a) (positions_of m)) e ∙ mask_keeps (content_at a) (is_selected predicate) 0 (len_of a)
 
-pub ruleset masked = (mask_within, mask_selects)
+-- no row is selected
+pub none_selected : (predicate : Bound) (a : Layout) (mask : List Bool) (rows : List ℕ) → mask ≡ map (is_selected predicate) (rows_of a) → rows ≡ positions_of mask → length rows ≡ 0 →
+    selected_rows predicate (rows_of a) ≡ []
+none_selected predicate a mask rows e made none =
+    sym (mask_selects predicate a mask e) ∙ ap (map (content_at a)) (sym made) ∙ of_none rows none
+  where
+    of_none : (is : List ℕ) → length is ≡ 0 → map (content_at a) is ≡ []
+    of_none [] h = refl
+    of_none (i ∷ is) h = absurd (omega (arith, h))
+
+pub ruleset masked = (mask_within, mask_selects, none_selected)
 
 pub tested_more : (predicate : Bound) (a : Layout) (i : ℕ) (xs ys : List Bool) (row : ScalarValue) (b : Bool) → xs ≡ map (is_selected predicate) (take i (rows_of a)) → i < len_of a → row_content row ≡ content_at a i → b ≡ is_selected predicate (row_content row) → ys ≡ xs ++ b ∷ [] → ys ≡ map (is_selected predicate) (take (i + 1) (rows_of a))
 tested_more predicate a i xs ys row b h l e t made =
@@ -160,8 +170,9 @@ tested_all predicate a n xs h l = h ∙ ap (map (is_selected predicate)) (rows_a
 
 pub ruleset tested = (tested_more, tested_all)
 
--- a mask that is found by whole columns
-pub found_whole : (predicate : Bound) (rows : List Content) (mask : List Bool) → mask ≡ wanted_rows true predicate rows → mask ≡ map (is_selected predicate) rows
-found_whole predicate rows mask e = e ∙ (λ i. map (λ row. sym (wanted_true (bound_value predicate row)) i) rows)
+-- a mask that is found by whole columns, which are those of the rows
+pub found_whole : (predicate : Bound) (columns rows : List Content) (mask : List Bool) → columns ≡ rows → mask ≡ wanted_rows true predicate columns → mask ≡ map (is_selected predicate) rows
+found_whole predicate columns rows mask same e =
+    e ∙ (λ i. map (λ row. sym (wanted_true (bound_value predicate row)) i) columns) ∙ ap (map (is_selected predicate)) same
 
 pub ruleset whole = (found_whole)

@@ -11,7 +11,7 @@ use crate::selection::Selection;
 use std::alloc::{AllocError, Global};
 use vortex_arrays_core::array::ArrayRef;
 use vortex_stats_bind::bound::BoundTree;
-use vortex_stats_select::columns::ArrayColumns;
+use vortex_stats_select::columns::Columns;
 use vortex_stats_select::select::select;
 use vortex_table_layout::rows::record_at;
 
@@ -30,22 +30,27 @@ pub fn take_rows(
     push_selection(array, rows, found)
 }
 
-/// Adds each row of the array that the predicate selects.
+/// Adds each row of the array that the predicate selects. `columns` are those of the array.
 #[tactic(auto, using(crate::proofs::Taken::masked))]
-pub fn select_rows(
+pub fn select_rows<S: Columns>(
     alloc: Global,
     predicate: &BoundTree,
     array: &ArrayRef,
+    columns: &S,
     found: &mut Vec<Selection>,
 ) -> Result<(), AllocError>
+    requires columns { S.rows columns.now ≡ rows_of array.now }
     requires required { valid (array_type_of array.now) raw_null ≡ false }
     requires typed { AreOfType (array_type_of array.now) found.old.items }
     ensures rows { OnOk result (rows_in found.new.items
         ≡ rows_in found.old.items ++ selected_rows predicate.now (rows_of array.now)) }
     ensures typed { OnOk result (AreOfType (array_type_of array.now) found.new.items) }
 {
-    let mask = mask_of(alloc, predicate, array)?;
+    let mask = mask_of(alloc, predicate, array, columns)?;
     let rows = true_positions(alloc, &mask)?;
+    if rows.is_empty() {
+        return Ok(());
+    }
     push_selection(array, rows, found)
 }
 
@@ -68,12 +73,18 @@ fn push_selection(
 
 // Whether the predicate selects each row.
 #[tactic(auto, using(crate::proofs::Taken::whole))]
-fn mask_of(alloc: Global, predicate: &BoundTree, array: &ArrayRef) -> Result<Vec<bool>, AllocError>
+fn mask_of<S: Columns>(
+    alloc: Global,
+    predicate: &BoundTree,
+    array: &ArrayRef,
+    columns: &S,
+) -> Result<Vec<bool>, AllocError>
+    requires columns { S.rows columns.now ≡ rows_of array.now }
     requires required { valid (array_type_of array.now) raw_null ≡ false }
     ensures { IfOk result
         (λ mask. mask.items ≡ map (is_selected predicate.now) (rows_of array.now)) }
 {
-    match select(alloc, predicate, true, &ArrayColumns { array })? {
+    match select(alloc, predicate, true, columns)? {
         Some(mask) => Ok(mask),
         None => test_rows(alloc, predicate, array),
     }

@@ -5,5 +5,6 @@ pub mod Lines
 pub mod Rows
 pub mod Scans
 pub mod Joins
+pub mod Retypes
 pub mod KindNames
 pub mod ColumnLemmas

@@ -1,52 +1,33 @@
 //! Commands from lines.
-ghost use Rattle.std.specs.Prelude.{◌≡◌, ◌∷◌, [], map, codes, option_map, Some, IfOk, IfSome, OnOk};
-ghost use Rattle.json.specs.Token.{begin_object, key, string};
+ghost use Rattle.std.specs.Prelude.{◌≡◌, [], map, codes, option_map, Some, IfOk, OnOk, IfSome};
 ghost use Rattle.serde_json.specs.Find.{as_array};
 ghost use Rattle.vortex_dtype_core.specs.View.{type_of};
 ghost use Rattle.vortex_scalar_value.specs.View.{raw_in};
 ghost use Rattle.vortex_table_request.specs.Kinds.{type_in};
-ghost use Rattle.vortex_table_request.specs.Line.{command_in, command_of};
+ghost use Rattle.vortex_table_request.specs.Line.{layouts_in, command_in, command_of};
 ghost use Rattle.vortex_table_request.specs.Parsed.{Gives, data_of};
 ghost use Rattle.vortex_table_request.specs.Rows.{rows_at};
-ghost use Rattle.vortex_table_request.specs.View.{shown, HasHintsOf};
+ghost use Rattle.vortex_table_request.specs.View.{layout_of, shown, HasHintsOf};
 ghost use Rattle.vortex_table_columns.specs.Nested.{column_of, Holds};
-ghost use Rattle.vortex_table_tokens.specs.Values.{HasValue, HasMember, IsRestOf, IsWholeText, IsCommandOf};
+ghost use Rattle.vortex_table_tokens.specs.Values.{HasValue, HasMember, EndsWithHints, IsRestOf, IsWholeText, IsCommandOf};
 
 use crate::columns;
 use crate::give_up::GiveUp;
 use crate::join::take_join;
 use crate::scan::take_scan;
-use crate::tokens::{next_token, take_key, take_object, take_object_end, take_text};
+use crate::tokens::{take_array, take_key, take_object_end, take_verb};
 use crate::tree::read_tree;
 use crate::values::take_elements;
-use json::{Reader, Scratch, Token};
+use json::{Reader, Scratch};
 use std::alloc::Global;
 use vortex_dtype_core::dtype::DType;
 use vortex_scalar_value::scalar_value::ScalarValue;
 use vortex_table_columns::nested::NestedBuilder;
-use vortex_table_request::{Command, ParseError, is_whole, read_dtype};
-
-/// How an append's line begins, where it is read here.
-const APPEND: &[u8] = b"{\"cmd\":\"append\",";
-
-/// How a scan's line begins, where it is read here.
-const SCAN: &[u8] = b"{\"cmd\":\"scan\",";
-
-/// How a join's line begins, where it is read here.
-const JOIN: &[u8] = b"{\"cmd\":\"join\",";
+use vortex_table_request::{Command, ParseError, is_whole, read_dtype, read_layouts};
+use vortex_table_schema::layout::Layout;
 
 /// How deep a line may nest.
 const MAX_DEPTH: usize = 127;
-
-/// The verb, where it is an append's.
-fn take_head(reader: &mut Reader<'_>) -> Result<(), GiveUp>
-    ensures { OnOk result (reader.old ≡ begin_object ∷ key (codes "cmd")
-        ∷ string (codes "append") ∷ reader.new) }
-{
-    take_object(reader)?;
-    take_key(reader, "cmd")?;
-    take_text(reader, "append")
-}
 
 /// The type of the rows.
 fn take_dtype(alloc: Global, reader: &mut Reader<'_>) -> Result<DType, GiveUp>
@@ -73,12 +54,48 @@ fn take_rows(
         reader.new) }
 {
     take_key(reader, "rows")?;
-    let token = next_token(reader)?;
-    let Token::BeginArray = token else {
-        return Err(GiveUp);
-    };
+    take_array(reader)?;
     let rows = take_elements(alloc, reader, MAX_DEPTH - 2, dtype)?;
     Ok(rows)
+}
+
+// The hints of an append.
+fn take_layouts(alloc: Global, reader: &mut Reader<'_>) -> Result<Vec<Layout>, GiveUp>
+    ensures { IfOk result (λ layouts. HasValue 126 reader.old
+        (λ d. layouts_in (Some d) ≡ Some (map layout_of layouts.items)) reader.new) }
+{
+    let tree = read_tree(alloc, reader, MAX_DEPTH - 1)?;
+    if !is_whole(&tree) {
+        return Err(GiveUp);
+    }
+    let layouts = read_layouts(alloc, Some(&tree))?;
+    Ok(layouts)
+}
+
+fn check_key(found: &str, expected: &str) -> Result<(), GiveUp>
+    ensures { OnOk result (found.now ≡ expected.now) }
+{
+    if found == expected {
+        Ok(())
+    } else {
+        Err(GiveUp)
+    }
+}
+
+// The hints of an append, where its object doesn't end, and the end.
+fn take_end(alloc: Global, reader: &mut Reader<'_>) -> Result<Vec<Layout>, GiveUp>
+    ensures { IfOk result
+        (λ layouts. EndsWithHints reader.old (map layout_of layouts.items) reader.new) }
+{
+    match reader.next_key()? {
+        None => Ok(Vec::new(alloc)),
+        Some(name) => {
+            check_key(name, "layouts")?;
+            let layouts = take_layouts(alloc, reader)?;
+            take_object_end(reader)?;
+            Ok(layouts)
+        }
+    }
 }
 
 // The append of this type, from its rows on, by columns.
@@ -93,8 +110,8 @@ fn take_columns(
         IsRestOf reader.old (type_of dtype.now) command reader.new) }
 {
     let array = columns::take_rows(alloc, reader, dtype, column)?;
-    take_object_end(reader)?;
-    Ok(Command::AppendArray { array })
+    let layouts = take_end(alloc, reader)?;
+    Ok(Command::AppendArray { array, layouts })
 }
 
 // The append of this type, from its rows on, by rows.
@@ -102,11 +119,11 @@ fn take_values(alloc: Global, reader: &mut Reader<'_>, dtype: DType) -> Result<C
     ensures { IfOk result (λ command. IsRestOf reader.old (type_of dtype) command reader.new) }
 {
     let values = take_rows(alloc, reader, &dtype)?;
-    take_object_end(reader)?;
+    let layouts = take_end(alloc, reader)?;
     Ok(Command::Append {
         dtype,
         values,
-        layouts: Vec::new(alloc),
+        layouts,
     })
 }
 
@@ -120,14 +137,25 @@ fn take_rest(alloc: Global, reader: &mut Reader<'_>, dtype: DType) -> Result<Com
     }
 }
 
-/// An append without hints whose keys are in order.
+/// An append whose keys are in order.
 fn take_append(alloc: Global, reader: &mut Reader<'_>) -> Result<Command, GiveUp>
     ensures { IfOk result (λ command. HasValue 127 reader.old
         (λ d. (command_in d ≡ Some (shown command)) × HasHintsOf d command) reader.new) }
 {
-    take_head(reader)?;
+    take_verb(reader, "append")?;
     let dtype = take_dtype(alloc, reader)?;
     take_rest(alloc, reader, dtype)
+}
+
+// A retype whose keys are in order.
+fn take_retype(alloc: Global, reader: &mut Reader<'_>) -> Result<Command, GiveUp>
+    ensures { IfOk result (λ command. HasValue 127 reader.old
+        (λ d. (command_in d ≡ Some (shown command)) × HasHintsOf d command) reader.new) }
+{
+    take_verb(reader, "retype")?;
+    let dtype = take_dtype(alloc, reader)?;
+    take_object_end(reader)?;
+    Ok(Command::Retype { dtype })
 }
 
 /// Which command is read here.
@@ -136,20 +164,22 @@ enum Verb {
     Append,
     Scan,
     Join,
+    Retype,
 }
 
-/// The verb, by how the line begins.
+/// How lines begin that are read here, with their verbs.
+const HEADS: [(&[u8], Verb); 4] = [
+    (b"{\"cmd\":\"append\",", Verb::Append),
+    (b"{\"cmd\":\"scan\",", Verb::Scan),
+    (b"{\"cmd\":\"join\",", Verb::Join),
+    (b"{\"cmd\":\"retype\",", Verb::Retype),
+];
+
 fn verb_of(line: &[u8]) -> Option<Verb> {
-    if line.starts_with(APPEND) {
-        return Some(Verb::Append);
-    }
-    if line.starts_with(SCAN) {
-        return Some(Verb::Scan);
-    }
-    if line.starts_with(JOIN) {
-        return Some(Verb::Join);
-    }
-    None
+    HEADS
+        .iter()
+        .find(|(head, _)| line.starts_with(head))
+        .map(|(_, verb)| *verb)
 }
 
 /// The command of this verb.
@@ -161,6 +191,7 @@ fn take_command(alloc: Global, reader: &mut Reader<'_>, verb: Verb) -> Result<Co
         Verb::Append => take_append(alloc, reader),
         Verb::Scan => take_scan(alloc, reader),
         Verb::Join => take_join(reader),
+        Verb::Retype => take_retype(alloc, reader),
     }
 }
 
@@ -192,12 +223,12 @@ fn read_tokens(alloc: Global, line: &[u8], scratch: &mut Scratch) -> Result<Comm
     }
 }
 
-/// The command that a line is. An append without hints, whose keys come in the order `cmd`,
-/// `dtype`, `rows`, a scan with `cmd`, `paths`, `where` and a join with `cmd`, `group` are read
-/// token by token, with no JSON value between: the rows of an append into a column where the leaves
-/// of their type are truth values, integers, texts and bytes, and else into rows. What isn't read
-/// so is read by `vortex_table_request`, which alone refuses. The scratch is room for tokens, kept
-/// from line to line.
+/// The command that a line is. An append whose keys come in the order `cmd`, `dtype`, `rows` and,
+/// where it has hints, `layouts`, a scan with `cmd`, `paths`, `where`, a join with `cmd`, `group`
+/// and a retype with `cmd`, `dtype` are read token by token, with a JSON value for types alone: the
+/// rows of an append into a column where the leaves of their type are truth values, integers, texts
+/// and bytes, and else into rows. What isn't read so is read by `vortex_table_request`, which alone
+/// refuses. The scratch is room for tokens, kept from line to line.
 pub fn read_command(
     alloc: Global,
     line: &[u8],

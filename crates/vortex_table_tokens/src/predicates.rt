@@ -14,7 +14,7 @@ ghost use Rattle.vortex_table_tokens.specs.Values.{HasValue, HasItems};
 
 use crate::boxes::{between, binary, is_not_null, is_null, like, not};
 use crate::give_up::GiveUp;
-use crate::tokens::{next_token, take_array, take_array_end};
+use crate::tokens::{next_token, take_array, take_array_end, take_string};
 use crate::types::take_type;
 use crate::values::take_value;
 use json::{Reader, Token};
@@ -35,14 +35,9 @@ fn take_form(reader: &mut Reader<'_>) -> Result<Form, GiveUp>
         × (form_named name ≡ Some form)) }
 {
     take_array(reader)?;
-    let token = next_token(reader)?;
-    match token {
-        Token::String(name) => {
-            let form = form_named(name).ok_or(GiveUp)?;
-            Ok(form)
-        }
-        _ => Err(GiveUp),
-    }
+    let name = take_string(reader)?;
+    let form = form_named(name).ok_or(GiveUp)?;
+    Ok(form)
 }
 
 // A literal whose value is valid for its type.
@@ -54,10 +49,7 @@ fn literal_of(
     ensures { IfOk result (λ e. literal_with (type_of dtype) (raw_in value) ≡ Some e.value) }
 {
     match Scalar::try_new(dtype, value) {
-        Ok(scalar) => {
-            let made = Box::new(alloc, lit(scalar))?;
-            Ok(made)
-        }
+        Ok(scalar) => Ok(Box::new(alloc, lit(scalar))?),
         Err(_) => Err(GiveUp),
     }
 }
@@ -81,14 +73,8 @@ fn take_literal(
 fn take_name(alloc: Global, reader: &mut Reader<'_>) -> Result<FieldName, GiveUp>
     ensures { IfOk result (λ name. reader.old ≡ string name ∷ reader.new) }
 {
-    let token = next_token(reader)?;
-    match token {
-        Token::String(name) => {
-            let name = FieldName::new(alloc, name)?;
-            Ok(name)
-        }
-        _ => Err(GiveUp),
-    }
+    let name = take_string(reader)?;
+    Ok(FieldName::new(alloc, name)?)
 }
 
 // Names, up to the bracket that closes them.
@@ -146,20 +132,10 @@ fn end_unary(
 {
     take_array_end(reader)?;
     match unary {
-        Unary::Not => {
-            let negated = not(alloc, x)?;
-            Ok(negated)
-        }
-        Unary::IsNull => {
-            let missing = is_null(alloc, x)?;
-            Ok(missing)
-        }
-        Unary::IsNotNull => {
-            let present = is_not_null(alloc, x)?;
-            Ok(present)
-        }
-        Unary::IsNan => Err(GiveUp),
-        Unary::Stat => Err(GiveUp),
+        Unary::Not => Ok(not(alloc, x)?),
+        Unary::IsNull => Ok(is_null(alloc, x)?),
+        Unary::IsNotNull => Ok(is_not_null(alloc, x)?),
+        Unary::IsNan | Unary::Stat => Err(GiveUp),
     }
 }
 

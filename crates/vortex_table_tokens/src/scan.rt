@@ -1,6 +1,5 @@
 //! Scans from tokens.
-ghost use Rattle.std.specs.Prelude.{◌≡◌, ◌∷◌, map, codes, option_and_then, Some, IfOk, OnOk};
-ghost use Rattle.json.specs.Token.{begin_object, key, string};
+ghost use Rattle.std.specs.Prelude.{◌≡◌, map, codes, option_and_then, Some, IfOk};
 ghost use Rattle.serde_json.specs.Find.{as_array};
 ghost use Rattle.vortex_dtype_path.specs.View.{steps_of};
 ghost use Rattle.vortex_table_request.specs.Line.{command_in};
@@ -12,7 +11,7 @@ ghost use Rattle.vortex_table_tokens.specs.Values.{HasValue, HasMember};
 use crate::give_up::GiveUp;
 use crate::paths::take_paths;
 use crate::predicates::take_predicate;
-use crate::tokens::{take_key, take_object, take_object_end, take_text};
+use crate::tokens::{take_key, take_object_end, take_verb};
 use json::Reader;
 use std::alloc::Global;
 use vortex_dtype_path::path::FieldPath;
@@ -21,16 +20,6 @@ use vortex_table_request::Command;
 
 /// How deep a member of a line may nest.
 const MEMBER_DEPTH: usize = 126;
-
-// The verb, where it is a scan's.
-fn take_head(reader: &mut Reader<'_>) -> Result<(), GiveUp>
-    ensures { OnOk result (reader.old ≡ begin_object ∷ key (codes "cmd")
-        ∷ string (codes "scan") ∷ reader.new) }
-{
-    take_object(reader)?;
-    take_key(reader, "cmd")?;
-    take_text(reader, "scan")
-}
 
 fn take_cut(alloc: Global, reader: &mut Reader<'_>) -> Result<Vec<FieldPath>, GiveUp>
     ensures { IfOk result (λ paths. HasMember (codes "paths") 126 reader.old
@@ -56,7 +45,7 @@ pub(crate) fn take_scan(alloc: Global, reader: &mut Reader<'_>) -> Result<Comman
     ensures { IfOk result (λ command. HasValue 127 reader.old
         (λ d. (command_in d ≡ Some (shown command)) × HasHintsOf d command) reader.new) }
 {
-    take_head(reader)?;
+    take_verb(reader, "scan")?;
     let paths = take_cut(alloc, reader)?;
     let predicate = take_where(alloc, reader)?;
     take_object_end(reader)?;

@@ -1,8 +1,8 @@
 //! One token at a time.
-ghost use Rattle.std.specs.Prelude.{◌≡◌, ◌∷◌, Some, None, IfOk, OnOk};
+ghost use Rattle.std.specs.Prelude.{◌≡◌, ◌∷◌, codes, Some, None, IfOk, OnOk};
 ghost use Rattle.json.specs.Json.{after_end_array, read_key};
 ghost use Rattle.json.specs.Reads.{token_of};
-ghost use Rattle.json.specs.Token.{begin_array, begin_object, string};
+ghost use Rattle.json.specs.Token.{begin_array, begin_object, key, string};
 
 use crate::give_up::GiveUp;
 use json::{Reader, Token};
@@ -24,6 +24,16 @@ pub(crate) fn take_object(reader: &mut Reader<'_>) -> Result<(), GiveUp>
     }
 }
 
+pub(crate) fn take_string<'a>(reader: &mut Reader<'a>) -> Result<&'a str, GiveUp>
+    ensures { IfOk result (λ text. reader.old ≡ string text.now ∷ reader.new) }
+{
+    let token = next_token(reader)?;
+    match token {
+        Token::String(text) => Ok(text),
+        _ => Err(GiveUp),
+    }
+}
+
 pub(crate) fn take_text(reader: &mut Reader<'_>, text: &str) -> Result<(), GiveUp>
     ensures { OnOk result (reader.old ≡ string text.now ∷ reader.new) }
 {
@@ -41,6 +51,16 @@ pub(crate) fn take_key(reader: &mut Reader<'_>, name: &str) -> Result<(), GiveUp
         Ok(Some(found)) => { if found == name { Ok(()) } else { Err(GiveUp) } }
         _ => Err(GiveUp),
     }
+}
+
+// The verb of a line's object, which stands first in it.
+pub(crate) fn take_verb(reader: &mut Reader<'_>, verb: &str) -> Result<(), GiveUp>
+    ensures { OnOk result (reader.old ≡ begin_object ∷ key (codes "cmd")
+        ∷ string verb.now ∷ reader.new) }
+{
+    take_object(reader)?;
+    take_key(reader, "cmd")?;
+    take_text(reader, verb)
 }
 
 pub(crate) fn take_object_end(reader: &mut Reader<'_>) -> Result<(), GiveUp>

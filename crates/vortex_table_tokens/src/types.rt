@@ -1,6 +1,5 @@
 //! Types of literals from tokens.
-ghost use Rattle.std.specs.Prelude.{◌≡◌, ◌∷◌, option_map, Some, IfOk};
-ghost use Rattle.json.specs.Token.{string};
+ghost use Rattle.std.specs.Prelude.{◌≡◌, option_map, Some, IfOk};
 ghost use Rattle.vortex_dtype_core.specs.View.{type_of};
 ghost use Rattle.vortex_dtype_proto.specs.View.{form_of};
 ghost use Rattle.vortex_table_request.specs.Kinds.{type_in};
@@ -8,22 +7,12 @@ ghost use Rattle.vortex_table_tokens.specs.Types.{plain_type, kind_object};
 ghost use Rattle.vortex_table_tokens.specs.Values.{HasValue};
 
 use crate::give_up::GiveUp;
-use crate::tokens::{next_token, take_key, take_object, take_object_end};
-use json::{Reader, Token};
+use crate::tokens::{take_key, take_object, take_object_end, take_string};
+use json::Reader;
 use vortex_dtype_core::dtype::DType;
 use vortex_dtype_proto::message::MessageKind;
 use vortex_dtype_ptype::nullability::Nullability;
 use vortex_table_request::read_plain_named;
-
-fn take_string<'a>(reader: &mut Reader<'a>) -> Result<&'a str, GiveUp>
-    ensures { IfOk result (λ text. reader.old ≡ string text.now ∷ reader.new) }
-{
-    let token = next_token(reader)?;
-    match token {
-        Token::String(text) => Ok(text),
-        _ => Err(GiveUp),
-    }
-}
 
 // The type without null of a kind that has no keys of its own, where predicates compare it.
 #[tactic(auto, using(vortex_dtype_core::proofs::Views::one_level))]

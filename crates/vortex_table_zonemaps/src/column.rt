@@ -34,15 +34,17 @@ fn put_behind<T: Copy + Drop>(items: &mut Vec<T>, count: usize, item: T) -> Resu
 }
 
 impl StatColumn {
-    ghost use Rattle.std.specs.Prelude.{◌≡◌, ◌∷◌, ◌++◌, [], List, length, OnOk};
+    ghost use Rattle.std.specs.Prelude.{◌≡◌, ◌∷◌, ◌++◌, [], List, length, IfOk, OnOk};
     ghost use Rattle.vortex_model.specs.Content.{Content};
     ghost use Rattle.vortex_table_zonemaps.specs.Column.{IsColumnOf, IsEntryOf};
 
-    /// A column of no zones.
-    pub fn new(alloc: Global) -> StatColumn
-        ensures { IsColumnOf result [] }
+    /// A column of no zones, with room for so many.
+    pub fn with_capacity(alloc: Global, zones: usize) -> Result<StatColumn, AllocError>
+        ensures { IfOk result (λ column. IsColumnOf column []) }
     {
-        StatColumn::Numbers(Vec::new(alloc), Vec::new(alloc))
+        let numbers = Vec::with_capacity(alloc, zones)?;
+        let known = Vec::with_capacity(alloc, zones)?;
+        Ok(StatColumn::Numbers(numbers, known))
     }
 
     /// Puts an entry behind those of so many zones. What stood there, which an earlier call left

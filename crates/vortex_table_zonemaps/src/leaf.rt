@@ -69,20 +69,23 @@ fn entry_in(bounds: Option<&ColumnBounds>, rows: usize, aggregate: AggregateFn) 
 }
 
 impl LeafZones {
-    ghost use Rattle.std.specs.Prelude.{◌≡◌, ◌∷◌, ◌++◌, [], ℕ, List, length, map, slice_get, option_map, OnOk, IfSome};
+    ghost use Rattle.std.specs.Prelude.{◌≡◌, ◌∷◌, ◌++◌, [], ℕ, List, length, map, slice_get, option_map, IfOk, OnOk, IfSome};
     ghost use Rattle.vortex_stats_stat.specs.Aggregate.{aggregate_of};
     ghost use Rattle.vortex_table_zonemaps.specs.Column.{IsColumnOf};
     ghost use Rattle.vortex_table_zonemaps.specs.Zones.{Zone, leaf_stat, IsLeaf};
 
-    /// Nothing, of no zones.
-    pub fn new(alloc: Global) -> LeafZones
-        ensures { (j : ℕ) → IsLeaf j result [] }
+    /// Nothing, of no zones, with room for so many.
+    pub fn with_capacity(alloc: Global, zones: usize) -> Result<LeafZones, AllocError>
+        ensures { IfOk result (λ leaf. (j : ℕ) → IsLeaf j leaf []) }
     {
-        LeafZones {
-            lows: StatColumn::new(alloc),
-            highs: StatColumn::new(alloc),
-            null_counts: StatColumn::new(alloc),
-        }
+        let lows = StatColumn::with_capacity(alloc, zones)?;
+        let highs = StatColumn::with_capacity(alloc, zones)?;
+        let null_counts = StatColumn::with_capacity(alloc, zones)?;
+        Ok(LeafZones {
+            lows,
+            highs,
+            null_counts,
+        })
     }
 
     // Puts the statistics of a zone of so many rows behind those of `count` zones.

@@ -1,6 +1,7 @@
 //! Proofs whose placeholders are resolved once and evaluated zone by zone.
 ghost use Rattle.std.specs.Prelude.{◌≡◌, List, IfOk, IfSome};
 ghost use Rattle.vortex_model.specs.Content.{integer};
+ghost use Rattle.vortex_model.specs.Path.{Positions};
 ghost use Rattle.vortex_model_table.specs.Truth.{compared, is_true};
 ghost use Rattle.vortex_scalar_value.specs.Numbers.{integer_of};
 ghost use Rattle.vortex_stats_bind.specs.Bound.{placeholder};
@@ -93,39 +94,47 @@ fn operand_of<'p>(leaves: &[LeafPath], e: &'p BoundTree) -> Operand<'p>
     }
 }
 
+fn other_proof<'p>(alloc: Global, e: &'p BoundTree) -> Result<Box<ZoneProof<'p>>, AllocError>
+    ensures { IfOk result (λ proof. (leaves : List Positions)
+        → IsProofOf leaves e.now proof.value) }
+{
+    Ok(Box::new(alloc, ZoneProof::Other(e))?)
+}
+
+// In a box, since what every level of the proof hands on would be moved.
 #[tactic(auto, using(crate::proofs::Truths::one_level))]
 fn proof_of<'p>(
     alloc: Global,
     leaves: &[LeafPath],
     e: &'p BoundTree,
-) -> Result<ZoneProof<'p>, AllocError>
-    ensures { IfOk result (λ proof. IsProofOf leaves.now e.now proof) }
+) -> Result<Box<ZoneProof<'p>>, AllocError>
+    ensures { IfOk result (λ proof. IsProofOf leaves.now e.now proof.value) }
 {
     match &e.node {
         BoundNode::And(x, y) => {
             let left = proof_of(alloc, leaves, x)?;
             let right = proof_of(alloc, leaves, y)?;
-            Ok(ZoneProof::And(Box::new(alloc, left)?, Box::new(alloc, right)?))
+            Ok(Box::new(alloc, ZoneProof::And(left, right))?)
         }
         BoundNode::Or(x, y) => {
             let left = proof_of(alloc, leaves, x)?;
             let right = proof_of(alloc, leaves, y)?;
-            Ok(ZoneProof::Or(Box::new(alloc, left)?, Box::new(alloc, right)?))
+            Ok(Box::new(alloc, ZoneProof::Or(left, right))?)
         }
-        BoundNode::Compare(comparison, x, y) => Ok(ZoneProof::Compare(
-            *comparison,
-            operand_of(leaves, x),
-            operand_of(leaves, y),
-        )),
-        BoundNode::Literal(_) => Ok(ZoneProof::Other(e)),
-        BoundNode::Column(_) => Ok(ZoneProof::Other(e)),
-        BoundNode::Not(_) => Ok(ZoneProof::Other(e)),
-        BoundNode::IsNull(_) => Ok(ZoneProof::Other(e)),
-        BoundNode::IsNotNull(_) => Ok(ZoneProof::Other(e)),
-        BoundNode::Between(_, _, _, _) => Ok(ZoneProof::Other(e)),
-        BoundNode::Like(_, _, _) => Ok(ZoneProof::Other(e)),
-        BoundNode::RowCount => Ok(ZoneProof::Other(e)),
-        BoundNode::Stat(_, _) => Ok(ZoneProof::Other(e)),
+        BoundNode::Compare(comparison, x, y) => {
+            let left = operand_of(leaves, x);
+            let right = operand_of(leaves, y);
+            Ok(Box::new(alloc, ZoneProof::Compare(*comparison, left, right))?)
+        }
+        BoundNode::Literal(_) => other_proof(alloc, e),
+        BoundNode::Column(_) => other_proof(alloc, e),
+        BoundNode::Not(_) => other_proof(alloc, e),
+        BoundNode::IsNull(_) => other_proof(alloc, e),
+        BoundNode::IsNotNull(_) => other_proof(alloc, e),
+        BoundNode::Between(_, _, _, _) => other_proof(alloc, e),
+        BoundNode::Like(_, _, _) => other_proof(alloc, e),
+        BoundNode::RowCount => other_proof(alloc, e),
+        BoundNode::Stat(_, _) => other_proof(alloc, e),
     }
 }
 
@@ -141,7 +150,7 @@ pub fn resolve<'p>(
     match proof {
         Some(proof) => {
             let resolved = proof_of(alloc, leaves, proof)?;
-            Ok(Some(resolved))
+            Ok(Some(Box::into_inner(resolved)))
         }
         None => Ok(None),
     }

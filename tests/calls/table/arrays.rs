@@ -136,6 +136,47 @@ pub fn arrays_convert(alloc: Global, checks: &mut Checks<'_>) -> Result<(), Tabl
     Ok(())
 }
 
+/// Arrays that are appended by hints are laid out by them, of another width too, and a refused one
+/// leaves the table as it is.
+pub fn hinted_arrays(alloc: Global, checks: &mut Checks<'_>) -> Result<(), TableError> {
+    let mut table = Table::create(alloc, record_of(alloc, "a", integers())?, 16, &[])?;
+    let equal = numbers(alloc, &[5i32, 5, 5], Validity::NonNullable)?;
+    let equal = records(alloc, "a", equal, Validity::NonNullable)?;
+    table.append_hinted(equal, &[Layout::Constant])?;
+    let unequal = numbers(alloc, &[5i32, 6], Validity::NonNullable)?;
+    let unequal = records(alloc, "a", unequal, Validity::NonNullable)?;
+    table.append_hinted(unequal, &[Layout::Constant])?;
+    let wide = numbers(alloc, &[7i64, 8, 7], Validity::NonNullable)?;
+    let wide = records(alloc, "a", wide, Validity::NonNullable)?;
+    table.append_hinted(wide, &[Layout::Dictionary])?;
+    checks.holds(
+        "a hinted constant",
+        match column_in(&table, 0, 0).map(|column| column.layout()) {
+            Some(ArrayLayout::Constant(_, len)) => *len == 3,
+            _ => false,
+        },
+    );
+    checks.holds(
+        "a hint that doesn't fit",
+        column_in(&table, 1, 0).is_some_and(|column| holds(column, &[5, 6])),
+    );
+    checks.holds(
+        "a hinted dictionary of another width",
+        match column_in(&table, 2, 0).map(|column| column.layout()) {
+            Some(ArrayLayout::Dict(codes, values, _)) => {
+                holds(codes, &[0, 1, 0]) && holds(values, &[7, 8])
+            }
+            _ => false,
+        },
+    );
+    let far = numbers(alloc, &[2_147_483_648i64], Validity::NonNullable)?;
+    let far = records(alloc, "a", far, Validity::NonNullable)?;
+    let far = table.append_hinted(far, &[Layout::Dictionary]);
+    is_refused(checks, "a hinted number that doesn't fit", far, TableError::NotConvertible(0))?;
+    checks.holds("the hinted table stays", table.chunk_count() == 3 && table.len() == 8);
+    Ok(())
+}
+
 /// Counts a command that is to be refused by this error. Refused memory is handed on.
 fn is_refused(
     checks: &mut Checks<'_>,

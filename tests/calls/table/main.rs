@@ -54,6 +54,7 @@ fn run_all(alloc: Global, checks: &mut Checks<'_>) -> Result<(), TableError> {
     arrays::arrays_convert(alloc, checks)?;
     checks.end_part("arrays are appended");
     arrays::hints_are_taken(alloc, checks)?;
+    arrays::hinted_arrays(alloc, checks)?;
     arrays::codes_are_narrow(alloc, checks)?;
     checks.end_part("hints are taken");
     arrays::dictionaries_are_described(alloc, checks)?;

@@ -1,5 +1,4 @@
-use Rattle.std.proofs.Common.{◌≡◌, [], ◌∷◌, Some, ap, sym, ◌∙◌, arith}
-use Rattle.json.specs.Token.{begin_array}
+use Rattle.std.proofs.Common.{[], Some, ap, sym, ◌∙◌, arith}
 use Rattle.serde_json.specs.Data.{array}
 use Rattle.vortex_dtype_core.specs.View.{type_of}
 use Rattle.vortex_table_tokens.proofs.Grammar.{begins_array}

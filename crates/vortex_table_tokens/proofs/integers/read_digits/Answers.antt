@@ -1,5 +1,5 @@
-use Rattle.std.proofs.Common.{◌≡◌, sym, subst, ap, ◌∙◌}
-use Rattle.std.specs.Str.Parse.{digits_value, IsNumeral, without_leading_plus}
+use Rattle.std.proofs.Common.{sym, subst, ap, ◌∙◌}
+use Rattle.std.specs.Str.Parse.{digits_value, IsNumeral}
 use Rattle.vortex_table_tokens.proofs.Digits.{no_plus}
 use Rattle.vortex_table_tokens.proofs.integers.read_digits.Goals as goal
 

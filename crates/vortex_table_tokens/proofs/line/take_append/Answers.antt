@@ -7,6 +7,6 @@ use Rattle.vortex_table_tokens.proofs.line.take_append.Goals as goal
 pub returns : goal.returns
 returns c =
     IfOk-weaker c.take_rest.result _ _ (λ command r.
-    let h = append_read c.args.reader.now c.take_head.new.reader c.take_dtype.new.reader r.last c.take_rest.new.reader (type_of c.in_ok-dtype.dtype) r.values
-    c.in_ok-take_head.ensures c.in_ok-dtype.ensures r.rows r.closed in
+    let h = append_read c.args.reader.now c.take_verb.new.reader c.take_dtype.new.reader r.last c.take_rest.new.reader (type_of c.in_ok-dtype.dtype) r.values r.names
+    c.in_ok-take_verb.ensures c.in_ok-dtype.ensures r.rows r.ends in
     (h.0, h.1, h.2, (h.3.0 ∙ ap Some (sym r.is), r.hints h.0 h.3.1))) c.take_rest.ensures

@@ -22,6 +22,12 @@ returns-then-keeps_layout-clause-converts c =
     subst (λ s. first_unconvertible 0 s k (rows_of c.args.array) ≡ None) (sym same)
     (rows_convert k c.args.array (none_so (type_fault k) t.kept) same 0 (rows_pass c.args.array c.tests_of_validity_are_right.ensures c.len-rows.ensures.sound))
 
+pub hint_array-requires : goal.hint_array-requires
+hint_array-requires c =
+    let t = c.args.self.now in let k = type_of t.dtype in
+    let same : array_type_of c.args.array ≡ k = (c.keeps_layout.ensures.0 c.if-keeps_layout.true).0 in
+    record { kept = subst (λ s. type_fault s ≡ None) (sym same) (none_so (type_fault k) t.kept) }
+
 pub convert_rows-requires-clause-valid : goal.convert_rows-requires-clause-valid
 convert_rows-requires-clause-valid c =
     subst (λ s. first_invalid 0 s (map raw_in c.in_ok-values.values.items) ≡ None) (sym c.dtype.ensures) (none_invalid 0 (array_type_of c.args.array) c.in_ok-values.values.items c.in_ok-values.ensures.valid)

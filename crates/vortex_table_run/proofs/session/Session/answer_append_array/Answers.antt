@@ -28,7 +28,7 @@ returns-in-Ok c = λ out.
     let there = ap (option_map table_of) c.in-Some.is in
     let refusal = same_refusal c.tests_of_validity_are_right.ensures t a c.len-rows.ensures.sound in (
       accepted,
-      appended_so (table_in c.args.self.now) t (table_of c.append_array.new.self) (append (array_type_of a) (raw_rows a)) there (sym refusal ∙ c.in-Ok.ensures.appends.accepted)
+      appended_so (table_in c.args.self.now) t (table_of c.append_hinted.new.self) (append (array_type_of a) (raw_rows a)) there (sym refusal ∙ c.in-Ok.ensures.appends.accepted)
           refl (ap Some (c.in-Ok.ensures.appends.appended ∙ same_after t a)),
       refl,
     )
@@ -44,7 +44,7 @@ returns-in-Err c = λ out.
     let total = PassesTotal (Some t) (append_array (array_type_of a) (rows_of a)) in
     let why = subst (λ fault. Explains total fault e) refusal c.in-Err.ensures.appends.refused in (
       error_answer e,
-      refused_for total (table_in c.args.self.now) (Some (table_of c.append_array.new.self)) t (append (array_type_of a) (raw_rows a)) e there same (same_total t a) why
+      refused_for total (table_in c.args.self.now) (Some (table_of c.append_hinted.new.self)) t (append (array_type_of a) (raw_rows a)) e there same (same_total t a) why
           (λ h. sym refusal ∙ c.in-Err.ensures.appends.total (ap Err h)),
       c.fault.ensures out (no_rule _ _ e why),
     )
