@@ -1,6 +1,9 @@
 pub mod BuildLemmas
 pub mod CodeLemmas
+pub mod ColumnLemmas
 pub mod DistinctLemmas
+pub mod FirstLemmas
 pub mod KeyLemmas
 pub mod NumberLemmas
 pub mod NumberingLemmas
+pub mod ValueLemmas

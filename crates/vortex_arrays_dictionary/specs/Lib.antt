@@ -1,4 +1,6 @@
 pub mod Codes
+pub mod Columns
 pub mod Dictionary
 pub mod Distinct
+pub mod Firsts
 pub mod Numbering

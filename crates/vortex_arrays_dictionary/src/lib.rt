@@ -2,6 +2,11 @@
 #![tactic(auto)]
 
 pub mod build;
+mod byte_key;
 mod codes;
+pub mod encode;
+mod firsts;
+mod keyed;
 mod number;
 mod places;
+mod values;

@@ -8,7 +8,8 @@ use crate::values::{KINDS, Value, is_within};
 use std::alloc::Global;
 use vortex_arrays::{
     ArrayRef, PrimitiveArray, PrimitiveArrayExt, VarBinViewArray, VarBinViewArrayExt,
-    build_constant, build_dictionary, build_plain, cast_array, fits_constant, fits_dictionary,
+    build_constant, build_dictionary, build_plain, cast_array, dict_encode, fits_constant,
+    fits_dictionary,
 };
 use vortex_dtype::{DType, DTypeError, Nullability, PType};
 use vortex_scalar::ScalarValue;
@@ -76,6 +77,11 @@ pub fn build(
     let rows = copied(alloc, &rows)?;
     let column = Column { array: built, rows };
     checks.holds_at("build", number, column.has_its_rows(alloc)?);
+    if let Some(array) = dict_encode(alloc, &column.array)? {
+        let rows = copied(alloc, &column.rows)?;
+        let encoded = Column { array, rows };
+        checks.holds_at("dict_encode", number, encoded.has_its_rows(alloc)?);
+    }
     Ok(column)
 }
 

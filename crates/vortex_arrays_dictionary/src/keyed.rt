@@ -1,0 +1,199 @@
+//! The rows of a column numbered by its items.
+ghost use Rattle.std.specs.Prelude.{◌≡◌, ◌<◌, ℕ, List, [], length, map, false, is_some, slice_index_or, IsTrue, IfOk, IfSome};
+ghost use Rattle.std.specs.List.{range_with_len};
+ghost use Rattle.std.specs.Ordering.{int_eq};
+ghost use Rattle.vortex_model.specs.Content.{Content};
+ghost use Rattle.vortex_arrays_view.specs.Views.{HasValue};
+ghost use Rattle.vortex_arrays_model.specs.Layout.{Strings, bools, numbers, strings, is_valid, by_array, rows_of, HasLength, len_of};
+ghost use Rattle.vortex_arrays_buffer.specs.PrimitiveBuffers.{kind_of_numbers, integers_of};
+ghost use Rattle.vortex_arrays_core.specs.LayoutOf.{valid_of};
+ghost use Rattle.vortex_arrays_dictionary.specs.Firsts.{AreKeysOf, AreNumbered};
+ghost use Rattle.vortex_arrays_dictionary.specs.Columns.{is_plain_leaf, valid_flags, bytes_or_none};
+
+use crate::byte_key::ByteKey;
+use crate::firsts::{Firsts, number_keys};
+use bytes::Bytes;
+use std::alloc::{AllocError, Global};
+use vortex_arrays_buffer::bit_buffer::BitBuffer;
+use vortex_arrays_buffer::primitive_buffer::PrimitiveBuffer;
+use vortex_arrays_core::array::{ArrayLayout, ArrayRef, Validity};
+use vortex_arrays_view::view::BinaryView;
+
+/// The rows of a plain column of truth values, integers, texts or bytes, numbered. `None` for any
+/// other column.
+pub(crate) fn number_rows(alloc: Global, array: &ArrayRef) -> Result<Option<Firsts>, AllocError>
+    ensures when { IfOk result (λ found. is_some found ≡ is_plain_leaf array.now) }
+    ensures numbered { IfOk result (λ found. IfSome found
+        (λ made. AreNumbered (rows_of array.now) made.places.items made.numbers.items)) }
+{
+    match array.layout() {
+        ArrayLayout::Bool(bits, validity) => {
+            let made = number_bools(alloc, bits, validity)?;
+            Ok(Some(made))
+        }
+        ArrayLayout::Primitive(items, validity) => {
+            let made = number_integers(alloc, items, validity)?;
+            Ok(Some(made))
+        }
+        ArrayLayout::VarBinView(_, views, buffers, validity) => {
+            let made = number_strings(alloc, views.as_slice(), buffers.as_slice(), validity)?;
+            Ok(Some(made))
+        }
+        _ => Ok(None),
+    }
+}
+
+#[tactic(auto, using(crate::proofs::ColumnLemmas::keyed))]
+fn number_bools(alloc: Global, bits: &BitBuffer, validity: &Validity) -> Result<Firsts, AllocError>
+    requires { HasLength (valid_of validity.now) (length bits.now) }
+    ensures { IfOk result (λ made. AreNumbered (rows_of (bools bits.now (valid_of validity.now)))
+        made.places.items made.numbers.items) }
+{
+    let present = present_rows(alloc, validity, bits.len())?;
+    let keys = bits.to_bools(alloc)?;
+    let made = number_keys(alloc, keys.as_slice(), present.as_slice())?;
+    Ok(made)
+}
+
+#[tactic(auto, using(crate::proofs::ColumnLemmas::keyed))]
+fn number_integers(
+    alloc: Global,
+    items: &PrimitiveBuffer,
+    validity: &Validity,
+) -> Result<Firsts, AllocError>
+    requires { HasLength (valid_of validity.now) (length (integers_of items.now)) }
+    ensures { IfOk result (λ made. AreNumbered
+        (rows_of (numbers (kind_of_numbers items.now) (integers_of items.now)
+        (valid_of validity.now))) made.places.items made.numbers.items) }
+{
+    let present = present_rows(alloc, validity, items.len())?;
+    let made = number_items(alloc, items, present.as_slice())?;
+    Ok(made)
+}
+
+// The integers are keys as they are. Their kind is matched once.
+fn number_items(
+    alloc: Global,
+    items: &PrimitiveBuffer,
+    present: &[bool],
+) -> Result<Firsts, AllocError>
+    requires { length present.now ≡ length (integers_of items.now) }
+    ensures { IfOk result
+        (λ made. (cs : List Content) → AreKeysOf int_eq (integers_of items.now) present.now cs
+        → AreNumbered cs made.places.items made.numbers.items) }
+{
+    match items {
+        PrimitiveBuffer::U8(items) => number_keys(alloc, items.as_slice(), present),
+        PrimitiveBuffer::U16(items) => number_keys(alloc, items.as_slice(), present),
+        PrimitiveBuffer::U32(items) => number_keys(alloc, items.as_slice(), present),
+        PrimitiveBuffer::U64(items) => number_keys(alloc, items.as_slice(), present),
+        PrimitiveBuffer::I8(items) => number_keys(alloc, items.as_slice(), present),
+        PrimitiveBuffer::I16(items) => number_keys(alloc, items.as_slice(), present),
+        PrimitiveBuffer::I32(items) => number_keys(alloc, items.as_slice(), present),
+        PrimitiveBuffer::I64(items) => number_keys(alloc, items.as_slice(), present),
+    }
+}
+
+#[tactic(auto, using(crate::proofs::ColumnLemmas::keyed))]
+fn number_strings(
+    alloc: Global,
+    views: &[BinaryView],
+    buffers: &[Bytes],
+    validity: &Validity,
+) -> Result<Firsts, AllocError>
+    requires values { (i : ℕ) → i < length views.now → IsTrue (is_valid (valid_of validity.now) i)
+        → HasValue (slice_index_or views.now i []) buffers.now }
+    requires fits { HasLength (valid_of validity.now) (length views.now) }
+    ensures { IfOk result (λ made. (s : Strings) → AreNumbered
+        (rows_of (strings s views.now buffers.now (valid_of validity.now)))
+        made.places.items made.numbers.items) }
+{
+    let present = present_rows(alloc, validity, views.len())?;
+    let keys = byte_keys(alloc, views, buffers, present.as_slice())?;
+    let made = number_keys(alloc, keys.as_slice(), present.as_slice())?;
+    Ok(made)
+}
+
+// The texts or bytes of the rows, where they lie. A null row has no bytes.
+fn byte_keys<'a>(
+    alloc: Global,
+    views: &'a [BinaryView],
+    buffers: &'a [Bytes],
+    present: &[bool],
+) -> Result<Vec<ByteKey<'a>>, AllocError>
+    requires count { length present.now ≡ length views.now }
+    requires values { (i : ℕ) → i < length views.now → IsTrue (slice_index_or present.now i false)
+        → HasValue (slice_index_or views.now i []) buffers.now }
+    ensures { IfOk result (λ keys. map (λ key. key.bytes.now) keys.items
+        ≡ map (bytes_or_none views.now buffers.now present.now)
+        (range_with_len 0 (length views.now))) }
+{
+    (0..views.len())
+        .map(|i| byte_key_at(views, buffers, present, i))
+        .collect(alloc)
+}
+
+fn byte_key_at<'a>(
+    views: &'a [BinaryView],
+    buffers: &'a [Bytes],
+    present: &[bool],
+    i: usize,
+) -> ByteKey<'a>
+    requires row { i < length views.now }
+    requires count { length present.now ≡ length views.now }
+    requires values { (i : ℕ) → i < length views.now → IsTrue (slice_index_or present.now i false)
+        → HasValue (slice_index_or views.now i []) buffers.now }
+    ensures { result.bytes.now ≡ bytes_or_none views.now buffers.now present.now i }
+{
+    if present[i] {
+        let bytes = views[i].bytes(buffers);
+        ByteKey { bytes }
+    } else {
+        ByteKey { bytes: &[] }
+    }
+}
+
+// Whether each of so many rows is not null.
+#[tactic(auto, using(crate::proofs::ColumnLemmas::flags))]
+fn present_rows(alloc: Global, validity: &Validity, len: usize) -> Result<Vec<bool>, AllocError>
+    requires { HasLength (valid_of validity.now) len }
+    ensures { IfOk result (λ rows. rows.items ≡ valid_flags (valid_of validity.now) len) }
+{
+    match validity {
+        Validity::NonNullable => vec![in alloc; true; len],
+        Validity::AllValid => vec![in alloc; true; len],
+        Validity::AllInvalid => vec![in alloc; false; len],
+        Validity::Array(rows) => truths_of(alloc, rows),
+    }
+}
+
+// Whether true stands at each row.
+fn truths_of(alloc: Global, rows: &ArrayRef) -> Result<Vec<bool>, AllocError>
+    ensures { IfOk result
+        (λ truths. truths.items ≡ valid_flags (by_array rows.now) (len_of rows.now)) }
+{
+    match packed_truths(rows) {
+        Some(bits) => bits.to_bools(alloc),
+        None => looked_up(alloc, rows),
+    }
+}
+
+// The truth values, where they lie packed and none can be null.
+#[tactic(auto, using(crate::proofs::ColumnLemmas::packed))]
+fn packed_truths(rows: &ArrayRef) -> Option<&BitBuffer>
+    ensures { IfSome result
+        (λ bits. bits.now ≡ valid_flags (by_array rows.now) (len_of rows.now)) }
+{
+    match rows.layout() {
+        ArrayLayout::Bool(bits, Validity::NonNullable) => Some(bits),
+        _ => None,
+    }
+}
+
+// Whether true stands at each row, by a look at it.
+fn looked_up(alloc: Global, rows: &ArrayRef) -> Result<Vec<bool>, AllocError>
+    ensures { IfOk result
+        (λ truths. truths.items ≡ valid_flags (by_array rows.now) (len_of rows.now)) }
+{
+    (0..rows.len()).map(|i| rows.truth(i)).collect(alloc)
+}
