@@ -1,5 +1,5 @@
 -- The keys of columns, and columns as dictionaries.
-use Rattle.std.proofs.Common.{replicate, ◌≡◌, ◌<◌, ◌≤◌, ◌-◌, ℕ, ℤ, pos, Bool, true, false, not, cond, List, [], length, map, get_or, Bor, refl, sym, ap, subst, ◌∙◌, arith, IsTrue}
+use Rattle.std.proofs.Common.{replicate, ◌≡◌, ◌<◌, ◌≤◌, ◌-◌, ℕ, ℤ, pos, Bool, true, false, not, cond, List, [], length, map, get_or, refl, sym, ap, subst, ◌∙◌, arith, IsTrue}
 use Rattle.std.specs.List.{All, range_with_len}
 use Rattle.std.proofs.lemmas.List.FromFn.{get_or-map-range_with_len, length-map-range_with_len, fill_by_all}
 use Rattle.std.specs.Ordering.{int_eq}
@@ -11,22 +11,19 @@ use Rattle.std.specs.Prelude.{unsigned_abs}
 use Rattle.std.proofs.lemmas.Bool.{false≢true}
 use Rattle.std.proofs.lemmas.Bool.Decides.{Decides-int_eq, Decides-eqb}
 use Rattle.std.proofs.lemmas.List.{length-map, length-replicate, get_or-map, get_or-replicate, get_or_default, take_all}
-use Rattle.std.proofs.lemmas.List.Elements.{All-map}
-use Rattle.vortex_model.specs.LogicalType.{LogicalType, IntKind, Nullability, nullable, non_nullable, nullability_of, either_nullable, with_nullability, eq_flag}
-use Rattle.vortex_model.specs.Content.{Content, null, boolean, integer, text, byte_string, is_null, equal_content}
-use Rattle.vortex_model.specs.Valid.{InRange}
+use Rattle.vortex_model.specs.LogicalType.{IntKind, Nullability, nullable, non_nullable, nullability_of, either_nullable, with_nullability, eq_flag}
+use Rattle.vortex_model.specs.Content.{Content, null, boolean, integer, is_null, equal_content}
 use Rattle.vortex_dtype_ptype.specs.Numbers.{HoldsNarrowly}
 use Rattle.vortex_arrays_view.specs.Views.{value_of, HasValue}
-use Rattle.vortex_arrays_model.specs.Layout.{Strings, texts, byte_strings, Layout, bools, numbers, strings, dictionary, Valid, required, all_valid, all_null, by_array, len_of, content_at, is_valid, rows_of, pick, string_content, nullability_by, array_type_of, type_of_strings, IsCode, IsSound, HasLength}
+use Rattle.vortex_arrays_model.specs.Layout.{Strings, texts, byte_strings, Layout, bools, numbers, strings, dictionary, Valid, required, all_valid, all_null, by_array, len_of, content_at, is_valid, rows_of, pick, string_content, nullability_by, array_type_of, IsCode, IsSound, HasLength}
 use Rattle.vortex_arrays_model.specs.Parts.{valid_in}
-use Rattle.vortex_arrays_model.specs.Picks.{Picks}
 use Rattle.vortex_arrays_model.proofs.RowsLemmas.{rows_by_position, row_at_position, row_count}
 use Rattle.vortex_arrays_dictionary.specs.Codes.{AreCodes}
 use Rattle.vortex_arrays_dictionary.specs.Columns.{is_plain_leaf, valid_flags, bytes_or_none, IsColumnNumbered, IsDictionaryFrom}
 use Rattle.vortex_arrays_builder.specs.Types.{IsPlainLayout}
 use Rattle.vortex_arrays_dictionary.specs.declared.byte_key.ByteKey.{ByteKey}
 use Rattle.vortex_arrays_dictionary.specs.Distinct.{distinct}
-use Rattle.vortex_arrays_dictionary.specs.Firsts.{at_places, AreKeysOf, AreFirsts, AreNumbered}
+use Rattle.vortex_arrays_dictionary.specs.Firsts.{at_places, AreKeysOf, AreNumbered}
 
 -- ---- the keys of a column's rows
 

@@ -1,15 +1,15 @@
 -- One row more.
-use Rattle.std.proofs.Common.{◌≡◌, ◌<◌, ◌≤◌, ◌-◌, ◌+◌, ◌⊎◌, ℕ, Bool, true, false, not, cond, List, [], ◌∷◌, ◌++◌, length, map, take, get_or, slice_set, Option, Some, None, refl, sym, ap, subst, ◌∙◌, ⊎_elim, inl, inr, arith}
+use Rattle.std.proofs.Common.{◌≡◌, ◌<◌, ◌≤◌, ◌-◌, ◌+◌, ◌⊎◌, ℕ, Bool, true, false, not, cond, List, [], ◌∷◌, ◌++◌, length, take, get_or, slice_set, Option, Some, None, refl, sym, ap, subst, ◌∙◌, ⊎_elim, inl, inr, arith}
 use Rattle.std.specs.List.{All, list_any}
 use Rattle.std.specs.Cmp.{IsEquivalence}
 use Rattle.std.proofs.lemmas.Bool.{false≢true, cases_eq}
-use Rattle.std.proofs.lemmas.List.{map-append, length-map, take_more, take_all, get_or-map, get_or_append_left, get_or_push, get_or_default, length_push, get_or-set_same, get_or-set_other, length-set}
+use Rattle.std.proofs.lemmas.List.{map-append, length-map, take_more, get_or-map, get_or_append_left, get_or_push, get_or_default, length_push, get_or-set_same, get_or-set_other}
 use Rattle.std.proofs.lemmas.List.Elements.{All-nil, All-push, All-set}
 use Rattle.std.proofs.lemmas.List.Folds.{list_any_at, list_any_none}
 use Rattle.vortex_model.specs.Content.{Content, null, is_null, equal_content}
 use Rattle.vortex_model_table.proofs.Equality.{content_so}
 use Rattle.vortex_arrays_dictionary.specs.Distinct.{distinct}
-use Rattle.vortex_arrays_dictionary.specs.Firsts.{at_places, AreKeysOf, Knows, IsNumberedAt, IsNumberedWhere, AreFirsts, AreNumbered}
+use Rattle.vortex_arrays_dictionary.specs.Firsts.{at_places, AreKeysOf, Knows, IsNumberedWhere, AreFirsts, AreNumbered}
 use Rattle.vortex_arrays_dictionary.proofs.DistinctLemmas.{distinct-null, distinct-new, distinct-old}
 
 either : (b : Bool) → (b ≡ true) ⊎ (b ≡ false)

@@ -1,7 +1,6 @@
 -- The rows at places that are not null.
-use Rattle.std.proofs.Common.{◌≡◌, ◌<◌, ℕ, ℤ, pos, Bool, true, false, not, List, [], length, map, get_or, Some, sym, ap, subst, ◌∙◌, arith}
+use Rattle.std.proofs.Common.{◌≡◌, ◌<◌, ℕ, ℤ, pos, Bool, true, false, not, List, length, map, get_or, Some, sym, ap, subst, ◌∙◌}
 use Rattle.std.specs.List.{All, slice_get}
-use Rattle.std.proofs.lemmas.Bool.{false≢true}
 use Rattle.vortex_model.specs.LogicalType.{IntKind}
 use Rattle.vortex_model.specs.Content.{null, is_null}
 use Rattle.vortex_arrays_model.specs.Layout.{Strings, Layout, bools, numbers, strings, Valid, nullability_by, len_of, content_at, is_valid, rows_of, IsSound, HasLength}

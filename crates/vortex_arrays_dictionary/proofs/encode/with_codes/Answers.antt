@@ -1,6 +1,5 @@
-use Rattle.std.proofs.Common.{◌≡◌, ◌≤◌, ◌-◌, length, sym, ap, subst, ◌∙◌, arith}
+use Rattle.std.proofs.Common.{◌≡◌, ◌≤◌, ◌-◌, length, sym, subst, arith}
 use Rattle.std.specs.List.{All}
-use Rattle.std.proofs.lemmas.Result.{IfOk-weaker}
 use Rattle.vortex_arrays_model.specs.Layout.{HasLength}
 use Rattle.vortex_arrays_model.specs.Parts.{valid_in}
 use Rattle.vortex_arrays_core.specs.LayoutOf.{valid_of}
