@@ -17,7 +17,8 @@ use vortex_arrays_core::array::{ArrayLayout, ArrayRef, Validity};
 /// The rows of an array of truth values, integers, texts or bytes as a dictionary, as Vortex's
 /// `dict_encode`, and laid out as by `build_dictionary`. It makes no value of a row: the rows are
 /// numbered by the array's items, texts and bytes share its buffers, and the codes its validity.
-/// `None` where the array itself is not laid out plain. It takes time linear in the rows.
+/// `None` where the array itself is not laid out plain. It takes time linear in the rows, unless
+/// somebody picked them to collide under the map's hash, whose seed is fixed.
 pub fn dict_encode(alloc: Global, array: &ArrayRef) -> Result<Option<ArrayRef>, AllocError>
     ensures when { IfOk result (λ found. is_some found ≡ is_plain_leaf array.now) }
     ensures dtype { IfOk result
