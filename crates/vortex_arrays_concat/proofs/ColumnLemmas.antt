@@ -19,15 +19,9 @@ use Rattle.vortex_arrays_validity.specs.Validities.{valid_rows, lengths_of_all}
 use Rattle.vortex_arrays_validity.proofs.Rows.{row_count as valid_count}
 use Rattle.vortex_arrays_concat.specs.EndToEnd.{Part, parts_of, nullability_of_all, HaveLengths, IsEndToEnd, rows_of_arrays, rows_in_all}
 use Rattle.vortex_arrays_concat.proofs.ValidityLemmas.{seen}
-use Rattle.vortex_arrays_concat.specs.Columns.{validities, numbers_in, bits_in, AreNumbers, AreBools, IsColumn, IsJoined}
+use Rattle.vortex_arrays_concat.specs.Columns.{IsAt, validities, numbers_in, bits_in, AreNumbers, AreBools, IsColumn, IsJoined}
 
 -- ---- where a row stands
-
--- row p of the arrays is row i of a
-abbrev pub IsAt : List Layout → ℕ → Layout → ℕ → Type 0
-IsAt [] p a i = ⊥
-IsAt (b ∷ bs) p a i = ((a ≡ b) × (p ≡ i) × (i < len_of b)) ⊎
-    ((q : ℕ) × (p ≡ len_of b + q) × IsAt bs q a i)
 
 pub record Place (ls : List Layout) (p : ℕ) : Type 0 where
   pub array : Layout
@@ -127,6 +121,22 @@ at_below (b ∷ bs) p a i (inl h) =
 at_below (b ∷ bs) p a i (inr h) =
     let s = rows_more b bs in let e = h.1 in let l = at_below bs h.0 a i h.2 in
     omega (arith, s, e, l)
+
+-- the rows of one array more
+pub rows_snoc : (ls : List Layout) (a : Layout) → rows_in_all (ls ++ a ∷ []) ≡ rows_in_all ls + len_of a
+rows_snoc [] a = rows_more a [] ∙ omega arith
+rows_snoc (b ∷ ls) a =
+    rows_more b (ls ++ a ∷ []) ∙ ap (λ n. len_of b + n) (rows_snoc ls a)
+    ∙ (let s = rows_more b ls in omega (arith, s))
+
+pub at_snoc : (ls : List Layout) (c : Layout) (p : ℕ) (a : Layout) (i : ℕ) → IsAt (ls ++ c ∷ []) p a i → IsAt ls p a i ⊎ ((a ≡ c) × (p ≡ rows_in_all ls + i) × (i < len_of c))
+at_snoc [] c p a i (inl h) = inr (h.0, h.1 ∙ omega arith, h.2)
+at_snoc [] c p a i (inr h) = absurd h.2
+at_snoc (b ∷ ls) c p a i (inl h) = inl (inl h)
+at_snoc (b ∷ ls) c p a i (inr h) = elim (at_snoc ls c h.0 a i h.2) [
+  | inl at ↦ inl (inr (h.0, h.1, at))
+  | inr last ↦ inr (last.0, (let s = rows_more b ls in let e = h.1 in let f = last.1 in omega (arith, s, e, f)), last.2)
+]
 
 either_same : (n : Nullability) → either_nullable n n ≡ n
 either_same non_nullable = refl

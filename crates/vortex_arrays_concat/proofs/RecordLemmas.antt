@@ -16,9 +16,9 @@ use Rattle.vortex_arrays_struct.proofs.Places.{arrays_of_parts}
 use Rattle.vortex_arrays_struct.proofs.Fitting.{parts_sound}
 use Rattle.vortex_arrays_builder.specs.Types.{IsPlainLayout, ArePlainLayouts}
 use Rattle.vortex_arrays_concat.specs.EndToEnd.{IsEndToEnd, rows_in_all, AreOfType, IsConcatenation}
-use Rattle.vortex_arrays_concat.specs.Columns.{validities, field_at, fields_at, HasField, HaveField, AreFields, IsColumn, IsJoined}
+use Rattle.vortex_arrays_concat.specs.Columns.{IsAt, validities, field_at, fields_at, HasField, HaveField, AreFields, IsColumn, IsJoined}
 use Rattle.vortex_arrays_concat.proofs.RowLemmas.{uncounted}
-use Rattle.vortex_arrays_concat.proofs.ColumnLemmas.{IsAt, AreItems, items_none, items_more, items_kinds, items_all, item_at, at_one, at_within, at_below, rows_joined, rows_more, lengths_joined, valid_at_place, kind_by_first}
+use Rattle.vortex_arrays_concat.proofs.ColumnLemmas.{AreItems, items_none, items_more, items_kinds, items_all, item_at, at_one, at_within, at_below, rows_joined, rows_more, lengths_joined, valid_at_place, kind_by_first}
 
 -- ---- the arrays of a field
 

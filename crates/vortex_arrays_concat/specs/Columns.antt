@@ -1,11 +1,17 @@
 -- Columns of one type end to end.
-use Rattle.std.specs.Prelude.{◌≡◌, ◌<◌, ℕ, ℤ, List, [], Bool, length, map, slice_index_or, All}
+use Rattle.std.specs.Prelude.{◌≡◌, ◌<◌, ◌+◌, ◌⊎◌, ℕ, ℤ, List, [], ◌∷◌, Bool, length, map, slice_index_or, All}
 use Rattle.vortex_model.specs.LogicalType.{LogicalType, IntKind}
 use Rattle.vortex_arrays_model.specs.Layout.{Layout, bools, numbers, required, len_of, array_type_of, rows_of, IsSound}
 use Rattle.vortex_arrays_model.specs.Parts.{valid_in}
 use Rattle.vortex_arrays_struct.specs.Records.{AreRecords, columns_in, arrays_in}
 use Rattle.vortex_arrays_builder.specs.Types.{IsPlainLayout}
 use Rattle.vortex_arrays_concat.specs.EndToEnd.{Part, rows_of_arrays, rows_in_all}
+
+-- row p of the arrays, one array after the other, is row i of a
+abbrev pub IsAt : List Layout → ℕ → Layout → ℕ → Type 0
+IsAt [] p a i = ⊥
+IsAt (b ∷ bs) p a i = ((a ≡ b) × (p ≡ i) × (i < len_of b)) ⊎
+    ((q : ℕ) × (p ≡ len_of b + q) × IsAt bs q a i)
 
 -- what each array says of nulls, and how many rows it has
 abbrev pub validities : List Layout → List Part

@@ -1,3 +1,4 @@
 pub mod Columns
 pub mod EndToEnd
 pub mod PlainTypes
+pub mod Strings

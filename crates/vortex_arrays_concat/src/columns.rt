@@ -6,6 +6,7 @@ ghost use Rattle.vortex_arrays_buffer.specs.PrimitiveBuffers.{kind_of_numbers, i
 ghost use Rattle.vortex_arrays_concat.specs.EndToEnd.{parts_of, rows_in_all, HaveLengths, IsEndToEnd};
 ghost use Rattle.vortex_arrays_concat.specs.Columns.{validities, numbers_in, bits_in, AreNumbers, AreBools, IsJoined};
 
+use crate::strings::concat_strings;
 use crate::validity_concat::join;
 use std::alloc::{AllocError, Global};
 use vortex_arrays_buffer::bit_buffer::BitBuffer;
@@ -15,7 +16,8 @@ use vortex_arrays_buffer::primitive_buffer::PrimitiveBuffer;
 use vortex_arrays_core::array::{ArrayLayout, ArrayRef, Validity};
 
 /// The rows of the arrays, one array after the other, of which there are so many together. `None`
-/// where the arrays are not all of integers of one kind, or all of truth values, by their layout.
+/// where they are not all laid out as integers of one kind, as truth values, or by views of texts
+/// or of bytes.
 pub(crate) fn concat_column(
     alloc: Global,
     arrays: &[ArrayRef],
@@ -30,6 +32,7 @@ pub(crate) fn concat_column(
     match first.layout() {
         ArrayLayout::Primitive(items, _) => concat_numbers(alloc, items, arrays, count),
         ArrayLayout::Bool(_, _) => concat_bools(alloc, arrays, count),
+        ArrayLayout::VarBinView(kind, _, _, _) => concat_strings(alloc, *kind, arrays, count),
         _ => Ok(None),
     }
 }

@@ -5,5 +5,6 @@ mod columns;
 mod plain_types;
 mod records;
 mod rows;
+mod strings;
 pub mod struct_array_concat;
 pub mod validity_concat;
