@@ -1,2 +1,3 @@
 pub mod Overwritten
+pub mod PlaceLemmas
 pub mod Rows

@@ -86,7 +86,7 @@ by_place old new places q n p at_p within h = record {
 -- ---- places that are numbers
 
 -- a number of any kind is one of the machine, or below zero
-greatest_below : (i : IntKind) (z : ℤ) → z ≤ℤ greatest_number i → z ≤ℤ pos 18446744073709551615
+pub greatest_below : (i : IntKind) (z : ℤ) → z ≤ℤ greatest_number i → z ≤ℤ pos 18446744073709551615
 greatest_below u8 z h = grind (arith, ints, h)
 greatest_below u16 z h = grind (arith, ints, h)
 greatest_below u32 z h = grind (arith, ints, h)

@@ -3,4 +3,5 @@
 
 mod bits;
 mod patch;
+pub mod places;
 pub mod validity_ext;

@@ -1,0 +1,10 @@
+use Rattle.std.proofs.Common.{cond, false, length, get_or, rules}
+use Rattle.std.proofs.lemmas.Iterator.{YieldsList-from_slice, YieldsList-from_map, items_from_collect}
+use Rattle.std.proofs.lemmas.Iterator.Consumers.{YieldsList-at}
+use Rattle.vortex_arrays_validity.proofs.places.true_indices.Goals as goal
+
+pub returns : goal.returns
+returns c =
+    let bits = c.args.bits.now in
+    items_from_collect c.collect.result c.collect.ensures.ran
+    (YieldsList-from_map _ (λ i. cond (get_or bits i false) i (length bits)) (YieldsList-at c.map.ensures.source (YieldsList-from_slice c.args.indices.now (search rules))) c.map.ensures.closure (λ x r q k. search rules))
