@@ -3,6 +3,7 @@
 //! `bind_proof` is called once for a predicate or a proof of a scan, so that no name is looked up
 //! while rows are tested and chunks judged.
 ghost use Rattle.std.specs.Prelude.{◌≡◌, IfOk, option_map};
+ghost use Rattle.vortex_model.specs.Content.{null};
 ghost use Rattle.vortex_model_table.specs.Expression.{between, like};
 ghost use Rattle.vortex_model.specs.Path.{positions};
 ghost use Rattle.vortex_model_table.specs.Truth.{evaluate};
@@ -33,17 +34,18 @@ pub fn bind_proof(alloc: Global, proof: &Expression, dtype: &DType) -> Result<Bo
     ensures { IfOk result (λ bound. (provided : Provided) → evaluate_bound provided bound
         ≡ evaluate (by_names (type_of dtype.now) provided) proof.now) }
 {
-    resolve(alloc, dtype, proof)
+    let bound = resolve(alloc, dtype, proof)?;
+    Ok(Box::into_inner(bound))
 }
 
 // Columns become positions, and null where they lead nowhere. So do a test for NaN and a LIKE that
 // ignores case, which have no truth.
 #[cycle(resolve)]
-fn resolve(alloc: Global, dtype: &DType, e: &Expression) -> Result<BoundTree, AllocError>
-    ensures { IfOk result (λ bound. bound ≡ bound_of (type_of dtype.now) e.now) }
+fn resolve(alloc: Global, dtype: &DType, e: &Expression) -> Result<Box<BoundTree>, AllocError>
+    ensures { IfOk result (λ bound. bound.value ≡ bound_of (type_of dtype.now) e.now) }
 {
     match &e.node {
-        Node::Literal(value) => resolve_literal(value),
+        Node::Literal(value) => resolve_literal(alloc, value),
         Node::Column(path) => resolve_column(alloc, dtype, path),
         Node::Compare(comparison, x, y) => {
             let (left, right) = resolve_both(alloc, dtype, x, y)?;
@@ -69,12 +71,12 @@ fn resolve(alloc: Global, dtype: &DType, e: &Expression) -> Result<BoundTree, Al
             let input = resolve(alloc, dtype, x)?;
             bound_is_not_null(alloc, input)
         }
-        Node::IsNan(_) => Ok(bound_literal(None)),
+        Node::IsNan(_) => resolve_null(alloc),
         Node::Between(x, lower, upper, options) => {
             resolve_range(alloc, dtype, x, lower, upper, *options)
         }
         Node::Like(x, pattern, options) => resolve_like(alloc, dtype, x, pattern, *options),
-        Node::RowCount => Ok(bound_row_count()),
+        Node::RowCount => bound_row_count(alloc),
         Node::Stat(aggregate, x) => {
             let input = resolve(alloc, dtype, x)?;
             bound_stat(alloc, *aggregate, input)
@@ -88,9 +90,9 @@ fn resolve_both(
     dtype: &DType,
     left: &Expression,
     right: &Expression,
-) -> Result<(BoundTree, BoundTree), AllocError>
-    ensures left { IfOk result (λ both. both.0 ≡ bound_of (type_of dtype.now) left.now) }
-    ensures right { IfOk result (λ both. both.1 ≡ bound_of (type_of dtype.now) right.now) }
+) -> Result<(Box<BoundTree>, Box<BoundTree>), AllocError>
+    ensures left { IfOk result (λ both. both.0.value ≡ bound_of (type_of dtype.now) left.now) }
+    ensures right { IfOk result (λ both. both.1.value ≡ bound_of (type_of dtype.now) right.now) }
 {
     let first = resolve(alloc, dtype, left)?;
     let second = resolve(alloc, dtype, right)?;
@@ -105,8 +107,8 @@ fn resolve_range(
     lower: &Expression,
     upper: &Expression,
     options: BetweenOptions,
-) -> Result<BoundTree, AllocError>
-    ensures { IfOk result (λ bound. bound ≡ bound_of (type_of dtype.now) (between value.now
+) -> Result<Box<BoundTree>, AllocError>
+    ensures { IfOk result (λ bound. bound.value ≡ bound_of (type_of dtype.now) (between value.now
         lower.now upper.now (is_strict options.lower_strict) (is_strict options.upper_strict))) }
 {
     let (lower, upper) = resolve_both(alloc, dtype, lower, upper)?;
@@ -121,32 +123,47 @@ fn resolve_like(
     value: &Expression,
     pattern: &Expression,
     options: LikeOptions,
-) -> Result<BoundTree, AllocError>
-    ensures { IfOk result (λ bound. bound ≡ bound_of (type_of dtype.now) (like value.now
+) -> Result<Box<BoundTree>, AllocError>
+    ensures { IfOk result (λ bound. bound.value ≡ bound_of (type_of dtype.now) (like value.now
         pattern.now options.negated options.case_insensitive)) }
 {
     if options.case_insensitive {
-        return Ok(bound_literal(None));
+        return resolve_null(alloc);
     }
     let (value, pattern) = resolve_both(alloc, dtype, value, pattern)?;
     bound_like(alloc, value, pattern, options.negated)
 }
 
-fn resolve_literal(value: &Scalar) -> Result<BoundTree, AllocError>
-    ensures { IfOk result (λ bound. bound ≡ fixed (scalar_content value.now)) }
+fn resolve_null(alloc: Global) -> Result<Box<BoundTree>, AllocError>
+    ensures { IfOk result (λ bound. bound.value ≡ fixed null) }
 {
-    let value = clone_value(value.value())?;
-    Ok(bound_literal(value))
+    Ok(Box::new(alloc, bound_literal(None))?)
 }
 
-fn resolve_column(alloc: Global, dtype: &DType, path: &FieldNames) -> Result<BoundTree, AllocError>
-    ensures { IfOk result (λ bound. bound ≡ bound_column (positions (type_of dtype.now) path.now)) }
+fn resolve_literal(alloc: Global, value: &Scalar) -> Result<Box<BoundTree>, AllocError>
+    ensures { IfOk result (λ bound. bound.value ≡ fixed (scalar_content value.now)) }
+{
+    let value = clone_value(value.value())?;
+    Ok(Box::new(alloc, bound_literal(value))?)
+}
+
+/// A column's positions, and null where it leads nowhere, as an expression in a box.
+pub fn resolve_column(
+    alloc: Global,
+    dtype: &DType,
+    path: &FieldNames,
+) -> Result<Box<BoundTree>, AllocError>
+    ensures { IfOk result
+        (λ bound. bound.value ≡ bound_column (positions (type_of dtype.now) path.now)) }
 {
     match column_positions(alloc, dtype, path)? {
-        Some(positions) => Ok(BoundTree {
-            node: BoundNode::Column(positions),
-        }),
-        None => Ok(bound_literal(None)),
+        Some(positions) => {
+            let bound = BoundTree {
+                node: BoundNode::Column(positions),
+            };
+            Ok(Box::new(alloc, bound)?)
+        }
+        None => resolve_null(alloc),
     }
 }
 

@@ -92,116 +92,135 @@ impl Model for BoundTree {
     ghost size_decreases = { λ a h. depth_le-size a.node };
 }
 
+/// The comparison of two expressions. What is bound is handed on in boxes, in which it ends up
+/// anyway, since every level of an expression would move it.
 pub(crate) fn bound_compare(
     alloc: Global,
     comparison: Comparison,
-    left: BoundTree,
-    right: BoundTree,
-) -> Result<BoundTree, AllocError>
-    ensures { IfOk result (λ bound. bound ≡ test (comparison_of comparison) left right) }
+    left: Box<BoundTree>,
+    right: Box<BoundTree>,
+) -> Result<Box<BoundTree>, AllocError>
+    ensures { IfOk result
+        (λ bound. bound.value ≡ test (comparison_of comparison) left.value right.value) }
 {
-    Ok(BoundTree {
-        node: BoundNode::Compare(comparison, Box::new(alloc, left)?, Box::new(alloc, right)?),
-    })
+    let bound = BoundTree {
+        node: BoundNode::Compare(comparison, left, right),
+    };
+    Ok(Box::new(alloc, bound)?)
 }
 
-pub(crate) fn bound_and(
+/// AND of two expressions.
+pub fn bound_and(
     alloc: Global,
-    left: BoundTree,
-    right: BoundTree,
-) -> Result<BoundTree, AllocError>
-    ensures { IfOk result (λ bound. bound ≡ each left right) }
+    left: Box<BoundTree>,
+    right: Box<BoundTree>,
+) -> Result<Box<BoundTree>, AllocError>
+    ensures { IfOk result (λ bound. bound.value ≡ each left.value right.value) }
 {
-    Ok(BoundTree {
-        node: BoundNode::And(Box::new(alloc, left)?, Box::new(alloc, right)?),
-    })
+    let bound = BoundTree {
+        node: BoundNode::And(left, right),
+    };
+    Ok(Box::new(alloc, bound)?)
 }
 
-pub(crate) fn bound_or(
+/// OR of two expressions.
+pub fn bound_or(
     alloc: Global,
-    left: BoundTree,
-    right: BoundTree,
-) -> Result<BoundTree, AllocError>
-    ensures { IfOk result (λ bound. bound ≡ some left right) }
+    left: Box<BoundTree>,
+    right: Box<BoundTree>,
+) -> Result<Box<BoundTree>, AllocError>
+    ensures { IfOk result (λ bound. bound.value ≡ some left.value right.value) }
 {
-    Ok(BoundTree {
-        node: BoundNode::Or(Box::new(alloc, left)?, Box::new(alloc, right)?),
-    })
+    let bound = BoundTree {
+        node: BoundNode::Or(left, right),
+    };
+    Ok(Box::new(alloc, bound)?)
 }
 
-pub(crate) fn bound_not(alloc: Global, input: BoundTree) -> Result<BoundTree, AllocError>
-    ensures { IfOk result (λ bound. bound ≡ opposite input) }
+pub(crate) fn bound_not(alloc: Global, input: Box<BoundTree>) -> Result<Box<BoundTree>, AllocError>
+    ensures { IfOk result (λ bound. bound.value ≡ opposite input.value) }
 {
-    Ok(BoundTree {
-        node: BoundNode::Not(Box::new(alloc, input)?),
-    })
+    let bound = BoundTree {
+        node: BoundNode::Not(input),
+    };
+    Ok(Box::new(alloc, bound)?)
 }
 
-pub(crate) fn bound_is_null(alloc: Global, input: BoundTree) -> Result<BoundTree, AllocError>
-    ensures { IfOk result (λ bound. bound ≡ null_test input) }
+pub(crate) fn bound_is_null(
+    alloc: Global,
+    input: Box<BoundTree>,
+) -> Result<Box<BoundTree>, AllocError>
+    ensures { IfOk result (λ bound. bound.value ≡ null_test input.value) }
 {
-    Ok(BoundTree {
-        node: BoundNode::IsNull(Box::new(alloc, input)?),
-    })
+    let bound = BoundTree {
+        node: BoundNode::IsNull(input),
+    };
+    Ok(Box::new(alloc, bound)?)
 }
 
-pub(crate) fn bound_is_not_null(alloc: Global, input: BoundTree) -> Result<BoundTree, AllocError>
-    ensures { IfOk result (λ bound. bound ≡ value_test input) }
+pub(crate) fn bound_is_not_null(
+    alloc: Global,
+    input: Box<BoundTree>,
+) -> Result<Box<BoundTree>, AllocError>
+    ensures { IfOk result (λ bound. bound.value ≡ value_test input.value) }
 {
-    Ok(BoundTree {
-        node: BoundNode::IsNotNull(Box::new(alloc, input)?),
-    })
+    let bound = BoundTree {
+        node: BoundNode::IsNotNull(input),
+    };
+    Ok(Box::new(alloc, bound)?)
 }
 
 pub(crate) fn bound_between(
     alloc: Global,
-    value: BoundTree,
-    lower: BoundTree,
-    upper: BoundTree,
+    value: Box<BoundTree>,
+    lower: Box<BoundTree>,
+    upper: Box<BoundTree>,
     options: BetweenOptions,
-) -> Result<BoundTree, AllocError>
-    ensures { IfOk result (λ bound. bound ≡ range_test value lower upper
+) -> Result<Box<BoundTree>, AllocError>
+    ensures { IfOk result (λ bound. bound.value ≡ range_test value.value lower.value upper.value
         (is_strict options.lower_strict) (is_strict options.upper_strict)) }
 {
-    let value = Box::new(alloc, value)?;
-    let lower = Box::new(alloc, lower)?;
-    let upper = Box::new(alloc, upper)?;
-    Ok(BoundTree {
+    let bound = BoundTree {
         node: BoundNode::Between(value, lower, upper, options),
-    })
+    };
+    Ok(Box::new(alloc, bound)?)
 }
 
 pub(crate) fn bound_like(
     alloc: Global,
-    value: BoundTree,
-    pattern: BoundTree,
+    value: Box<BoundTree>,
+    pattern: Box<BoundTree>,
     negated: bool,
-) -> Result<BoundTree, AllocError>
-    ensures { IfOk result (λ bound. bound ≡ match_test value pattern negated) }
+) -> Result<Box<BoundTree>, AllocError>
+    ensures { IfOk result (λ bound. bound.value ≡ match_test value.value pattern.value negated) }
 {
-    Ok(BoundTree {
-        node: BoundNode::Like(Box::new(alloc, value)?, Box::new(alloc, pattern)?, negated),
-    })
+    let bound = BoundTree {
+        node: BoundNode::Like(value, pattern, negated),
+    };
+    Ok(Box::new(alloc, bound)?)
 }
 
-pub(crate) fn bound_row_count() -> BoundTree
-    ensures { result ≡ count_of_rows }
+pub(crate) fn bound_row_count(alloc: Global) -> Result<Box<BoundTree>, AllocError>
+    ensures { IfOk result (λ bound. bound.value ≡ count_of_rows) }
 {
-    BoundTree {
+    let bound = BoundTree {
         node: BoundNode::RowCount,
-    }
+    };
+    Ok(Box::new(alloc, bound)?)
 }
 
 pub(crate) fn bound_stat(
     alloc: Global,
     aggregate: AggregateFn,
-    input: BoundTree,
-) -> Result<BoundTree, AllocError>
-    ensures { IfOk result (λ bound. bound ≡ placeholder input (aggregate_of aggregate)) }
+    input: Box<BoundTree>,
+) -> Result<Box<BoundTree>, AllocError>
+    ensures { IfOk result
+        (λ bound. bound.value ≡ placeholder input.value (aggregate_of aggregate)) }
 {
-    Ok(BoundTree {
-        node: BoundNode::Stat(aggregate, Box::new(alloc, input)?),
-    })
+    let bound = BoundTree {
+        node: BoundNode::Stat(aggregate, input),
+    };
+    Ok(Box::new(alloc, bound)?)
 }
 
 /// A literal, where `None` is null. Binders answer placeholders by it.

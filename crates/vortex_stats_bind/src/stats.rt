@@ -4,7 +4,7 @@ ghost use Rattle.std.specs.Prelude.{◌≡◌, IfOk};
 ghost use Rattle.vortex_model.specs.Content.{Content};
 ghost use Rattle.vortex_model_table.specs.Expression.{Aggregate};
 ghost use Rattle.vortex_scalar_value.specs.View.{content_at};
-ghost use Rattle.vortex_stats_bind.specs.Bound.{Bound, fixed, range_test, placeholder};
+ghost use Rattle.vortex_stats_bind.specs.Bound.{Bound, fixed, place, range_test, placeholder};
 ghost use Rattle.vortex_stats_bind.specs.Stats.{IsAnswer, IsBinding};
 ghost use Rattle.vortex_stats_expr.specs.Tree.{is_strict};
 ghost use Rattle.vortex_stats_stat.specs.Aggregate.{aggregate_of};
@@ -48,7 +48,6 @@ pub trait StatBinder {
 /// The proof with each placeholder replaced by the binder's literal, or by its `missing_stat` where
 /// there is none, as Vortex's `bind_stats`. It asks the binder once for each placeholder, and looks
 /// for none in what it answers.
-#[cycle(bind)]
 pub fn bind_stats<B: StatBinder>(
     alloc: Global,
     proof: &BoundTree,
@@ -56,11 +55,21 @@ pub fn bind_stats<B: StatBinder>(
 ) -> Result<BoundTree, AllocError>
     ensures { IfOk result (λ bound. IsBinding (B.meaning binder.now) proof.now bound) }
 {
+    let bound = bind_boxed(alloc, proof, binder)?;
+    Ok(Box::into_inner(bound))
+}
+
+#[cycle(bind)]
+fn bind_boxed<B: StatBinder>(
+    alloc: Global,
+    proof: &BoundTree,
+    binder: &B,
+) -> Result<Box<BoundTree>, AllocError>
+    ensures { IfOk result (λ bound. IsBinding (B.meaning binder.now) proof.now bound.value) }
+{
     match &proof.node {
-        BoundNode::Literal(value) => copy_literal(value.as_ref()),
-        BoundNode::Column(path) => Ok(BoundTree {
-            node: BoundNode::Column(path.clone()?),
-        }),
+        BoundNode::Literal(value) => copy_literal(alloc, value.as_ref()),
+        BoundNode::Column(path) => copy_column(alloc, path),
         BoundNode::Compare(comparison, x, y) => {
             let (left, right) = bind_both(alloc, x, y, binder)?;
             bound_compare(alloc, *comparison, left, right)
@@ -74,15 +83,15 @@ pub fn bind_stats<B: StatBinder>(
             bound_or(alloc, left, right)
         }
         BoundNode::Not(x) => {
-            let input = bind_stats(alloc, x, binder)?;
+            let input = bind_boxed(alloc, x, binder)?;
             bound_not(alloc, input)
         }
         BoundNode::IsNull(x) => {
-            let input = bind_stats(alloc, x, binder)?;
+            let input = bind_boxed(alloc, x, binder)?;
             bound_is_null(alloc, input)
         }
         BoundNode::IsNotNull(x) => {
-            let input = bind_stats(alloc, x, binder)?;
+            let input = bind_boxed(alloc, x, binder)?;
             bound_is_not_null(alloc, input)
         }
         BoundNode::Between(x, lower, upper, options) => {
@@ -92,7 +101,7 @@ pub fn bind_stats<B: StatBinder>(
             let (value, pattern) = bind_both(alloc, x, pattern, binder)?;
             bound_like(alloc, value, pattern, *negated)
         }
-        BoundNode::RowCount => Ok(bound_row_count()),
+        BoundNode::RowCount => bound_row_count(alloc),
         BoundNode::Stat(aggregate, input) => bind_stat(alloc, *aggregate, input, binder),
     }
 }
@@ -103,12 +112,12 @@ fn bind_both<B: StatBinder>(
     x: &BoundTree,
     y: &BoundTree,
     binder: &B,
-) -> Result<(BoundTree, BoundTree), AllocError>
-    ensures left { IfOk result (λ bound. IsBinding (B.meaning binder.now) x.now bound.0) }
-    ensures right { IfOk result (λ bound. IsBinding (B.meaning binder.now) y.now bound.1) }
+) -> Result<(Box<BoundTree>, Box<BoundTree>), AllocError>
+    ensures left { IfOk result (λ bound. IsBinding (B.meaning binder.now) x.now bound.0.value) }
+    ensures right { IfOk result (λ bound. IsBinding (B.meaning binder.now) y.now bound.1.value) }
 {
-    let left = bind_stats(alloc, x, binder)?;
-    let right = bind_stats(alloc, y, binder)?;
+    let left = bind_boxed(alloc, x, binder)?;
+    let right = bind_boxed(alloc, y, binder)?;
     Ok((left, right))
 }
 
@@ -120,20 +129,29 @@ fn bind_range<B: StatBinder>(
     upper: &BoundTree,
     options: BetweenOptions,
     binder: &B,
-) -> Result<BoundTree, AllocError>
+) -> Result<Box<BoundTree>, AllocError>
     ensures { IfOk result (λ bound. IsBinding (B.meaning binder.now) (range_test x.now lower.now
-        upper.now (is_strict options.lower_strict) (is_strict options.upper_strict)) bound) }
+        upper.now (is_strict options.lower_strict) (is_strict options.upper_strict)) bound.value) }
 {
     let (lower, upper) = bind_both(alloc, lower, upper, binder)?;
-    let value = bind_stats(alloc, x, binder)?;
+    let value = bind_boxed(alloc, x, binder)?;
     bound_between(alloc, value, lower, upper, options)
 }
 
-fn copy_literal(value: Option<&ScalarValue>) -> Result<BoundTree, AllocError>
-    ensures { IfOk result (λ bound. bound ≡ fixed (content_at value.entry)) }
+fn copy_literal(alloc: Global, value: Option<&ScalarValue>) -> Result<Box<BoundTree>, AllocError>
+    ensures { IfOk result (λ bound. bound.value ≡ fixed (content_at value.entry)) }
 {
     let value = clone_value(value)?;
-    Ok(bound_literal(value))
+    Ok(Box::new(alloc, bound_literal(value))?)
+}
+
+fn copy_column(alloc: Global, path: &Vec<usize>) -> Result<Box<BoundTree>, AllocError>
+    ensures { IfOk result (λ bound. bound.value ≡ place path.now.items) }
+{
+    let bound = BoundTree {
+        node: BoundNode::Column(path.clone()?),
+    };
+    Ok(Box::new(alloc, bound)?)
 }
 
 fn bind_stat<B: StatBinder>(
@@ -141,12 +159,13 @@ fn bind_stat<B: StatBinder>(
     aggregate: AggregateFn,
     input: &BoundTree,
     binder: &B,
-) -> Result<BoundTree, AllocError>
+) -> Result<Box<BoundTree>, AllocError>
     ensures { IfOk result (λ bound. IsBinding (B.meaning binder.now)
-        (placeholder input.now (aggregate_of aggregate)) bound) }
+        (placeholder input.now (aggregate_of aggregate)) bound.value) }
 {
-    match binder.bind_aggregate(alloc, input, aggregate)? {
-        Some(found) => Ok(found),
-        None => binder.missing_stat(alloc),
-    }
+    let found = match binder.bind_aggregate(alloc, input, aggregate)? {
+        Some(found) => found,
+        None => binder.missing_stat(alloc)?,
+    };
+    Ok(Box::new(alloc, found)?)
 }

@@ -10,11 +10,11 @@ ghost use Rattle.vortex_stats_expr.specs.Tree.{comparison_of, is_strict};
 ghost use Rattle.vortex_table_chunk.specs.Proved.{IsBoundProof};
 ghost use Rattle.vortex_table_plan.specs.Sides.{either_bound, both_bound};
 
-use crate::sides::{bind_and, bind_or, falsify_sides, side_of};
+use crate::sides::{falsify_sides, side_of};
 use std::alloc::{AllocError, Global};
 use vortex_dtype_core::dtype::DType;
 use vortex_stats_bind::bind::bind_proof;
-use vortex_stats_bind::bound::BoundTree;
+use vortex_stats_bind::bound::{BoundTree, bound_and, bound_or};
 use vortex_stats_expr::expression::{Expression, Node};
 use vortex_stats_expr::operator::Comparison;
 use vortex_stats_expr::options::BetweenOptions;
@@ -66,7 +66,7 @@ fn bind_either(
 {
     match (left, right) {
         (Some(x), Some(y)) => {
-            let bound = bind_or(alloc, x, y)?;
+            let bound = bound_or(alloc, x, y)?;
             Ok(Some(bound))
         }
         (Some(x), None) => Ok(Some(x)),
@@ -84,7 +84,7 @@ fn bind_both(
 {
     match left.zip(right) {
         Some((x, y)) => {
-            let bound = bind_and(alloc, x, y)?;
+            let bound = bound_and(alloc, x, y)?;
             Ok(Some(bound))
         }
         None => Ok(None),
@@ -142,7 +142,7 @@ fn bind_range(
     let to_upper = options.upper_strict.to_comparison();
     let below = falsify_sides(alloc, dtype, from_lower, least, inside)?;
     let above = falsify_sides(alloc, dtype, to_upper, inside, greatest)?;
-    let bound = bind_or(alloc, below, above)?;
+    let bound = bound_or(alloc, below, above)?;
     Ok(Some(bound))
 }
 

@@ -2,10 +2,9 @@
 //! handed on in boxes, in which it ends up anyway.
 ghost use Rattle.std.specs.Prelude.{◌≡◌, IfOk, IfSome};
 ghost use Rattle.vortex_model_table.specs.Expression.{compare, min, max};
-ghost use Rattle.vortex_model.specs.Path.{positions};
 ghost use Rattle.vortex_model_table.specs.Rewrite.{bound_expression, comparison_falsifier};
 ghost use Rattle.vortex_dtype_core.specs.View.{type_of};
-ghost use Rattle.vortex_stats_bind.specs.Bound.{bound_of, bound_column, each, some};
+ghost use Rattle.vortex_stats_bind.specs.Bound.{bound_of};
 ghost use Rattle.vortex_stats_expr.specs.Tree.{comparison_of};
 ghost use Rattle.vortex_stats_stat.specs.Aggregate.{aggregate_of};
 ghost use Rattle.vortex_table_plan.specs.Sides.{side_expression, IsSideOf};
@@ -15,8 +14,8 @@ use vortex_dtype_core::dtype::DType;
 use vortex_dtype_ptype::field_names::FieldNames;
 use vortex_scalar_core::scalar::Scalar;
 use vortex_scalar_value::clone::clone_value;
-use vortex_stats_bind::bind::column_positions;
-use vortex_stats_bind::bound::{BoundNode, BoundTree, bound_literal};
+use vortex_stats_bind::bind::resolve_column;
+use vortex_stats_bind::bound::{BoundNode, BoundTree, bound_and, bound_literal, bound_or};
 use vortex_stats_expr::expression::{Expression, Node};
 use vortex_stats_expr::operator::Comparison;
 use vortex_stats_stat::aggregate::AggregateFn;
@@ -57,26 +56,6 @@ pub(crate) fn side_of<'e>(dtype: &DType, e: &'e Expression) -> Option<Side<'e>>
     }
 }
 
-// A column's positions, and null where it leads nowhere.
-fn bind_column(
-    alloc: Global,
-    dtype: &DType,
-    path: &FieldNames,
-) -> Result<Box<BoundTree>, AllocError>
-    ensures { IfOk result
-        (λ bound. bound.value ≡ bound_column (positions (type_of dtype.now) path.now)) }
-{
-    match column_positions(alloc, dtype, path)? {
-        Some(positions) => {
-            let bound = BoundTree {
-                node: BoundNode::Column(positions),
-            };
-            Ok(Box::new(alloc, bound)?)
-        }
-        None => Ok(Box::new(alloc, bound_literal(None))?),
-    }
-}
-
 // The least or the greatest value. Each of a literal is the literal itself.
 fn bind_side(
     alloc: Global,
@@ -93,7 +72,7 @@ fn bind_side(
             Ok(Box::new(alloc, bound_literal(value))?)
         }
         Side::Column(path) => {
-            let input = bind_column(alloc, dtype, path)?;
+            let input = resolve_column(alloc, dtype, path)?;
             let bound = BoundTree {
                 node: BoundNode::Stat(aggregate, input),
             };
@@ -184,42 +163,16 @@ pub(crate) fn falsify_sides(
         Comparison::Eq => {
             let above = compare_least(alloc, dtype, Comparison::Gt, x, y)?;
             let below = compare_least(alloc, dtype, Comparison::Gt, y, x)?;
-            bind_or(alloc, above, below)
+            bound_or(alloc, above, below)
         }
         Comparison::NotEq => {
             let low = compare_least(alloc, dtype, Comparison::Eq, x, y)?;
             let high = compare_greatest(alloc, dtype, Comparison::Eq, x, y)?;
-            bind_and(alloc, low, high)
+            bound_and(alloc, low, high)
         }
         Comparison::Gt => compare_greatest(alloc, dtype, Comparison::Lte, x, y),
         Comparison::Gte => compare_greatest(alloc, dtype, Comparison::Lt, x, y),
         Comparison::Lt => compare_least(alloc, dtype, Comparison::Gte, x, y),
         Comparison::Lte => compare_least(alloc, dtype, Comparison::Gt, x, y),
     }
-}
-
-pub(crate) fn bind_and(
-    alloc: Global,
-    left: Box<BoundTree>,
-    right: Box<BoundTree>,
-) -> Result<Box<BoundTree>, AllocError>
-    ensures { IfOk result (λ bound. bound.value ≡ each left.value right.value) }
-{
-    let bound = BoundTree {
-        node: BoundNode::And(left, right),
-    };
-    Ok(Box::new(alloc, bound)?)
-}
-
-pub(crate) fn bind_or(
-    alloc: Global,
-    left: Box<BoundTree>,
-    right: Box<BoundTree>,
-) -> Result<Box<BoundTree>, AllocError>
-    ensures { IfOk result (λ bound. bound.value ≡ some left.value right.value) }
-{
-    let bound = BoundTree {
-        node: BoundNode::Or(left, right),
-    };
-    Ok(Box::new(alloc, bound)?)
 }
