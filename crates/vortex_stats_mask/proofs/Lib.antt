@@ -1,5 +1,6 @@
 pub mod Changed
 pub mod Comparing
+pub mod HeadedLemmas
 pub mod Kept
 pub mod Literals
 pub mod Orders

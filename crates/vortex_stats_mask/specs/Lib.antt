@@ -1,4 +1,5 @@
 pub mod Columns
+pub mod Headed
 pub mod Laws
 pub mod Literals
 pub mod Runs

@@ -1,8 +1,7 @@
 //! Leaf columns, as slices that stay where they are.
-ghost use Rattle.std.specs.Prelude.{◌≡◌, length, map, false, MatchOption};
-ghost use Rattle.vortex_model.specs.Content.{boolean, integer, text, byte_string};
-ghost use Rattle.vortex_arrays_buffer.specs.PrimitiveBuffers.{integers_of};
-ghost use Rattle.vortex_stats_mask.specs.Columns.{values_of, contents_of, are_bools, are_numbers, are_texts, are_binaries};
+ghost use Rattle.std.specs.Prelude.{◌≡◌};
+ghost use Rattle.std.proofs.Math.Logic.{∥∥₁_prop};
+ghost use Rattle.vortex_stats_mask.specs.Headed.{AreHeaded};
 
 use bytes::Bytes;
 use vortex_arrays_buffer::bit_buffer::BitBuffer;
@@ -25,69 +24,11 @@ pub enum Items<'a> {
     Binaries(Strings<'a>),
 }
 
-impl Items<'_> {
-    /// How many values there are.
-    pub fn len(&self) -> usize
-        ensures { result ≡ length (contents_of self.now) }
-    {
-        match self {
-            Items::Bools(items) => items.len(),
-            Items::Numbers(numbers) => numbers.len(),
-            Items::Texts(strings) => strings.views.len(),
-            Items::Binaries(strings) => strings.views.len(),
-        }
-    }
-}
-
-impl<'a> Items<'a> {
-    /// The truth values, where they are such.
-    pub fn as_bools(&self) -> Option<&'a [bool]>
-        ensures { MatchOption result (are_bools self.now ≡ false)
-            (λ items. contents_of self.now ≡ map boolean items.now) }
-    {
-        match self {
-            Items::Bools(items) => Some(*items),
-            Items::Numbers(_) | Items::Texts(_) | Items::Binaries(_) => None,
-        }
-    }
-
-    /// The numbers, where they are such.
-    pub fn as_numbers(&self) -> Option<&'a PrimitiveBuffer>
-        ensures { MatchOption result (are_numbers self.now ≡ false)
-            (λ numbers. contents_of self.now ≡ map integer (integers_of numbers.now)) }
-    {
-        match self {
-            Items::Numbers(numbers) => Some(*numbers),
-            Items::Bools(_) | Items::Texts(_) | Items::Binaries(_) => None,
-        }
-    }
-
-    /// The texts, where they are such.
-    pub fn as_texts(&self) -> Option<Strings<'a>>
-        ensures { MatchOption result (are_texts self.now ≡ false)
-            (λ strings. contents_of self.now ≡ map text (values_of strings)) }
-    {
-        match self {
-            Items::Texts(strings) => Some(*strings),
-            Items::Bools(_) | Items::Numbers(_) | Items::Binaries(_) => None,
-        }
-    }
-
-    /// The bytes, where they are such.
-    pub fn as_binaries(&self) -> Option<Strings<'a>>
-        ensures { MatchOption result (are_binaries self.now ≡ false)
-            (λ strings. contents_of self.now ≡ map byte_string (values_of strings)) }
-    {
-        match self {
-            Items::Binaries(strings) => Some(*strings),
-            Items::Bools(_) | Items::Numbers(_) | Items::Texts(_) => None,
-        }
-    }
-}
-
 /// A leaf column: its values, and which of them are valid, a bit for each. No validity means all.
 #[derive(Clone, Copy)]
 pub struct Column<'a> {
     pub items: Items<'a>,
     pub validity: Option<&'a BitBuffer>,
+    // The views of valid rows have the first bytes of their values.
+    pub ghost headed: { ∥ AreHeaded items validity ∥₁ } by { ∥∥₁_prop },
 }

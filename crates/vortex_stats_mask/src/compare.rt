@@ -1,19 +1,21 @@
 //! Comparisons of a column with a literal.
-ghost use Rattle.std.specs.Prelude.{◌≡◌, map, IfOk};
+ghost use Rattle.std.specs.Prelude.{◌≡◌, map, IfOk, List, Bool, Option};
+ghost use Rattle.std.specs.Borrow.{Bor};
 ghost use Rattle.std.specs.Ordering.{bool_cmp};
 ghost use Rattle.vortex_model.specs.Content.{boolean, integer, text, byte_string};
 ghost use Rattle.vortex_model_table.specs.Truth.{compared, is_true, test_of};
 ghost use Rattle.vortex_arrays_buffer.specs.PrimitiveBuffers.{integers_of};
 ghost use Rattle.vortex_scalar_value.specs.View.{content_at};
 ghost use Rattle.vortex_stats_expr.specs.Tree.{comparison_of};
-ghost use Rattle.vortex_stats_mask.specs.Columns.{values_of, contents_of, column_of};
+ghost use Rattle.vortex_stats_mask.specs.Columns.{values_of, contents_of, column_of, kept};
+ghost use Rattle.vortex_stats_mask.specs.Headed.{rows_in, HaveHeads, AreHeaded};
 ghost use Rattle.vortex_stats_mask.specs.Wanted.{is_wanted};
 
 use crate::column::{Column, Items, Strings};
 use crate::literal;
 use crate::masks::{keep_valid, no_rows};
 use crate::numbers::compare_numbers;
-use crate::strings::compare_strings;
+use crate::strings::test_views;
 use crate::turned::wanted;
 use std::alloc::{AllocError, Global};
 use vortex_arrays_buffer::primitive_buffer::PrimitiveBuffer;
@@ -73,12 +75,19 @@ fn compare_texts(
     strings: &Strings<'_>,
     literal: Option<&ScalarValue>,
 ) -> Result<Vec<bool>, AllocError>
-    ensures { IfOk result (λ mask. mask.items
-        ≡ map (λ c. is_true (compared (comparison_of comparison) c (content_at literal.entry)))
-        (map text (values_of strings.now))) }
+    ensures { (valid : Option (Bor (List Bool))) → HaveHeads (rows_in valid) strings.now →
+        IfOk result (λ mask. kept valid mask.items ≡ kept valid
+        (map (λ c. is_true (compared (comparison_of comparison) c (content_at literal.entry)))
+        (map text (values_of strings.now)))) }
 {
     match literal::text(literal) {
-        Some(text) => compare_strings(alloc, comparison, strings, text.as_bytes()),
+        Some(text) => test_views(
+            alloc,
+            comparison,
+            strings.views,
+            strings.buffers,
+            text.as_bytes(),
+        ),
         None => no_rows(alloc, strings.views.len()),
     }
 }
@@ -89,26 +98,28 @@ fn compare_binaries(
     strings: &Strings<'_>,
     literal: Option<&ScalarValue>,
 ) -> Result<Vec<bool>, AllocError>
-    ensures { IfOk result (λ mask. mask.items
-        ≡ map (λ c. is_true (compared (comparison_of comparison) c (content_at literal.entry)))
-        (map byte_string (values_of strings.now))) }
+    ensures { (valid : Option (Bor (List Bool))) → HaveHeads (rows_in valid) strings.now →
+        IfOk result (λ mask. kept valid mask.items ≡ kept valid
+        (map (λ c. is_true (compared (comparison_of comparison) c (content_at literal.entry)))
+        (map byte_string (values_of strings.now)))) }
 {
     match literal::bytes(literal) {
-        Some(bytes) => compare_strings(alloc, comparison, strings, bytes),
+        Some(bytes) => test_views(alloc, comparison, strings.views, strings.buffers, bytes),
         None => no_rows(alloc, strings.views.len()),
     }
 }
 
-// The items are taken as valid.
+// The items are taken as valid. What is told of a null row means nothing.
 fn compare_items(
     alloc: Global,
     comparison: Comparison,
     items: &Items<'_>,
     literal: Option<&ScalarValue>,
 ) -> Result<Vec<bool>, AllocError>
-    ensures { IfOk result (λ mask. mask.items
-        ≡ map (λ c. is_true (compared (comparison_of comparison) c (content_at literal.entry)))
-        (contents_of items.now)) }
+    ensures { (valid : Option (Bor (List Bool))) → AreHeaded items.now valid →
+        IfOk result (λ mask. kept valid mask.items ≡ kept valid
+        (map (λ c. is_true (compared (comparison_of comparison) c (content_at literal.entry)))
+        (contents_of items.now))) }
 {
     match items {
         Items::Bools(items) => compare_bools(alloc, comparison, items, literal),

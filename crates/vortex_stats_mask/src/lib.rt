@@ -3,12 +3,14 @@
 
 pub mod column;
 pub mod compare;
+mod items;
 pub mod laws;
 mod literal;
 pub mod masks;
+pub mod matches;
 pub mod narrow;
 pub mod numbers;
 pub mod pairs;
 mod runs;
-pub mod strings;
+mod strings;
 pub mod turned;

@@ -13,7 +13,7 @@ ghost use Rattle.vortex_stats_mask.specs.Columns.{values_of, contents_of, column
 use crate::column::{Column, Items, Strings};
 use crate::masks::{keep_valid, no_rows};
 use crate::numbers::compare_each;
-use crate::strings::{order, value_in};
+use crate::strings::order;
 use bytes::Bytes;
 use std::alloc::{AllocError, Global};
 use vortex_arrays_buffer::element::Element;
@@ -21,6 +21,7 @@ use vortex_arrays_buffer::primitive_buffer::PrimitiveBuffer;
 use vortex_arrays_view::view::BinaryView;
 use vortex_dtype_native::native::NativePType;
 use vortex_stats_expr::operator::Comparison;
+use vortex_stats_strings::value::value_in;
 
 fn pair_bools(
     alloc: Global,

@@ -1,5 +1,5 @@
 -- What masks say of the rows that are asked about.
-use Rattle.std.proofs.Common.{◌≡◌, refl, sym, ap, ◌∙◌, Bool, true, false, not, ◌&&◌, ◌≤◌, List, [], ◌∷◌, length, map, arith, Option, Some, None}
+use Rattle.std.proofs.Common.{◌≡◌, refl, sym, ap, ◌∙◌, Bool, true, false, not, ◌&&◌, List, [], ◌∷◌, length, map, replicate, Option, Some, None}
 use Rattle.std.specs.Prelude.{Result, IfOk, IfSome, Vec}
 use Rattle.std.specs.List.{zip}
 use Rattle.std.specs.declared.alloc.Global.{Global}
@@ -7,6 +7,7 @@ use Rattle.std.specs.declared.alloc.AllocError.{AllocError}
 use Rattle.std.proofs.lemmas.Result.{IfOk-weaker}
 use Rattle.vortex_model.specs.Content.{Content}
 use Rattle.vortex_stats_bind.specs.Bound.{Bound, each, some, bound_value}
+use Rattle.vortex_stats_mask.specs.Columns.{both_rows}
 use Rattle.vortex_stats_mask.specs.Wanted.{joined_by, is_wanted}
 use Rattle.vortex_stats_mask.proofs.Truths.{wanted_of_and, wanted_of_or}
 use Rattle.vortex_stats_select.specs.declared.asked.Asked.{Asked}
@@ -25,13 +26,12 @@ told_of_all asked result rows h = IfOk-weaker result _ _ each_found h
 
 -- ---- tests of those rows alone
 
-pub no_more : {A : Type 0} (at : Bool) (mask : List Bool) (xs : List A) → length (map (λ p. leaves_open at p.0) (zip mask xs)) ≤ length xs
-no_more at [] xs = omega arith
-no_more at (m ∷ ms) [] = omega arith
-no_more at (m ∷ ms) (x ∷ xs) = let rest = no_more at ms xs in omega (arith, rest)
+pub tested_all : {A : Type 0} (f : A → Bool) (xs : List A) → both_rows (replicate (length xs) true) (map f xs) ≡ map f xs
+tested_all f [] = refl
+tested_all f (x ∷ xs) = ap (λ ys. f x ∷ ys) (tested_all f xs)
 
 pub tested_open : {A : Type 0} (at : Bool) (f : A → Bool) (mask : List Bool) (xs : List A) →
-    map (λ p. p.0 && f p.1) (zip (map (λ p. leaves_open at p.0) (zip mask xs)) xs) ≡ open_rows at mask (map f xs)
+    both_rows (map (λ p. leaves_open at p.0) (zip mask xs)) (map f xs) ≡ open_rows at mask (map f xs)
 tested_open at f [] xs = refl
 tested_open at f (m ∷ ms) [] = refl
 tested_open at f (m ∷ ms) (x ∷ xs) = ap (λ ys. (leaves_open at m && f x) ∷ ys) (tested_open at f ms xs)

@@ -1,14 +1,18 @@
 -- The rows of arrays that are laid out plain, as leaf columns.
-use Rattle.std.proofs.Common.{◌≡◌, sym, ap, subst, ◌∙◌, ℕ, ℤ, pos, Bool, true, false, cond, List, [], length, map, get_or, Option, Some, None}
+use Rattle.std.proofs.Common.{◌≡◌, sym, ap, subst, ◌∙◌, ℕ, suc, ◌+◌, ◌<◌, ℤ, pos, Bool, true, false, cond, List, [], ◌∷◌, length, map, get_or, Option, Some, None, arith}
 use Rattle.std.specs.Prelude.{IfSome, MatchOption}
 use Rattle.std.specs.List.{zip, range_with_len}
 use Rattle.std.proofs.lemmas.List.{length-map, get_or-map}
+use Rattle.std.proofs.lemmas.List.Elements.{All-from_get_or}
 use Rattle.std.proofs.lemmas.List.FromFn.{fill_by_all}
 use Rattle.vortex_model.specs.LogicalType.{IntKind}
 use Rattle.vortex_model.specs.Content.{Content, null, boolean, integer}
-use Rattle.vortex_arrays_model.specs.Layout.{Valid, Strings, bools, numbers, strings, string_content, is_valid, rows_of}
+use Rattle.vortex_arrays_model.specs.Layout.{Valid, Strings, bools, numbers, strings, string_content, is_valid, rows_of, IsSound}
 use Rattle.vortex_arrays_view.specs.Views.{value_of}
 use Rattle.vortex_stats_mask.specs.Columns.{shown_at}
+use Rattle.vortex_stats_mask.specs.Headed.{AllValid, ViewsHaveHeads}
+use Rattle.vortex_stats_strings.specs.Heads.{HasHead}
+use Rattle.vortex_stats_strings.proofs.HeadLemmas.{has_head}
 use Rattle.vortex_stats_select.specs.Leaves.{shown_by}
 use Rattle.vortex_stats_select.proofs.PairLemmas.{paired, through}
 
@@ -43,3 +47,21 @@ pub shared_told : (v : Valid) (n : ℕ) (shared : Option (Option (List Bool))) (
     MatchOption o ((i : ℕ) → is_valid v i ≡ true) (λ rows. rows ≡ map (is_valid v) (range_with_len 0 n))
 shared_told v n shared o e h =
     subst (λ s. IfSome s (λ found. MatchOption found ((i : ℕ) → is_valid v i ≡ true) (λ rows. rows ≡ map (is_valid v) (range_with_len 0 n)))) e h
+
+-- what is so where a row is valid
+pub told_where_valid : (P : List ℕ → Type 0) (valid : ℕ → Bool) (k : ℕ) (xs : List (List ℕ)) → ((i : ℕ) → i < length xs → valid (k + i) ≡ true → P (get_or xs i [])) →
+    AllValid P (map valid (range_with_len k (length xs))) xs
+told_where_valid P valid k [] h = tt
+told_where_valid P valid k (x ∷ xs) h = (
+  λ e. h 0 (omega arith) (ap valid (omega arith) ∙ e),
+  told_where_valid P valid (k + 1) xs (λ i l e. h (suc i) (omega (arith, l)) (ap valid (omega arith) ∙ e)),
+)
+
+-- a sound array's views have the first bytes of their values where they are valid
+pub heads_told : (s : Strings) (vs bs : List (List ℕ)) (v : Valid) (n : ℕ) (o : Option (List Bool)) → length vs ≡ n → IsSound (strings s vs bs v) →
+    MatchOption o ((i : ℕ) → is_valid v i ≡ true) (λ rows. rows ≡ map (is_valid v) (range_with_len 0 n)) → ViewsHaveHeads o vs bs
+heads_told s vs bs v n None e sound told =
+    All-from_get_or (λ x. HasHead x bs) vs [] (λ i l. has_head (get_or vs i []) bs (sound.0 i l (told i)).0)
+heads_told s vs bs v n (Some rows) e sound told =
+    subst (λ r. AllValid (λ x. HasHead x bs) r vs) (sym (told ∙ ap (λ k. map (is_valid v) (range_with_len 0 k)) (sym e)))
+    (told_where_valid (λ x. HasHead x bs) (is_valid v) 0 vs (λ i l t. has_head (get_or vs i []) bs (sound.0 i l (ap (is_valid v) (omega arith) ∙ t)).0))

@@ -1,6 +1,5 @@
 pub mod AskedLemmas
 pub mod CodedLemmas
-pub mod KeptLemmas
 pub mod LeafLemmas
 pub mod LikeLemmas
 pub mod NullLemmas

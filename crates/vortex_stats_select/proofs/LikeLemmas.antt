@@ -11,11 +11,14 @@ use Rattle.vortex_stats_bind.specs.Bound.{fixed, place, bound_value}
 use Rattle.vortex_arrays_model.specs.Layout.{Valid, strings, texts, is_valid, rows_of, IsSound}
 use Rattle.vortex_arrays_view.specs.Views.{value_of}
 use Rattle.vortex_stats_mask.specs.Columns.{shown_at}
+use Rattle.vortex_stats_mask.specs.Headed.{AllValid}
 use Rattle.vortex_stats_mask.specs.Wanted.{is_wanted}
-use Rattle.vortex_stats_match.specs.Bytes.{byte_matches}
 use Rattle.vortex_stats_match.proofs.ByteLemmas.{bytes_like}
+use Rattle.vortex_stats_strings.specs.Fronts.{match_by_head}
+use Rattle.vortex_stats_strings.proofs.FrontLemmas.{match_is}
+use Rattle.vortex_stats_strings.proofs.HeadLemmas.{has_head}
 use Rattle.vortex_stats_select.specs.Wants.{wanted_match}
-use Rattle.vortex_stats_select.proofs.LeafLemmas.{strings_shown}
+use Rattle.vortex_stats_select.proofs.LeafLemmas.{strings_shown, told_where_valid}
 use Rattle.vortex_stats_select.proofs.PairLemmas.{through}
 
 pub as_is : (xs : List Bool) → map (wanted_match true false) xs ≡ xs
@@ -66,53 +69,43 @@ some_shown want negated form g [] xs h = refl
 some_shown want negated form g (v ∷ vs) [] h = refl
 some_shown want negated form g (v ∷ vs) (x ∷ xs) h = λ i. row want negated v form (g x) h i ∷ some_shown want negated form g vs xs h i
 
--- texts, of which those of valid rows are UTF-8
-abbrev AreTexts : {A : Type 0} (g : A → List ℕ) → List Bool → List A → Type 0
-AreTexts g [] xs = Unit {0}
-AreTexts g (v ∷ vs) [] = Unit {0}
-AreTexts g (v ∷ vs) (x ∷ xs) = (v ≡ true → IsUtf8 (g x)) × AreTexts g vs xs
+-- heads and bytes match as texts do, on all rows and on the valid ones
+module _ (w : Bool → Bool) (f g : List ℕ → Bool) where
+  on_all : (xs : List (List ℕ)) → ((i : ℕ) → i < length xs → f (get_or xs i []) ≡ g (get_or xs i [])) → map w (map f xs) ≡ map w (map g xs)
+  on_all [] h = refl
+  on_all (x ∷ xs) h = λ i. w (h 0 (omega arith) i) ∷ on_all xs (λ k l. h (suc k) (omega (arith, l))) i
 
-texts_of : (valid : ℕ → Bool) (g : List ℕ → List ℕ) (k : ℕ) (xs : List (List ℕ)) → ((i : ℕ) → i < length xs → valid (k + i) ≡ true → IsUtf8 (g (get_or xs i []))) →
-    AreTexts g (map valid (range_with_len k (length xs))) xs
-texts_of valid g k [] h = tt
-texts_of valid g k (x ∷ xs) h = (
-  λ e. h 0 (omega arith) (ap valid (omega arith) ∙ e),
-  texts_of valid g (k + 1) xs (λ i l e. h (suc i) (omega (arith, l)) (ap valid (omega arith) ∙ e)),
-)
-
--- bytes match as texts do, on all rows and on the valid ones
-module _ (form : List ℕ) (u : IsUtf8 form) (w : Bool → Bool) where
-  on_all : (g : List ℕ → List ℕ) (xs : List (List ℕ)) → ((i : ℕ) → i < length xs → IsUtf8 (g (get_or xs i []))) →
-      map w (map (λ x. byte_matches form (g x)) xs) ≡ map w (map (λ x. is_like form (g x)) xs)
-  on_all g [] h = refl
-  on_all g (x ∷ xs) h = λ i. w (bytes_like form (g x) u (h 0 (omega arith)) i) ∷ on_all g xs (λ k l. h (suc k) (omega (arith, l))) i
-
-  on_valid : (g : List ℕ → List ℕ) (vs : List Bool) (xs : List (List ℕ)) → AreTexts g vs xs →
-      map (λ p. p.0 && p.1) (zip vs (map w (map (λ x. byte_matches form (g x)) xs)))
-      ≡ map (λ p. p.0 && p.1) (zip vs (map w (map (λ x. is_like form (g x)) xs)))
-  on_valid g [] xs h = refl
-  on_valid g (v ∷ vs) [] h = refl
-  on_valid g (v ∷ vs) (x ∷ xs) h = λ i. one v h.0 i ∷ on_valid g vs xs h.1 i
+  on_valid : (vs : List Bool) (xs : List (List ℕ)) → AllValid (λ x. f x ≡ g x) vs xs →
+      map (λ p. p.0 && p.1) (zip vs (map w (map f xs))) ≡ map (λ p. p.0 && p.1) (zip vs (map w (map g xs)))
+  on_valid [] xs h = refl
+  on_valid (v ∷ vs) [] h = refl
+  on_valid (v ∷ vs) (x ∷ xs) h = λ i. one v h.0 i ∷ on_valid vs xs h.1 i
     where
-      one : (v : Bool) → (v ≡ true → IsUtf8 (g x)) → v && w (byte_matches form (g x)) ≡ v && w (is_like form (g x))
-      one true k = ap w (bytes_like form (g x) u (k refl))
+      one : (v : Bool) → (v ≡ true → f x ≡ g x) → (v && w (f x)) ≡ (v && w (g x))
+      one true k = ap w (k refl)
       one false k = refl
 
 module _ (want negated : Bool) (form : List ℕ) (u : IsUtf8 form) (plain : has_backslash form ≡ false) (vs bs : List (List ℕ)) (v : Valid) (sound : IsSound (strings texts vs bs v)) where
+  row_like : (i : ℕ) → i < length vs → is_valid v i ≡ true → match_by_head form (get_or vs i []) bs ≡ is_like form (value_of (get_or vs i []) bs)
+  row_like i l t =
+      let here = sound.0 i l t in let x = get_or vs i [] in
+      match_is form x bs (has_head x bs here.0) ∙ bytes_like form (value_of x bs) u here.1
+
   pub all_liked : ((i : ℕ) → is_valid v i ≡ true) →
-      map (wanted_match want negated) (map (λ x. byte_matches form (value_of x bs)) vs)
+      map (wanted_match want negated) (map (λ x. match_by_head form x bs) vs)
       ≡ map (λ c. is_wanted want (liked c (text form) negated)) (rows_of (strings texts vs bs v))
   all_liked told =
-      on_all form u (wanted_match want negated) (λ x. value_of x bs) vs (λ i l. (sound.0 i l (told i)).1)
+      on_all (wanted_match want negated) (λ x. match_by_head form x bs) (λ x. is_like form (value_of x bs)) vs (λ i l. row_like i l (told i))
       ∙ all_shown want negated form (λ x. value_of x bs) vs plain
       ∙ ap (map (λ c. is_wanted want (liked c (text form) negated))) (strings_shown v (length vs) None told texts vs bs refl)
 
   pub valid_liked : (rows : List Bool) → rows ≡ map (is_valid v) (range_with_len 0 (length vs)) →
-      map (λ p. p.0 && p.1) (zip rows (map (wanted_match want negated) (map (λ x. byte_matches form (value_of x bs)) vs)))
+      map (λ p. p.0 && p.1) (zip rows (map (wanted_match want negated) (map (λ x. match_by_head form x bs) vs)))
       ≡ map (λ c. is_wanted want (liked c (text form) negated)) (rows_of (strings texts vs bs v))
   valid_liked rows told =
-      on_valid form u (wanted_match want negated) (λ x. value_of x bs) rows vs
-      (subst (λ r. AreTexts (λ x. value_of x bs) r vs) (sym told) (texts_of (is_valid v) (λ x. value_of x bs) 0 vs (λ i l e. (sound.0 i l (ap (is_valid v) (omega arith) ∙ e)).1)))
+      on_valid (wanted_match want negated) (λ x. match_by_head form x bs) (λ x. is_like form (value_of x bs)) rows vs
+      (subst (λ r. AllValid (λ x. match_by_head form x bs ≡ is_like form (value_of x bs)) r vs) (sym told)
+      (told_where_valid (λ x. match_by_head form x bs ≡ is_like form (value_of x bs)) (is_valid v) 0 vs (λ i l e. row_like i l (ap (is_valid v) (omega arith) ∙ e))))
       ∙ some_shown want negated form (λ x. value_of x bs) rows vs plain
       ∙ ap (map (λ c. is_wanted want (liked c (text form) negated))) (strings_shown v (length vs) (Some rows) told texts vs bs refl)
 

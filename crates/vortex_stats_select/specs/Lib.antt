@@ -1,5 +1,6 @@
 pub mod Asked
 pub mod Coded
+pub mod Headed
 pub mod Leaves
 pub mod Operands
 pub mod Wants

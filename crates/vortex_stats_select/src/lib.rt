@@ -5,6 +5,7 @@ mod asked;
 pub mod columns;
 mod compare;
 pub mod leaf;
+pub mod leaves;
 mod like;
 mod matches;
 mod narrow;

@@ -14,7 +14,7 @@ ghost use Rattle.vortex_stats_select.specs.Wants.{wanted_match};
 
 use crate::asked::Asked;
 use crate::columns::Columns;
-use crate::leaf::leaf_of;
+use crate::leaves::leaf_of;
 use crate::matches::match_seen;
 use crate::spread::spread;
 use crate::validity::valid_rows_of;

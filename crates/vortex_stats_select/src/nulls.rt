@@ -9,7 +9,7 @@ ghost use Rattle.vortex_stats_bind.specs.Bound.{bound_value};
 ghost use Rattle.vortex_stats_mask.specs.Wanted.{is_wanted};
 
 use crate::columns::Columns;
-use crate::leaf::leaf_of;
+use crate::leaves::leaf_of;
 use crate::spread::spread;
 use crate::validity::valid_rows_of;
 use std::alloc::{AllocError, Global};

@@ -9,7 +9,8 @@ ghost use Rattle.vortex_stats_select.specs.Leaves.{leaf_rows};
 ghost use Rattle.vortex_stats_select.specs.Operands.{operand_rows};
 
 use crate::columns::Columns;
-use crate::leaf::{Leaf, leaf_of};
+use crate::leaf::Leaf;
+use crate::leaves::leaf_of;
 use std::alloc::{AllocError, Global};
 use vortex_arrays_core::array::{ArrayLayout, ArrayRef};
 use vortex_scalar_core::scalar::Scalar;

@@ -11,7 +11,8 @@ use std::alloc::{AllocError, Global};
 use vortex_arrays_core::array::ArrayRef;
 use vortex_arrays_struct::part::part_at_positions;
 use vortex_stats_select::columns::Columns;
-use vortex_stats_select::leaf::{Leaf, shared_leaf};
+use vortex_stats_select::leaf::Leaf;
+use vortex_stats_select::leaves::shared_leaf;
 use vortex_table_schema::leaves::LeafPath;
 
 // The column at these positions, where the array can share it.

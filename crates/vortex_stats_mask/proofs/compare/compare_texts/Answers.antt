@@ -5,17 +5,21 @@ use Rattle.std.proofs.lemmas.Result.{IfOk-weaker}
 use Rattle.std.specs.Prelude.{option_copied}
 use Rattle.vortex_scalar_value.specs.View.{content_at}
 use Rattle.vortex_stats_expr.specs.Tree.{comparison_of}
-use Rattle.vortex_stats_mask.specs.Columns.{values_of}
+use Rattle.vortex_stats_mask.specs.Columns.{kept, values_of}
+use Rattle.vortex_stats_mask.proofs.HeadedLemmas.{tested_by_head}
 use Rattle.vortex_stats_mask.proofs.Through.{values_counted}
 use Rattle.vortex_stats_mask.proofs.Comparing.{texts_by, texts_never}
 use Rattle.vortex_stats_mask.proofs.compare.compare_texts.Goals as goal
 
 pub returns-in-Some : goal.returns-in-Some
-returns-in-Some c =
+returns-in-Some c valid headed =
+    let op = comparison_of c.args.comparison in let s = c.args.strings.now in
     let e = sym c.text.ensures ∙ ap option_copied c.in-Some.is in
-    IfOk-weaker c.compare_strings.result _ _ (λ mask is. is ∙ ap (λ bs. map (λ a. test_of (comparison_of c.args.comparison) (bytes_cmp a bs)) (values_of c.args.strings.now)) c.as_bytes.ensures.value ∙ sym (texts_by (comparison_of c.args.comparison) (content_at c.args.literal) _ e (values_of c.args.strings.now))) c.compare_strings.ensures
+    IfOk-weaker c.test_views.result _ _ (λ mask is. ap (kept valid) is ∙ tested_by_head op _ valid s headed
+    ∙ ap (kept valid) (ap (λ bs. map (λ a. test_of op (bytes_cmp a bs)) (values_of s)) c.as_bytes.ensures.value ∙ sym (texts_by op (content_at c.args.literal) _ e (values_of s)))) c.test_views.ensures
 
 pub returns-in-None : goal.returns-in-None
-returns-in-None c =
+returns-in-None c valid headed =
     let e = sym c.text.ensures ∙ ap option_copied c.in-None.is in
-    IfOk-weaker c.no_rows.result _ _ (λ mask is. is ∙ ap (λ n. replicate n false) (values_counted c.args.strings.now) ∙ sym (texts_never (comparison_of c.args.comparison) (content_at c.args.literal) e (values_of c.args.strings.now))) c.no_rows.ensures
+    IfOk-weaker c.no_rows.result _ _ (λ mask is. ap (kept valid) (is ∙ ap (λ n. replicate n false) (values_counted c.args.strings.now)
+    ∙ sym (texts_never (comparison_of c.args.comparison) (content_at c.args.literal) e (values_of c.args.strings.now)))) c.no_rows.ensures

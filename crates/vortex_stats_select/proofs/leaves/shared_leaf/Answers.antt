@@ -1,12 +1,13 @@
-use Rattle.std.proofs.Common.{◌∙◌, ap, sym, map}
+use Rattle.std.proofs.Common.{◌∙◌, ap, sym, subst, map}
 use Rattle.vortex_model.specs.Content.{integer}
-use Rattle.vortex_arrays_model.specs.Layout.{rows_of, string_content}
+use Rattle.vortex_arrays_model.specs.Layout.{rows_of, string_content, IsSound}
 use Rattle.vortex_arrays_buffer.specs.PrimitiveBuffers.{kind_of_numbers, integers_of}
 use Rattle.vortex_arrays_view.specs.Views.{value_of}
 use Rattle.vortex_arrays_core.specs.LayoutOf.{layout_of, valid_of, strings_of}
+use Rattle.vortex_stats_mask.specs.Headed.{ViewsHaveHeads}
 use Rattle.vortex_stats_select.specs.Leaves.{shown_by}
-use Rattle.vortex_stats_select.proofs.LeafLemmas.{numbers_shown, strings_shown, shared_told}
-use Rattle.vortex_stats_select.proofs.leaf.shared_leaf.Goals as goal
+use Rattle.vortex_stats_select.proofs.LeafLemmas.{numbers_shown, strings_shown, shared_told, heads_told}
+use Rattle.vortex_stats_select.proofs.leaves.shared_leaf.Goals as goal
 
 pub returns-in_ok-clone-in-Primitive : goal.returns-in_ok-clone-in-Primitive
 returns-in_ok-clone-in-Primitive c =
@@ -24,7 +25,19 @@ returns-in_ok-clone-in-VarBinView-2 c =
     let o = c.in-Some-2.validity in let vs = c.in-VarBinView.views in
     let v = valid_of c.in-VarBinView.validity in let n = c.len-in-VarBinView.result in
     let s = strings_of c.in-VarBinView.kind in let bs = c.in-VarBinView.buffers.value.items in
-    ap (shown_by o) (c.string_items-items.ensures ∙ (λ i. map (string_content s) (map (λ x. value_of x (c.in_ok-clone-in-VarBinView-2.ensures.cases i).items) (c.in_ok-clone-in-VarBinView.ensures.cases i))))
+    ap (shown_by o) (c.string_items-items.ensures.values ∙ (λ i. map (string_content s) (map (λ x. value_of x (c.in_ok-clone-in-VarBinView-2.ensures.cases i).items) (c.in_ok-clone-in-VarBinView.ensures.cases i))))
     ∙ strings_shown v n o (shared_told v n c.in_ok-validity-in-VarBinView.field-0 o c.in-Some-2.is c.in_ok-validity-in-VarBinView.ensures)
     s vs bs (sym c.len-in-VarBinView.ensures)
     ∙ (λ i. rows_of (sym same i))
+
+pub invariant_of-result-in-VarBinView : goal.invariant_of-result-in-VarBinView
+invariant_of-result-in-VarBinView c =
+    let o = c.in-Some-2.validity in let vs = c.in-VarBinView.views in let n = c.len-in-VarBinView.result in
+    let v = valid_of c.in-VarBinView.validity in let s = strings_of c.in-VarBinView.kind in let bs = c.in-VarBinView.buffers.value.items in
+    let sound = subst IsSound (ap layout_of c.in-VarBinView.is) c.layout.ensures.sound in
+    let heads = heads_told s vs bs v n o (sym c.len-in-VarBinView.ensures) sound (shared_told v n c.in_ok-validity-in-VarBinView.field-0 o c.in-Some-2.is c.in_ok-validity-in-VarBinView.ensures) in
+    record {
+      headed = ∣ c.string_items-items.ensures.headed o
+          (subst (λ b. ViewsHaveHeads o c.in_ok-clone-in-VarBinView.field-0 b.items) (sym c.in_ok-clone-in-VarBinView-2.ensures.cases)
+          (subst (λ ys. ViewsHaveHeads o ys bs) (sym c.in_ok-clone-in-VarBinView.ensures.cases) heads)) ∣₁;
+    }
