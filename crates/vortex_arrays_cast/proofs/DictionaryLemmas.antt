@@ -1,22 +1,21 @@
 -- Dictionaries of leaf values as what stands at their codes.
-use Rattle.std.proofs.Common.{◌≡◌, ◌<◌, ℕ, ℤ, pos, Bool, true, false, cond, List, [], ◌∷◌, length, get_or, map, Some, Option, None, refl, sym, ap, subst, ◌∙◌, arith}
-use Rattle.std.specs.List.{All, slice_get, zip}
-use Rattle.std.proofs.lemmas.List.{get_or-map, length-map, ext_get_or}
-use Rattle.std.proofs.lemmas.List.FromFn.{get_or-map-range_with_len, length-map-range_with_len}
-use Rattle.std.proofs.lemmas.Slice.Zip.{length-zip, get_or-zip}
+use Rattle.std.proofs.Common.{◌≡◌, ◌<◌, ℕ, ℤ, pos, Bool, true, false, cond, List, [], length, get_or, map, Some, Option, None, refl, sym, ap, subst, ◌∙◌}
+use Rattle.std.specs.List.{All, slice_get}
+use Rattle.std.proofs.lemmas.List.{get_or-map, length-map}
 use Rattle.vortex_model.specs.LogicalType.{LogicalType, IntKind, boolean_type, integer_type, Nullability, either_nullable, nullability_of, with_nullability}
 use Rattle.vortex_model.specs.Content.{Content, null, boolean, integer, text, byte_string, tuple, tagged, scalar}
 use Rattle.vortex_model.specs.Convert.{converts}
 use Rattle.vortex_model.specs.Valid.{InRange}
 use Rattle.vortex_arrays_buffer.proofs.NumberLemmas.{items_read}
 use Rattle.vortex_arrays_view.specs.Views.{value_of, HasValue}
-use Rattle.vortex_arrays_model.specs.Layout.{Layout, bools, numbers, strings, dictionary, Strings, texts, byte_strings, type_of_strings, string_content, Valid, required, by_array, natural, number_in, pick, len_of, array_type_of, nullability_by, content_at, is_valid, IsCode, IsString, IsSound, HasLength}
+use Rattle.vortex_arrays_model.specs.Layout.{Layout, bools, numbers, strings, dictionary, Strings, texts, byte_strings, type_of_strings, string_content, Valid, number_in, pick, len_of, array_type_of, nullability_by, content_at, is_valid, IsCode, IsString, IsSound, HasLength}
 use Rattle.vortex_arrays_model.specs.Parts.{AreWithin}
 use Rattle.vortex_arrays_model.specs.Picks.{PicksSomeValid, position_of, is_valid_some}
 use Rattle.vortex_arrays_model.proofs.PicksLemmas.{no_flag}
+use Rattle.vortex_arrays_validity.proofs.PlaceLemmas.{number_named, place_count as count_of, place_read as read_of}
 use Rattle.vortex_arrays_validity.specs.Validities.{IsRecast}
 use Rattle.vortex_arrays_cast.specs.Cast.{IsCast}
-use Rattle.vortex_arrays_cast.specs.Dictionaries.{places_of, integers_at, naturals_where}
+use Rattle.vortex_arrays_cast.specs.Dictionaries.{places_of, integers_at}
 use Rattle.vortex_arrays_cast.specs.Ranges.{IsBetween, LieIn, Keeps}
 use Rattle.vortex_arrays_cast.proofs.CastLemmas.{as_many, cast_integers}
 use Rattle.vortex_arrays_cast.proofs.NumberLemmas.{kept_same}
@@ -24,10 +23,10 @@ use Rattle.vortex_arrays_cast.proofs.NumberLemmas.{kept_same}
 -- ---- places
 
 pub place_count : (c : Layout) → length (places_of c) ≡ len_of c
-place_count c = length-map-range_with_len (λ i. number_in (content_at c i)) 0 (len_of c)
+place_count c = count_of 0 c
 
 pub place_read : (c : Layout) (i d : ℕ) → i < len_of c → get_or (places_of c) i d ≡ number_in (content_at c i)
-place_read c i d l = get_or-map-range_with_len (λ j. number_in (content_at c j)) 0 (len_of c) i i d l (omega arith)
+place_read c i d l = read_of 0 c i d l ∙ number_named (content_at c i)
 
 -- a code names one of the values, and null counts as 0
 code_within : (n : ℕ) (c : Content) → 0 < n → IsCode n c → number_in c < n
@@ -39,35 +38,6 @@ pub places_within : (c : Layout) (n : ℕ) → 0 < n → AreWithin c n → All (
 places_within c n some h = λ i d l.
     let within : i < len_of c = subst (λ m. i < m) (place_count c) l in
     subst (λ p. p < n) (sym (place_read c i d within)) (code_within n (content_at c i) some (h i within))
-
--- codes that are numbers
-
-row_number : (b : Bool) (z : ℤ) → number_in (cond b (integer z) null) ≡ cond b (natural z) 0
-row_number true z = refl
-row_number false z = refl
-
-rows_named : (k : IntKind) (zs : List ℤ) (v : Valid) (ps : List ℕ) → length ps ≡ length zs → ((i : ℕ) → i < length zs → get_or ps i 0 ≡ cond (is_valid v i) (natural (get_or zs i (pos 0))) 0) → ps ≡ places_of (numbers k zs v)
-rows_named k zs v ps many each = ext_get_or 0 ps (places_of (numbers k zs v)) (many ∙ sym (place_count (numbers k zs v))) (λ i l.
-    let within : i < length zs = subst (λ n. i < n) many l in
-    each i within ∙ sym (row_number (is_valid v i) (get_or zs i (pos 0))) ∙ sym (place_read (numbers k zs v) i 0 within))
-
-pub numbers_named : (k : IntKind) (zs : List ℤ) (v : Valid) (ps : List ℕ) → ((i : ℕ) → is_valid v i ≡ true) → ps ≡ map natural zs → ps ≡ places_of (numbers k zs v)
-numbers_named k zs v ps all e = rows_named k zs v ps (ap length e ∙ length-map zs natural) (λ i l.
-    ap (λ xs. get_or xs i 0) e ∙ get_or-map natural zs i (pos 0) 0 l ∙ ap (λ b. cond b (natural (get_or zs i (pos 0))) 0) (sym (all i)))
-
-pub numbers_where_named : (k : IntKind) (zs : List ℤ) (bits : List Bool) (ps : List ℕ) → length bits ≡ length zs → ps ≡ naturals_where zs bits → ps ≡ places_of (numbers k zs (by_array (bools bits required)))
-numbers_where_named k zs bits ps same e =
-    let f : ℤ × Bool → ℕ = λ p. cond p.1 (natural p.0) 0 in
-    let count : length (zip zs bits) ≡ length zs = length-zip zs bits ∙ omega (arith, same) in
-    rows_named k zs (by_array (bools bits required)) ps (ap length e ∙ length-map (zip zs bits) f ∙ count) (λ i l.
-    ap (λ xs. get_or xs i 0) e ∙ get_or-map f (zip zs bits) i (pos 0, false) 0 (subst (λ n. i < n) (sym count) l)
-    ∙ ap f (get_or-zip zs bits i (pos 0, false) l (subst (λ n. i < n) (sym same) l)))
-
--- the numbers of a type beside the rows
-pub zip_numbers : {X : Type 0} (number : X → ℤ) (xs : List X) (rows : List Bool) → map (λ p. cond p.1 (natural (number p.0)) 0) (zip xs rows) ≡ naturals_where (map number xs) rows
-zip_numbers number [] rows = refl
-zip_numbers number (x ∷ xs) [] = refl
-zip_numbers number (x ∷ xs) (b ∷ rows) = ap (λ l. cond b (natural (number x)) 0 ∷ l) (zip_numbers number xs rows)
 
 -- ---- values at places
 

@@ -1,19 +1,18 @@
 //! Dictionaries of truth values, integers, texts or bytes as arrays of another type.
-ghost use Rattle.std.specs.Prelude.{◌≡◌, ◌<◌, length, map, pos, false, cond, All, IfOk, IfSome};
+ghost use Rattle.std.specs.Prelude.{◌≡◌, ◌<◌, length, false, All, IfOk, IfSome};
 ghost use Rattle.vortex_model.specs.LogicalType.{nullability_of};
 ghost use Rattle.vortex_dtype_ptype.specs.Numbers.{integral};
 ghost use Rattle.vortex_dtype_ptype.specs.View.{number_kind_of};
 ghost use Rattle.vortex_dtype_core.specs.View.{type_of};
 ghost use Rattle.vortex_arrays_buffer.specs.PrimitiveBuffers.{kind_of_numbers, integers_of};
-ghost use Rattle.vortex_arrays_model.specs.Layout.{bools, numbers, strings, dictionary, natural, number_in, len_of, array_type_of, content_at, IsCode, IsInteger, IsSound, HasLength};
-ghost use Rattle.vortex_arrays_model.specs.Parts.{AreWithin};
+ghost use Rattle.vortex_arrays_model.specs.Layout.{bools, numbers, strings, dictionary, len_of, array_type_of, content_at, IsSound, HasLength};
 ghost use Rattle.vortex_arrays_model.specs.Picks.{PicksSomeValid, position_of};
 ghost use Rattle.vortex_arrays_core.specs.LayoutOf.{valid_of, strings_of};
 ghost use Rattle.vortex_arrays_cast.specs.Cast.{IsCast};
-ghost use Rattle.vortex_arrays_cast.specs.Dictionaries.{places_of, integers_at, naturals_where};
+ghost use Rattle.vortex_arrays_cast.specs.Dictionaries.{integers_at};
 ghost use Rattle.vortex_arrays_cast.specs.Ranges.{LieIn, Keeps};
 
-use crate::leaves::{cast_bools, cast_strings, cast_validity, packed_rows};
+use crate::leaves::{cast_bools, cast_strings, cast_validity};
 use crate::numbers::numbers_as;
 use bytes::Bytes;
 use std::alloc::{AllocError, Global};
@@ -22,134 +21,11 @@ use vortex_arrays_buffer::bit_buffer::BitBuffer;
 use vortex_arrays_buffer::buffer::Buffer;
 use vortex_arrays_buffer::primitive_buffer::PrimitiveBuffer;
 use vortex_arrays_core::array::{ArrayLayout, ArrayRef, StringKind, Validity};
+use vortex_arrays_validity::places::places_or;
 use vortex_arrays_view::error::ArrayError;
 use vortex_arrays_view::view::BinaryView;
 use vortex_dtype_core::dtype::DType;
-use vortex_dtype_native::native::NativePType;
 use vortex_dtype_ptype::ptype::PType;
-
-// The place that the code of a row names, and 0 where the code is null.
-fn place_at(codes: &ArrayRef, i: usize, count: usize) -> usize
-    requires within { i < len_of codes.now }
-    requires kind { IsInteger (array_type_of codes.now) }
-    requires code { IsCode count (content_at codes.now i) }
-    ensures { result ≡ number_in (content_at codes.now i) }
-{
-    match codes.integer(i) {
-        Some(code) => code as usize,
-        None => 0,
-    }
-}
-
-// The places that the codes name, of so many values.
-fn places_in(alloc: Global, codes: &ArrayRef, count: usize) -> Result<Vec<usize>, AllocError>
-    requires kind { IsInteger (array_type_of codes.now) }
-    requires within { AreWithin codes.now count }
-    ensures { IfOk result (λ places. places.items ≡ places_of codes.now) }
-{
-    let ArrayLayout::Primitive(items, validity) = codes.layout() else {
-        return each_place(alloc, codes, count);
-    };
-    if let Some(bits) = packed_rows(validity) {
-        let rows = bits.to_bools(alloc)?;
-        return naturals_where(alloc, items, &rows);
-    }
-    match validity {
-        Validity::NonNullable => naturals_in(alloc, items),
-        Validity::AllValid => naturals_in(alloc, items),
-        Validity::AllInvalid => each_place(alloc, codes, count),
-        Validity::Array(_) => each_place(alloc, codes, count),
-    }
-}
-
-// The numbers, and 0 in place of each below it.
-#[tactic(auto, using(vortex_arrays_buffer::proofs::NumberLemmas::eq_numbers))]
-fn naturals_in(alloc: Global, numbers: &PrimitiveBuffer) -> Result<Vec<usize>, AllocError>
-    ensures { IfOk result (λ places. places.items ≡ map natural (integers_of numbers.now)) }
-{
-    match numbers {
-        PrimitiveBuffer::U8(items) => naturals_of(alloc, items.as_slice()),
-        PrimitiveBuffer::U16(items) => naturals_of(alloc, items.as_slice()),
-        PrimitiveBuffer::U32(items) => naturals_of(alloc, items.as_slice()),
-        PrimitiveBuffer::U64(items) => naturals_of(alloc, items.as_slice()),
-        PrimitiveBuffer::I8(items) => naturals_of(alloc, items.as_slice()),
-        PrimitiveBuffer::I16(items) => naturals_of(alloc, items.as_slice()),
-        PrimitiveBuffer::I32(items) => naturals_of(alloc, items.as_slice()),
-        PrimitiveBuffer::I64(items) => naturals_of(alloc, items.as_slice()),
-    }
-}
-
-// The numbers of one native type, and 0 in place of each below it.
-fn naturals_of<T: NativePType>(alloc: Global, items: &[T]) -> Result<Vec<usize>, AllocError>
-    ensures { IfOk result (λ places. places.items ≡ map natural (map T.integer items.now)) }
-{
-    items
-        .iter()
-        .map(|item| natural_of(*item, true))
-        .collect(alloc)
-}
-
-// The numbers, and 0 in place of each that is null or below it.
-#[tactic(auto, using(vortex_arrays_buffer::proofs::NumberLemmas::eq_numbers))]
-fn naturals_where(
-    alloc: Global,
-    numbers: &PrimitiveBuffer,
-    rows: &[bool],
-) -> Result<Vec<usize>, AllocError>
-    ensures { IfOk result
-        (λ places. places.items ≡ naturals_where (integers_of numbers.now) rows.now) }
-{
-    match numbers {
-        PrimitiveBuffer::U8(items) => naturals_of_where(alloc, items.as_slice(), rows),
-        PrimitiveBuffer::U16(items) => naturals_of_where(alloc, items.as_slice(), rows),
-        PrimitiveBuffer::U32(items) => naturals_of_where(alloc, items.as_slice(), rows),
-        PrimitiveBuffer::U64(items) => naturals_of_where(alloc, items.as_slice(), rows),
-        PrimitiveBuffer::I8(items) => naturals_of_where(alloc, items.as_slice(), rows),
-        PrimitiveBuffer::I16(items) => naturals_of_where(alloc, items.as_slice(), rows),
-        PrimitiveBuffer::I32(items) => naturals_of_where(alloc, items.as_slice(), rows),
-        PrimitiveBuffer::I64(items) => naturals_of_where(alloc, items.as_slice(), rows),
-    }
-}
-
-// The numbers of one native type, and 0 in place of each that is null or below it.
-fn naturals_of_where<T: NativePType>(
-    alloc: Global,
-    items: &[T],
-    rows: &[bool],
-) -> Result<Vec<usize>, AllocError>
-    ensures { IfOk result
-        (λ places. places.items ≡ naturals_where (map T.integer items.now) rows.now) }
-{
-    items
-        .iter()
-        .zip(rows.iter())
-        .map(|(item, is_valid)| natural_of(*item, *is_valid))
-        .collect(alloc)
-}
-
-// The number, and 0 in place of one that is null or below it.
-#[tactic(auto, using(vortex_arrays_validity::proofs::Overwritten::held))]
-fn natural_of<T: NativePType>(item: T, is_valid: bool) -> usize
-    ensures { result ≡ cond is_valid (natural (T.integer item)) 0 }
-{
-    let number = item.get();
-    if is_valid && number >= 0 {
-        number as usize
-    } else {
-        0
-    }
-}
-
-// The places that the codes of any layout name, row by row.
-fn each_place(alloc: Global, codes: &ArrayRef, count: usize) -> Result<Vec<usize>, AllocError>
-    requires kind { IsInteger (array_type_of codes.now) }
-    requires within { AreWithin codes.now count }
-    ensures { IfOk result (λ places. places.items ≡ places_of codes.now) }
-{
-    (0..codes.len())
-        .map(|i| place_at(codes, i, count))
-        .collect(alloc)
-}
 
 // Which rows are null, by which of the values are: also those whose code is null. `None` where the
 // codes are of a signed kind.
@@ -216,7 +92,7 @@ fn cast_coded_bools(
     let Some(rows) = coded_validity(alloc, codes, validity, bits.len())? else {
         return Ok(None);
     };
-    let places = places_in(alloc, codes, bits.len())?;
+    let places = places_or(alloc, codes, 0)?;
     let coded = bits.gather(alloc, &places)?;
     cast_bools(alloc, &coded, &rows, target)
 }
@@ -249,7 +125,7 @@ fn cast_coded_numbers(
     let Some(rows) = cast_validity(&rows, *nullability, codes.len())? else {
         return Ok(None);
     };
-    let places = places_in(alloc, codes, items.len())?;
+    let places = places_or(alloc, codes, 0)?;
     let Some(coded) = numbers_at(alloc, *ptype, items, &places, range)? else {
         return Ok(None);
     };
@@ -281,7 +157,7 @@ fn cast_coded_strings(
     let Some(rows) = coded_validity(alloc, codes, validity, views.len())? else {
         return Ok(None);
     };
-    let places = places_in(alloc, codes, views.len())?;
+    let places = places_or(alloc, codes, 0)?;
     let coded = views.gather(alloc, &places)?;
     cast_strings(alloc, kind, &coded, buffers, &rows, target)
 }

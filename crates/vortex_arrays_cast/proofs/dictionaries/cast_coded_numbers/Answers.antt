@@ -1,4 +1,5 @@
-use Rattle.std.proofs.Common.{◌≡◌, ◌∙◌, ap, sym, subst, false, IfSome}
+use Rattle.std.proofs.Common.{◌≡◌, ◌∙◌, ◌<◌, length, ap, sym, subst, false, IfSome}
+use Rattle.std.specs.List.{All}
 use Rattle.vortex_model.specs.LogicalType.{integer_type}
 use Rattle.vortex_dtype_ptype.specs.Numbers.{integral, type_of_numbers}
 use Rattle.vortex_dtype_ptype.specs.View.{number_kind_of, nullability_of_flag}
@@ -11,7 +12,7 @@ use Rattle.vortex_arrays_validity.specs.Validities.{IsRecast}
 use Rattle.vortex_arrays_cast.specs.Cast.{IsCast}
 use Rattle.vortex_arrays_cast.specs.Dictionaries.{places_of, integers_at}
 use Rattle.vortex_arrays_cast.specs.Ranges.{Keeps}
-use Rattle.vortex_arrays_cast.proofs.DictionaryLemmas.{IsCoded, coded_numbers_fit, cast_coded_integers}
+use Rattle.vortex_arrays_cast.proofs.DictionaryLemmas.{places_within, IsCoded, coded_numbers_fit, cast_coded_integers}
 use Rattle.vortex_arrays_cast.proofs.dictionaries.cast_coded_numbers.Goals as goal
 
 pub of_numbers-requires : goal.of_numbers-requires
@@ -40,3 +41,9 @@ returns c =
     subst (λ t. IsCast t (dictionary codes (numbers k zs v) false) c.in_ok-cast.cast) (sym whole)
     (subst (IsCast (integer_type j m) (dictionary codes (numbers k zs v) false)) (sym c.in_ok-cast.ensures)
     (cast_coded_integers k j codes zs ws v w u m r kept c.len-count.ensures.held c.requires.range p recast))
+
+pub numbers_at-requires : goal.numbers_at-requires
+numbers_at-requires c =
+    let n = length (integers_of c.args.items.now) in
+    subst (λ ps. All (λ i. i < n) ps) (sym (c.deref.ensures.value ∙ c.in_ok-places.ensures))
+    (places_within c.args.codes.now n c.requires.some c.requires.sound.3)
