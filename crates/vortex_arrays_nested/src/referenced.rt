@@ -1,11 +1,10 @@
 //! Which values of a dictionary its codes name.
 ghost use Rattle.std.specs.Prelude.{◌≡◌, ◌↔◌, length, map, true, IsTrue, IfOk};
 ghost use Rattle.std.specs.List.{All};
-ghost use Rattle.vortex_arrays_model.specs.Layout.{numbers, len_of, array_type_of, AllReferenced, HasLength, IsInteger};
+ghost use Rattle.vortex_arrays_model.specs.Layout.{numbers, required, len_of, array_type_of, AllReferenced, IsInteger};
 ghost use Rattle.vortex_arrays_model.specs.Referenced.{MarksReferenced};
 ghost use Rattle.vortex_arrays_model.specs.Parts.{AreWithin};
 ghost use Rattle.vortex_arrays_buffer.specs.PrimitiveBuffers.{kind_of_numbers, integers_of};
-ghost use Rattle.vortex_arrays_core.specs.LayoutOf.{valid_of};
 ghost use Rattle.vortex_arrays_nested.specs.Shapes.{codes_in, values_in};
 
 use crate::dict_array::DictArray;
@@ -15,6 +14,7 @@ use vortex_arrays_buffer::bit_buffer::BitBuffer;
 use vortex_arrays_buffer::element::Element;
 use vortex_arrays_buffer::primitive_buffer::PrimitiveBuffer;
 use vortex_arrays_core::array::{ArrayLayout, ArrayRef, Validity};
+use vortex_arrays_validity::places::places_or;
 
 impl DictArray {
     /// A bit for each value: `referenced` exactly where a code names the value, as Vortex's
@@ -62,43 +62,45 @@ fn referenced_marks(
         (λ marks. MarksReferenced codes.now (len_of codes.now) mark marks.items) }
 {
     if let ArrayLayout::Primitive(items, validity) = codes.layout() {
-        return numbers_marks(alloc, items, validity, count, mark);
+        if let Validity::NonNullable = validity {
+            return numbers_marks(alloc, items, count, mark);
+        }
     }
+    let named = places_or(alloc, codes, count)?;
     let mut marks = vec![in alloc; !mark; count]?;
-    for i in 0..codes.len() {
-        if let Some(code) = codes.integer(i) {
-            marks[code as usize] = mark;
+    for i in 0..named.len() {
+        let value = named[i];
+        if value < count {
+            marks[value] = mark;
         }
     }
     Ok(marks)
 }
 
-/// Marks the values that codes name which are numbers: their kind is matched once.
+/// Marks the values that numbers name, whose kind is matched once.
 #[tactic(auto, using(vortex_arrays_buffer::proofs::NumberLemmas::eq_numbers))]
 fn numbers_marks(
     alloc: Global,
     codes: &PrimitiveBuffer,
-    validity: &Validity,
     count: usize,
     mark: bool,
 ) -> Result<Vec<bool>, AllocError>
-    requires fits { HasLength (valid_of validity.now) (length (integers_of codes.now)) }
-    requires named { AreWithin (numbers (kind_of_numbers codes.now) (integers_of codes.now)
-        (valid_of validity.now)) count }
+    requires { AreWithin (numbers (kind_of_numbers codes.now) (integers_of codes.now) required)
+        count }
     ensures count { IfOk result (λ marks. length marks.items ≡ count) }
     ensures marks { IfOk result
         (λ marks. MarksReferenced (numbers (kind_of_numbers codes.now) (integers_of codes.now)
-        (valid_of validity.now)) (length (integers_of codes.now)) mark marks.items) }
+        required) (length (integers_of codes.now)) mark marks.items) }
 {
     match codes {
-        PrimitiveBuffer::U8(items) => items_marks(alloc, items.as_slice(), validity, count, mark),
-        PrimitiveBuffer::U16(items) => items_marks(alloc, items.as_slice(), validity, count, mark),
-        PrimitiveBuffer::U32(items) => items_marks(alloc, items.as_slice(), validity, count, mark),
-        PrimitiveBuffer::U64(items) => items_marks(alloc, items.as_slice(), validity, count, mark),
-        PrimitiveBuffer::I8(items) => items_marks(alloc, items.as_slice(), validity, count, mark),
-        PrimitiveBuffer::I16(items) => items_marks(alloc, items.as_slice(), validity, count, mark),
-        PrimitiveBuffer::I32(items) => items_marks(alloc, items.as_slice(), validity, count, mark),
-        PrimitiveBuffer::I64(items) => items_marks(alloc, items.as_slice(), validity, count, mark),
+        PrimitiveBuffer::U8(items) => items_marks(alloc, items.as_slice(), count, mark),
+        PrimitiveBuffer::U16(items) => items_marks(alloc, items.as_slice(), count, mark),
+        PrimitiveBuffer::U32(items) => items_marks(alloc, items.as_slice(), count, mark),
+        PrimitiveBuffer::U64(items) => items_marks(alloc, items.as_slice(), count, mark),
+        PrimitiveBuffer::I8(items) => items_marks(alloc, items.as_slice(), count, mark),
+        PrimitiveBuffer::I16(items) => items_marks(alloc, items.as_slice(), count, mark),
+        PrimitiveBuffer::I32(items) => items_marks(alloc, items.as_slice(), count, mark),
+        PrimitiveBuffer::I64(items) => items_marks(alloc, items.as_slice(), count, mark),
     }
 }
 
@@ -107,24 +109,19 @@ fn numbers_marks(
 fn items_marks<T: Element>(
     alloc: Global,
     codes: &[T],
-    validity: &Validity,
     count: usize,
     mark: bool,
 ) -> Result<Vec<bool>, AllocError>
-    requires fits { HasLength (valid_of validity.now) (length codes.now) }
-    requires named { AreWithin
-        (numbers T.kind (map T.integer codes.now) (valid_of validity.now)) count }
+    requires { AreWithin (numbers T.kind (map T.integer codes.now) required) count }
     ensures count { IfOk result (λ marks. length marks.items ≡ count) }
     ensures marks { IfOk result
-        (λ marks. MarksReferenced (numbers T.kind (map T.integer codes.now) (valid_of validity.now))
+        (λ marks. MarksReferenced (numbers T.kind (map T.integer codes.now) required)
         (length codes.now) mark marks.items) }
 {
     let mut marks = vec![in alloc; !mark; count]?;
     for i in 0..codes.len() {
-        if validity.is_valid(i, codes.len()) {
-            let place = natural_of(codes[i]);
-            marks[place] = mark;
-        }
+        let place = natural_of(codes[i]);
+        marks[place] = mark;
     }
     Ok(marks)
 }
