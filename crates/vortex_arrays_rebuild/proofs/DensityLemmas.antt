@@ -1,25 +1,16 @@
 -- Elements that lists have, by the furthest end of the lists that begin at each.
-use Rattle.std.proofs.Common.{◌≡◌, ◌≢◌, ◌<◌, ◌≤◌, ◌+◌, ℕ, pos, zero, suc, Bool, true, false, cond, List, [], ◌∷◌, ◌++◌, length, take, replicate, set, get_or, count_by, max, refl, sym, ap, subst, ◌∙◌, arith, inl, inr, ⊎_elim}
+use Rattle.std.proofs.Common.{◌≡◌, ◌≢◌, ◌<◌, ◌≤◌, ◌+◌, ℕ, zero, suc, Bool, true, false, cond, List, [], ◌∷◌, ◌++◌, length, take, replicate, set, get_or, count_by, max, refl, sym, ap, subst, ◌∙◌, arith, inl, inr, ⊎_elim}
 use Rattle.std.proofs.Math.Dec.{ltb}
 use Rattle.std.proofs.lemmas.Bool.{cases_eq, cases_lt, ltb-true, lt-ltb}
 use Rattle.std.proofs.lemmas.List.{get_or-set_other, get_or-set_same, length-set, length-replicate, take_more_set, take_all, get_or_push, get_or_append_left, length_push}
-use Rattle.vortex_arrays_model.specs.Layout.{Layout, list_views, Valid, required, all_valid, all_null, len_of, content_at, number_in, is_valid, IsSound, IsView}
+use Rattle.vortex_arrays_model.specs.Layout.{Layout, list_views, Valid, required, all_valid, all_null, len_of, content_at, number_in, is_valid, IsSound}
 use Rattle.vortex_arrays_model.proofs.ValidRows.{view_within}
-use Rattle.vortex_model.specs.Content.{Content, integer}
 use Rattle.vortex_arrays_validity.specs.Validities.{valid_rows}
 use Rattle.vortex_arrays_validity.proofs.Rows.{bit_says, row_count}
-use Rattle.vortex_arrays_rebuild.specs.Indices.{IsAtMost, AreAtMost, AreRead}
+use Rattle.vortex_arrays_rebuild.specs.Indices.{AreRead}
 use Rattle.vortex_arrays_rebuild.specs.Density.{MarksElements, IsReferencedCount, AreValidSizes, AllLieWithin, AreFurthest, AreCovered}
-use Rattle.vortex_arrays_rebuild.proofs.TrimLemmas.{offsets_at_most}
 
 -- ---- sizes
-
-size_at_most : (n : ℕ) (o z : Content) → IsView n o z → IsAtMost n z
-size_at_most n (integer (pos i)) (integer (pos s)) h = omega arith
-size_at_most n o z h = absurd h
-
-pub sizes_at_most : (e o s : Layout) (f : Bool) (v : Valid) → IsSound (list_views e o s f v) → AreAtMost (len_of e) s
-sizes_at_most e o s f v h = λ i l. size_at_most (len_of e) (content_at o i) (content_at s i) (h.7 i (subst (λ n. i < n) h.5 l))
 
 pub all_sized : (s : Layout) (xs : List ℕ) → AreRead s xs → AreValidSizes s all_valid xs
 all_sized s xs h = record { many = h.many; each = h.each }
@@ -291,7 +282,7 @@ module _ (e o s : Layout) (f : Bool) (v : Valid) (os ns ends : List ℕ) (marks 
 pub marks_view : (a e o s : Layout) (f : Bool) (v : Valid) (os ns ends : List ℕ) (marks : List Bool) → a ≡ list_views e o s f v → IsSound (list_views e o s f v) → AreRead o os → AreValidSizes s v ns → AreFurthest os ns (length os) (len_of e) ends → AreCovered ends (length ends) marks → MarksElements a marks
 marks_view a e o s f v os ns ends marks same h r z fu cv = subst (λ b. MarksElements b marks) (sym same) (marks_made e o s f v os ns ends marks h r z fu cv)
 
-pub ruleset marked = (offsets_at_most, sizes_at_most, all_within, as_many_sizes, marks_view)
+pub ruleset marked = (all_within, as_many_sizes, marks_view)
 
 pub count_made : (a : Layout) (n : ℕ) (mask : List Bool) → MarksElements a mask → n ≡ count_by (λ b. b) mask → IsReferencedCount a n
 count_made a n mask h e = record { mask = mask; marks = h; counted = e }

@@ -16,8 +16,7 @@ use Rattle.vortex_arrays_rebuild.specs.Density.{AreValidSizes}
 use Rattle.vortex_arrays_rebuild.specs.Indices.{AreRead}
 use Rattle.vortex_arrays_rebuild.specs.Rebuilds.{total_of, IsSumFault}
 use Rattle.vortex_arrays_rebuild.specs.Runs.{IsLengthFault}
-use Rattle.vortex_arrays_rebuild.proofs.DensityLemmas.{all_within, as_many_sizes, same_read, sizes_at_most}
-use Rattle.vortex_arrays_rebuild.proofs.TrimLemmas.{offsets_at_most}
+use Rattle.vortex_arrays_rebuild.proofs.DensityLemmas.{all_within, as_many_sizes, same_read}
 
 -- the rows before and a row have no more elements together than all rows
 pub total_reached : (a : Layout) (f : ℕ → Content) (os ss ps : List ℕ) (i start size : ℕ) → IsCanonical (take i (rows_of a)) os ss (map f ps) → i < len_of a → items_of (content_at a i) ≡ map f (range_with_len start size) → length ps + size ≤ total_of (rows_of a)
@@ -68,4 +67,4 @@ canonical_set a f os ss ps i start size n e lo ls h l r =
 pub canonical_whole : (a : Layout) (n : ℕ) (os ss : List ℕ) (es : List Content) → len_of a ≤ n → length os ≤ n → length ss ≤ n → IsCanonical (take n (rows_of a)) (take n os) (take n ss) es → IsCanonical (rows_of a) os ss es
 canonical_whole a n os ss es l lo ls h = canonical_all a n os ss es l (rw (take_all n os lo, take_all n ss ls) at h)
 
-pub ruleset planned = (canonical_none, no_memory, offsets_at_most, sizes_at_most)
+pub ruleset planned = (canonical_none, no_memory)

@@ -11,7 +11,6 @@ ghost use Rattle.vortex_arrays_rebuild.specs.Density.{
   IsReferencedCount,
   MarksElements,
 };
-ghost use Rattle.vortex_arrays_rebuild.specs.Indices.{AreAtMost};
 
 use crate::read::read_indices;
 use std::alloc::{AllocError, Global};
@@ -59,33 +58,31 @@ fn referenced_elements(alloc: Global, lists: &ListViewArray) -> Result<Mask, All
 {
     let slots = lists.slots();
     let count = slots.elements.len();
-    let offsets = read_indices(alloc, slots.offsets, count)?;
-    let sizes = valid_sizes(alloc, slots.sizes, slots.validity, count)?;
+    let offsets = read_indices(alloc, slots.offsets)?;
+    let sizes = valid_sizes(alloc, slots.sizes, slots.validity)?;
     let ends = furthest_ends(alloc, &offsets, &sizes, count)?;
     let marks = covered(alloc, &ends)?;
     let bits = BitBuffer::from_bools(alloc, &marks)?;
     Ok(Mask::from_buffer(bits))
 }
 
-/// The sizes of lists, none above the bound, and 0 for each null list.
+/// The sizes of lists, and 0 for each null list.
 #[tactic(auto, using(crate::proofs::DensityLemmas::sized))]
 pub(crate) fn valid_sizes(
     alloc: Global,
     sizes: &ArrayRef,
     validity: &Validity,
-    bound: usize,
 ) -> Result<Vec<usize>, AllocError>
     requires kind { IsOffsets (array_type_of sizes.now) }
-    requires within { AreAtMost bound sizes.now }
     requires fits { HasLength (valid_of validity.now) (len_of sizes.now) }
     ensures { IfOk result (λ ns. AreValidSizes sizes.now (valid_of validity.now) ns.items) }
 {
     match validity {
-        Validity::NonNullable => read_indices(alloc, sizes, bound),
-        Validity::AllValid => read_indices(alloc, sizes, bound),
+        Validity::NonNullable => read_indices(alloc, sizes),
+        Validity::AllValid => read_indices(alloc, sizes),
         Validity::AllInvalid => vec![in alloc; 0; sizes.len()],
         Validity::Array(_) => {
-            let mut counts = read_indices(alloc, sizes, bound)?;
+            let mut counts = read_indices(alloc, sizes)?;
             let mask = validity.to_mask(alloc, sizes.len())?;
             empty_nulls(&mut counts, mask.bit_buffer());
             Ok(counts)

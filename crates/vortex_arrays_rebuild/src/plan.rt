@@ -43,8 +43,8 @@ pub(crate) fn plan_layout(
         (rows_of (list_views elements.now offsets.now sizes.now false (valid_of validity.now)))) }
 {
     let limit = elements.len();
-    let starts = read_indices(alloc, offsets, limit)?;
-    let counts = valid_sizes(alloc, sizes, validity, limit)?;
+    let starts = read_indices(alloc, offsets)?;
+    let counts = valid_sizes(alloc, sizes, validity)?;
     let mut new_starts = vec![in alloc; 0; starts.len()]?;
     let mut new_counts = vec![in alloc; 0; starts.len()]?;
     let mut runs = RunsBuilder::new(alloc, limit);

@@ -106,7 +106,8 @@ fn lower_offsets(
     if by == 0 {
         return Ok(offsets.clone()?);
     }
-    let starts = read_indices(alloc, offsets, bound)?;
+    let _bound = bound;
+    let starts = read_indices(alloc, offsets)?;
     match offsets.dtype().as_ptype_opt() {
         Some(ptype) => lower_to_kind(alloc, ptype, &starts, by),
         None => unreachable!(),
