@@ -256,15 +256,20 @@ constant_unfit a b cs e f c = subst (λ t. IsConstantOr t a b) (sym f ∙ ap fit
 
 pub ruleset constants = (column_rows, column_valid, constant_fits, constant_unfit)
 
-pub dictionary_fits : (a b : Layout) (cs : List Content) → cs ≡ rows_of a → fits_dictionary (array_type_of a) cs ≡ true → IsDictionaryOf cs b → IsHinted hints.Dictionary a b
-dictionary_fits a b cs e f d = subst (λ t. IsDictionaryOr t a b) (sym f ∙ ap (fits_dictionary (array_type_of a)) e) (inl (subst (λ rs. IsDictionaryOf rs b) e d))
+pub dictionary_fits : (a b : Layout) → fits_dictionary (array_type_of a) (rows_of a) ≡ true → IsDictionaryOf (rows_of a) b → IsHinted hints.Dictionary a b
+dictionary_fits a b f d = subst (λ t. IsDictionaryOr t a b) (sym f) (inl d)
 
-pub dictionary_unfit : (a b : Layout) (cs : List Content) → cs ≡ rows_of a → fits_dictionary (array_type_of a) cs ≡ false → b ≡ a → IsHinted hints.Dictionary a b
-dictionary_unfit a b cs e f c = subst (λ t. IsDictionaryOr t a b) (sym f ∙ ap (fits_dictionary (array_type_of a)) e) c
+pub dictionary_unfit : (a b : Layout) → fits_dictionary (array_type_of a) (rows_of a) ≡ false → b ≡ a → IsHinted hints.Dictionary a b
+dictionary_unfit a b f c = subst (λ t. IsDictionaryOr t a b) (sym f) c
 
-pub dictionary_too_large : (x : ArrayError) (a b : Layout) (vs : List Value) → map value_content vs ≡ rows_of a → fits_dictionary (array_type_of a) (map value_content vs) ≡ true → IsDictionaryFault x (array_type_of a) (map raw_at vs) → (x ≡ error.Memory → ⊥) → b ≡ a → IsHinted hints.Dictionary a b
+pub ruleset dictionaries = (dictionary_fits, dictionary_unfit)
+
+pub dictionary_of_rows : (a b : Layout) (cs : List Content) → cs ≡ rows_of a → fits_dictionary (array_type_of a) (rows_of a) ≡ true → IsDictionaryOf cs b → IsHinted hints.Dictionary a b
+dictionary_of_rows a b cs e f d = dictionary_fits a b f (subst (λ rs. IsDictionaryOf rs b) e d)
+
+pub dictionary_too_large : (x : ArrayError) (a b : Layout) (vs : List Value) → map value_content vs ≡ rows_of a → fits_dictionary (array_type_of a) (rows_of a) ≡ true → IsDictionaryFault x (array_type_of a) (map raw_at vs) → (x ≡ error.Memory → ⊥) → b ≡ a → IsHinted hints.Dictionary a b
 dictionary_too_large x a b vs e f h n c =
-    subst (λ t. IsDictionaryOr t a b) (sym f ∙ ap (fits_dictionary (array_type_of a)) e)
+    subst (λ t. IsDictionaryOr t a b) (sym f)
     (inr (subst (AreDistinctTooLarge (array_type_of a)) e (distinct_fault x (array_type_of a) vs h n), c))
 
-pub ruleset dictionaries = (column_rows, column_valid, of_leaves, dictionary_fits, dictionary_unfit, dictionary_too_large)
+pub ruleset dictionaries_of_values = (column_rows, column_valid, of_leaves, dictionary_of_rows, dictionary_too_large)

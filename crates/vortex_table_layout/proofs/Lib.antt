@@ -1,6 +1,7 @@
 pub mod CompactLemmas
 mod ConstantLemmas
 mod DictionaryLemmas
+mod FitsLemmas
 pub mod HintLemmas
 mod KeepLemmas
 mod LaidLemmas

@@ -1,9 +1,10 @@
 //! Columns of arrays, laid out anew.
-ghost use Rattle.std.specs.Prelude.{◌≡◌, [], None, length, map, IfOk};
+ghost use Rattle.std.specs.Prelude.{◌≡◌, true, [], None, length, map, IfOk};
 ghost use Rattle.vortex_model.specs.Kept.{type_fault};
 ghost use Rattle.vortex_scalar_value.specs.View.{raw_in, raw_at};
 ghost use Rattle.vortex_arrays_model.specs.Layout.{array_type_of, fields_of, rows_of, HaveLength};
 ghost use Rattle.vortex_arrays_model.specs.Parts.{columns_of};
+ghost use Rattle.vortex_arrays_builder.specs.Fits.{fits_dictionary};
 ghost use Rattle.vortex_arrays_builder.specs.Types.{HasPlain, HavePlain};
 ghost use Rattle.vortex_table_schema.specs.declared.layout.Layout.TheVariants.{Dictionary, Constant};
 ghost use Rattle.vortex_table_layout.specs.Hinted.{HasHintedColumns};
@@ -16,12 +17,14 @@ ghost use Rattle.vortex_table_layout.specs.HintedAnew.{
 };
 
 use crate::compact::with_fields;
+use crate::fits::fits_dictionary;
 use crate::lay_out::{constant_of, hint_at};
 use crate::rows::row_values;
 use std::alloc::{AllocError, Global};
-use vortex_arrays_builder::fits::{fits_constant, fits_dictionary};
+use vortex_arrays_builder::fits::fits_constant;
 use vortex_arrays_core::array::{ArrayLayout, ArrayRef};
 use vortex_arrays_dictionary::build::build_dictionary;
+use vortex_arrays_dictionary::encode::dict_encode;
 use vortex_arrays_view::error::ArrayError;
 use vortex_dtype_ptype::field_names::FieldNames;
 use vortex_scalar_value::scalar_value::ScalarValue;
@@ -141,16 +144,30 @@ fn dictionary_or_same(alloc: Global, column: &ArrayRef) -> Result<ArrayRef, Allo
     ensures rows { IfOk result (λ hinted. rows_of hinted ≡ rows_of column.now) }
     ensures layout { IfOk result (λ hinted. IsHinted Dictionary column.now hinted) }
 {
+    if !fits_dictionary(column) {
+        return Ok(column.clone()?);
+    }
+    match dict_encode(alloc, column)? {
+        Some(hinted) => Ok(hinted),
+        None => dictionary_of_values(alloc, column),
+    }
+}
+
+// A dictionary of the rows by a value of each, for a column that isn't laid out plain.
+#[tactic(auto, using(crate::proofs::HintLemmas::dictionaries_of_values))]
+fn dictionary_of_values(alloc: Global, column: &ArrayRef) -> Result<ArrayRef, AllocError>
+    requires { fits_dictionary (array_type_of column.now) (rows_of column.now) ≡ true }
+    ensures dtype { IfOk result (λ hinted. array_type_of hinted ≡ array_type_of column.now) }
+    ensures rows { IfOk result (λ hinted. rows_of hinted ≡ rows_of column.now) }
+    ensures layout { IfOk result (λ hinted. IsHinted Dictionary column.now hinted) }
+{
     let rows = row_values(alloc, column)?;
     let values = borrowed(alloc, &rows)?;
-    if fits_dictionary(column.dtype(), &values) {
-        match build_dictionary(alloc, column.dtype(), &values) {
-            Ok(hinted) => return Ok(hinted),
-            Err(ArrayError::Memory) => return Err(AllocError),
-            Err(_) => {}
-        }
+    match build_dictionary(alloc, column.dtype(), &values) {
+        Ok(hinted) => Ok(hinted),
+        Err(ArrayError::Memory) => Err(AllocError),
+        Err(_) => Ok(column.clone()?),
     }
-    Ok(column.clone()?)
 }
 
 #[tactic(auto, using(crate::proofs::HintLemmas::values))]

@@ -2,6 +2,7 @@
 #![tactic(auto)]
 
 pub mod compact;
+mod fits;
 pub mod hint;
 pub mod keep;
 pub mod lay_out;
