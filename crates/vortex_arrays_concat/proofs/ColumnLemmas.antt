@@ -94,6 +94,23 @@ rows_joined ls r many same = rows_by_position r (rows_of_arrays ls) (items_count
     ∙ row_at_position place.array place.row null (at_within ls p place.array place.row place.at)
     ∙ sym (same p place.array place.row place.at))
 
+pub at_below : (ls : List Layout) (p : ℕ) (a : Layout) (i : ℕ) → IsAt ls p a i → p < rows_in_all ls
+at_below [] p a i h = absurd h
+at_below (b ∷ bs) p a i (inl h) =
+    let s = rows_more b bs in let e = h.1 in let l = h.2 in omega (arith, s, e, l)
+at_below (b ∷ bs) p a i (inr h) =
+    let s = rows_more b bs in let e = h.1 in let l = at_below bs h.0 a i h.2 in
+    omega (arith, s, e, l)
+
+-- a row of the joined array
+pub column_row : (ls : List Layout) (k : LogicalType) (r : Layout) (p : ℕ) (a : Layout) (i : ℕ) → IsJoined ls r → All (λ b. array_type_of b ≡ k) ls → IsAt ls p a i → content_at r p ≡ content_at a i
+column_row ls k r p a i h same at =
+    let below = at_below ls p a i at in
+    sym (row_at_position r p null (subst (λ n. p < n) (sym h.count) below))
+    ∙ ap (λ rows. get_or rows p null) (h.column k same).rows
+    ∙ item_at rows_of ls p a i null (have_rows ls) at
+    ∙ row_at_position a i null (at_within ls p a i at)
+
 -- ---- nulls
 
 abbrev bits_by : Layout → List Bool
@@ -113,14 +130,6 @@ valid_at_place ls v p a i l h at =
     ∙ ap (λ bs. get_or bs p false) (h.rows ∙ flat_map-map (λ part. valid_rows part.0 part.1) (λ a. (valid_in a, len_of a)) ls)
     ∙ item_at bits_by ls p a i false (λ j d m. valid_count (valid_in (get_or ls j d)) (len_of (get_or ls j d))) at
     ∙ get_or-map-range_with_len (is_valid (valid_in a)) 0 (len_of a) i i false (at_within ls p a i at) (omega arith)
-
-pub at_below : (ls : List Layout) (p : ℕ) (a : Layout) (i : ℕ) → IsAt ls p a i → p < rows_in_all ls
-at_below [] p a i h = absurd h
-at_below (b ∷ bs) p a i (inl h) =
-    let s = rows_more b bs in let e = h.1 in let l = h.2 in omega (arith, s, e, l)
-at_below (b ∷ bs) p a i (inr h) =
-    let s = rows_more b bs in let e = h.1 in let l = at_below bs h.0 a i h.2 in
-    omega (arith, s, e, l)
 
 -- the rows of one array more
 pub rows_snoc : (ls : List Layout) (a : Layout) → rows_in_all (ls ++ a ∷ []) ≡ rows_in_all ls + len_of a

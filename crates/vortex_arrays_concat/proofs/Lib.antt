@@ -1,4 +1,6 @@
 pub mod ColumnLemmas
+pub mod FixedLemmas
+pub mod PlainLemmas
 pub mod RecordLemmas
 pub mod RowLemmas
 pub mod StringLemmas

@@ -1,10 +1,10 @@
 -- Records end to end, field by field.
-use Rattle.std.proofs.Common.{◌≡◌, ◌<◌, ◌≤◌, ◌+◌, ℕ, zero, suc, cond, List, [], ◌∷◌, ◌++◌, length, get_or, refl, sym, ap, subst, ◌∙◌, ⊎_elim, arith}
+use Rattle.std.proofs.Common.{◌≡◌, ◌<◌, ◌≤◌, ◌+◌, ℕ, zero, suc, cond, List, [], ◌∷◌, ◌++◌, length, take, get_or, refl, sym, ap, subst, ◌∙◌, ⊎_elim, arith}
 use Rattle.std.specs.List.{All}
-use Rattle.std.proofs.lemmas.List.{length-append, get_or_append_left, get_or-append-add}
+use Rattle.std.proofs.lemmas.List.{take_more, take_all, length-append, get_or_append_left, get_or-append-add}
 use Rattle.std.proofs.lemmas.List.Concat.{flat_map_single}
 use Rattle.std.proofs.lemmas.List.Folds.{flat_map-map}
-use Rattle.std.proofs.lemmas.List.Elements.{All-head, All-tail, All-map}
+use Rattle.std.proofs.lemmas.List.Elements.{All-nil, All-append, All-cons, All-head, All-tail, All-map}
 use Rattle.vortex_model.specs.LogicalType.{LogicalType, Fields, no_fields, field, struct, boolean_type, non_nullable}
 use Rattle.vortex_model.specs.Content.{first, null, tuple}
 use Rattle.vortex_arrays_model.specs.Layout.{Layout, bools, numbers, strings, constant, dictionary, fixed_lists, list_views, records, Valid, required, Columns, no_columns, column, len_of, array_type_of, fields_of, content_at, row_at, rows_of, is_valid, nullability_by, IsSound, HasLength, HaveLength}
@@ -271,12 +271,23 @@ types_joined ls a xs own gs k f h same =
     ∙ ap (λ bs. array_type_of (get_or bs i none)) (sym f.fields))
     ∙ f.types ∙ fields_alike a k f.records kind
 
-all_records : (ls : List Layout) (n : ℕ) (gs : List Layout) → 0 < n → AreFields ls n gs → All AreRecords ls
-all_records ls n gs l h = λ i d m. (h.there 0 l i d m).records
+-- ---- whether all are records
 
-records_column : (ls : List Layout) (a : Layout) (xs : List (List ℕ)) (own gs : List Layout) (v : Valid) (n : ℕ) (k : LogicalType) → IsFirst ls a xs own → 0 < length own → AreFields ls (length own) gs → IsEndToEnd (validities ls) v → n ≡ rows_in_all ls → All (λ b. array_type_of b ≡ k) ls → IsColumn k ls (records (columns_of xs gs) n v)
-records_column ls a xs own gs v n k f some h made e same =
-    let recs = all_records ls (length own) gs some h in
+pub no_records : (ls : List Layout) → All AreRecords (take 0 ls)
+no_records ls = All-nil AreRecords
+
+pub more_records : (ls : List Layout) (i : ℕ) (a : Layout) → All AreRecords (take i ls) → i < length ls → a ≡ get_or ls i a → AreRecords a → All AreRecords (take (i + 1) ls)
+more_records ls i a h l e r = subst (All AreRecords) (sym (take_more ls i a l ∙ ap (λ y. take i ls ++ y ∷ []) (sym e))) (All-append AreRecords (take i ls) (a ∷ []) h (All-cons AreRecords a [] r (All-nil AreRecords)))
+
+pub all_records : (ls : List Layout) (i : ℕ) → All AreRecords (take i ls) → length ls ≤ i → All AreRecords ls
+all_records ls i h l = subst (All AreRecords) (take_all i ls l) h
+
+pub ruleset records_seen = (no_records, more_records, all_records)
+
+-- ---- the records
+
+records_column : (ls : List Layout) (a : Layout) (xs : List (List ℕ)) (own gs : List Layout) (v : Valid) (n : ℕ) (k : LogicalType) → IsFirst ls a xs own → All AreRecords ls → AreFields ls (length own) gs → IsEndToEnd (validities ls) v → n ≡ rows_in_all ls → All (λ b. array_type_of b ≡ k) ls → IsColumn k ls (records (columns_of xs gs) n v)
+records_column ls a xs own gs v n k f recs h made e same =
     let types = types_joined ls a xs own gs k f h same in
     record {
       kind = kind_by_first (λ m. struct (fields_of (columns_of xs gs)) m) ls v k f.some (λ m. refl) (λ i d l.
@@ -292,8 +303,8 @@ records_column ls a xs own gs v n k f some h made e same =
       plain = plain_by_place xs gs (λ i l. (column_of ls k (length own) gs i h same (subst (λ m. i < m) h.count l)).plain);
     }
 
-pub records_joined : (ls : List Layout) (a : Layout) (xs : List (List ℕ)) (own gs : List Layout) (m : ℕ) (w v : Valid) (n : ℕ) (r : Layout) → 0 < length ls → a ≡ get_or ls 0 a → a ≡ records (columns_of xs own) m w → 0 < length own → AreFields ls (length own) gs → IsEndToEnd (validities ls) v → n ≡ rows_in_all ls → r ≡ records (columns_of xs gs) n v → IsJoined ls r
-records_joined ls a xs own gs m w v n r l e is some h made count made_so =
+pub records_joined : (ls : List Layout) (a : Layout) (xs : List (List ℕ)) (own gs : List Layout) (m : ℕ) (w v : Valid) (n : ℕ) (r : Layout) → 0 < length ls → a ≡ get_or ls 0 a → a ≡ records (columns_of xs own) m w → All AreRecords ls → AreFields ls (length own) gs → IsEndToEnd (validities ls) v → n ≡ rows_in_all ls → r ≡ records (columns_of xs gs) n v → IsJoined ls r
+records_joined ls a xs own gs m w v n r l e is recs h made count made_so =
     let f : IsFirst ls a xs own = record {
       some = l;
       first = e;
@@ -303,7 +314,7 @@ records_joined ls a xs own gs m w v n r l e is some h made count made_so =
     } in
     record {
       count = ap len_of made_so ∙ count;
-      column = λ k same. subst (IsColumn k ls) (sym made_so) (records_column ls a xs own gs v n k f some h made count same);
+      column = λ k same. subst (IsColumn k ls) (sym made_so) (records_column ls a xs own gs v n k f recs h made count same);
     }
 
 pub ruleset joined = (records_fit, fields_named, records_joined)

@@ -165,11 +165,11 @@ pub ruleset typed = (type_there, no_array, not_records, not_plain, not_one)
 abbrev Lent : Type 0
 Lent = Option (Bor ScalarValue)
 
-contents_of : (bs : List Lent) → map content_of (map raw_at bs) ≡ map value_content bs
+pub contents_of : (bs : List Lent) → map content_of (map raw_at bs) ≡ map value_content bs
 contents_of [] = refl
 contents_of (b ∷ bs) = ap (λ cs. value_content b ∷ cs) (contents_of bs)
 
-contents_in : (vs : List Value) → map content_of (map raw_in vs) ≡ map content_in vs
+pub contents_in : (vs : List Value) → map content_of (map raw_in vs) ≡ map content_in vs
 contents_in [] = refl
 contents_in (v ∷ vs) = ap (λ cs. content_in v ∷ cs) (contents_in vs)
 

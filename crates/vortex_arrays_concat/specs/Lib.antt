@@ -1,4 +1,6 @@
 pub mod Columns
 pub mod EndToEnd
+pub mod FixedLists
+pub mod PlainParts
 pub mod PlainTypes
 pub mod Strings

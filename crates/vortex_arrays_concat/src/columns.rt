@@ -1,4 +1,4 @@
-//! Columns of one type end to end.
+//! Columns of leaves end to end, and which rows of any columns are null.
 ghost use Rattle.std.specs.Prelude.{◌≡◌, ◌<◌, length, map, flat_map, IfOk, IfSome, All};
 ghost use Rattle.vortex_arrays_model.specs.Parts.{valid_in};
 ghost use Rattle.vortex_arrays_core.specs.LayoutOf.{valid_of};
@@ -15,21 +15,19 @@ use vortex_arrays_buffer::element::Element;
 use vortex_arrays_buffer::primitive_buffer::PrimitiveBuffer;
 use vortex_arrays_core::array::{ArrayLayout, ArrayRef, Validity};
 
-/// The rows of the arrays, one array after the other, of which there are so many together. `None`
-/// where they are not all laid out as integers of one kind, as truth values, or by views of texts
-/// or of bytes.
-pub(crate) fn concat_column(
+/// The rows of arrays of leaves, one array after the other, of which there are so many together.
+/// `None` where they are not all laid out as truth values, as integers of one kind, or by views of
+/// texts or of bytes.
+pub(crate) fn concat_leaves(
     alloc: Global,
     arrays: &[ArrayRef],
     count: usize,
 ) -> Result<Option<ArrayRef>, AllocError>
-    requires { count ≡ rows_in_all arrays.now }
+    requires some { 0 < length arrays.now }
+    requires count { count ≡ rows_in_all arrays.now }
     ensures { IfOk result (λ found. IfSome found (λ a. IsJoined arrays.now a)) }
 {
-    let Some(first) = arrays.first() else {
-        return Ok(None);
-    };
-    match first.layout() {
+    match arrays[0].layout() {
         ArrayLayout::Primitive(items, _) => concat_numbers(alloc, items, arrays, count),
         ArrayLayout::Bool(_, _) => concat_bools(alloc, arrays, count),
         ArrayLayout::VarBinView(kind, _, _, _) => concat_strings(alloc, *kind, arrays, count),

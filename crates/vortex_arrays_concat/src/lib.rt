@@ -2,6 +2,9 @@
 #![tactic(auto)]
 
 mod columns;
+mod fixed_lists;
+mod nested;
+mod plain_parts;
 mod plain_types;
 mod records;
 mod rows;

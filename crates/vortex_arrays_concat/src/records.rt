@@ -1,85 +1,36 @@
-//! Records of one type end to end, field by field.
-ghost use Rattle.std.specs.Prelude.{◌≡◌, IfOk, IfSome};
-ghost use Rattle.vortex_arrays_concat.specs.EndToEnd.{rows_in_all};
-ghost use Rattle.vortex_arrays_concat.specs.Columns.{HaveField, AreFields, fields_at, field_at, HasField, IsJoined};
+//! The fields of arrays of records.
+ghost use Rattle.std.specs.Prelude.{◌≡◌, IsTrue, IfOk, IfSome, All};
+ghost use Rattle.vortex_arrays_struct.specs.Records.{AreRecords};
+ghost use Rattle.vortex_arrays_concat.specs.Columns.{HaveField, fields_at, field_at, HasField};
 
-use crate::columns::{concat_column, concat_validity};
 use std::alloc::{AllocError, Global};
 use vortex_arrays_core::array::{ArrayLayout, ArrayRef};
 
-/// The records of the arrays, one array after the other, of which there are so many together.
-/// `None` where not all are laid out as records, where they have no field, or where a field's
-/// columns can't be set end to end.
-#[tactic(auto, using(crate::proofs::RecordLemmas::joined))]
-pub(crate) fn concat_records(
-    alloc: Global,
-    arrays: &[ArrayRef],
-    count: usize,
-) -> Result<Option<ArrayRef>, AllocError>
-    requires { count ≡ rows_in_all arrays.now }
-    ensures { IfOk result (λ found. IfSome found (λ a. IsJoined arrays.now a)) }
+/// Whether all arrays are laid out as records.
+#[tactic(auto, using(crate::proofs::RecordLemmas::records_seen))]
+pub(crate) fn are_records(arrays: &[ArrayRef]) -> bool
+    ensures { IsTrue result → All AreRecords arrays.now }
 {
-    let Some(first) = arrays.first() else {
-        return Ok(None);
-    };
-    let ArrayLayout::Struct(names, own, _, _) = first.layout() else {
-        return Ok(None);
-    };
-    if own.is_empty() {
-        return Ok(None);
+    for array in arrays {
+        if !is_records(array) {
+            return false;
+        }
     }
-    let Some(fields) = concat_fields(alloc, arrays, own.len(), count)? else {
-        return Ok(None);
-    };
-    let validity = concat_validity(alloc, arrays, count)?;
-    let array = ArrayRef::of_records(alloc, names.clone()?, fields, count, validity)?;
-    Ok(Some(array))
+    true
 }
 
-// The first so many fields, each of all arrays, where all have them.
-#[tactic(auto, using(crate::proofs::RecordLemmas::fields_made))]
-fn concat_fields(
-    alloc: Global,
-    arrays: &[ArrayRef],
-    width: usize,
-    count: usize,
-) -> Result<Option<Vec<ArrayRef>>, AllocError>
-    requires { count ≡ rows_in_all arrays.now }
-    ensures { IfOk result
-        (λ found. IfSome found (λ fields. AreFields arrays.now width fields.items)) }
+fn is_records(array: &ArrayRef) -> bool
+    ensures { IsTrue result → AreRecords array.now }
 {
-    let mut fields = Vec::with_capacity(alloc, width)?;
-    for i in 0..width {
-        let Some(field) = concat_field(alloc, arrays, i, count)? else {
-            return Ok(None);
-        };
-        let _rows = field.len();
-        fields.push(field)?;
+    match array.layout() {
+        ArrayLayout::Struct(_, _, _, _) => true,
+        _ => false,
     }
-    Ok(Some(fields))
 }
 
-#[tactic(auto, using(crate::proofs::RecordLemmas::field_made))]
-fn concat_field(
-    alloc: Global,
-    arrays: &[ArrayRef],
-    i: usize,
-    count: usize,
-) -> Result<Option<ArrayRef>, AllocError>
-    requires { count ≡ rows_in_all arrays.now }
-    ensures there { IfOk result (λ found. IfSome found (λ a. HaveField arrays.now i)) }
-    ensures joined { IfOk result
-        (λ found. IfSome found (λ a. IsJoined (fields_at i arrays.now) a)) }
-{
-    let Some(parts) = field_of_all(alloc, arrays, i)? else {
-        return Ok(None);
-    };
-    concat_column(alloc, parts.as_slice(), count)
-}
-
-// The arrays of a field, where all have it.
+/// The arrays of a field, where all have it.
 #[tactic(auto, using(crate::proofs::RecordLemmas::fields_gathered))]
-fn field_of_all(
+pub(crate) fn field_of_all(
     alloc: Global,
     arrays: &[ArrayRef],
     i: usize,

@@ -48,9 +48,9 @@ pub(crate) fn rows_of(
     Ok(rows)
 }
 
-// Adds the values of the rows of an array.
+/// Adds the values of the rows of an array.
 #[tactic(auto, using(crate::proofs::RowLemmas::pushed))]
-fn push_rows(
+pub(crate) fn push_rows(
     alloc: Global,
     array: &ArrayRef,
     rows: &mut Vec<Option<ScalarValue>>,

@@ -6,8 +6,9 @@ ghost use Rattle.vortex_arrays_model.specs.Layout.{Layout, array_type_of};
 ghost use Rattle.vortex_arrays_builder.specs.Types.{HasPlain, IsPlainLayout};
 ghost use Rattle.vortex_arrays_concat.specs.EndToEnd.{AreOfType, IsConcatenation, IsConcatFault};
 
+use crate::nested::concat_column;
+use crate::plain_parts::is_of_type;
 use crate::plain_types::has_plain;
-use crate::records::concat_records;
 use crate::rows::{count_rows, lend, rows_of};
 use std::alloc::{AllocError, Global};
 use vortex_arrays_builder::plain::build_plain;
@@ -47,8 +48,8 @@ impl StructArrayConcat for StructArray {
     }
 }
 
-// The records of the arrays as an array of any layout: field by field where their columns can be
-// set end to end, else by the values of all rows.
+// The records of the arrays as an array of any layout: column by column, and by the values of all
+// rows where that can't be.
 #[tactic(auto, using(crate::proofs::RecordLemmas::whole))]
 fn concat(alloc: Global, arrays: &[StructArray]) -> Result<ArrayRef, ArrayError>
     ensures made { IfOk result (λ a. IsConcatenation arrays.now a) }
@@ -62,7 +63,7 @@ fn concat(alloc: Global, arrays: &[StructArray]) -> Result<ArrayRef, ArrayError>
         return Err(ArrayError::Total);
     };
     let shared = share(alloc, arrays)?;
-    if let Some(array) = concat_records(alloc, shared.as_slice(), count)? {
+    if let Some(array) = concat_column(alloc, dtype, shared.as_slice(), count)? {
         return Ok(array);
     }
     concat_rows(alloc, dtype, arrays, count)
@@ -115,15 +116,9 @@ fn are_of_type(arrays: &[StructArray], dtype: &DType) -> bool
     ensures { IsTrue result ↔ All (λ a. array_type_of a ≡ type_of dtype.now) arrays.now }
 {
     for array in arrays {
-        if !is_of_type(array, dtype) {
+        if !is_of_type(array.as_array(), dtype) {
             return false;
         }
     }
     true
-}
-
-fn is_of_type(array: &StructArray, dtype: &DType) -> bool
-    ensures { IsTrue result ↔ (array_type_of array.now ≡ type_of dtype.now) }
-{
-    *array.dtype() == *dtype
 }

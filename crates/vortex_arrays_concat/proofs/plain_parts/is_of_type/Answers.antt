@@ -1,5 +1,5 @@
 use Rattle.std.proofs.Common.{sym, ◌∙◌}
-use Rattle.vortex_arrays_concat.proofs.struct_array_concat.is_of_type.Goals as goal
+use Rattle.vortex_arrays_concat.proofs.plain_parts.is_of_type.Goals as goal
 
 pub returns : goal.returns
 returns c = (

@@ -1,0 +1,13 @@
+-- Lists of one size.
+use Rattle.std.specs.Prelude.{◌≡◌, ℕ, []}
+use Rattle.vortex_arrays_model.specs.Layout.{Layout, bools, fixed_lists, required, IsSound}
+
+-- it is laid out as lists of this size, and its parts fit together
+abbrev pub AreFixedLists : ℕ → Layout → Type 0
+AreFixedLists s (fixed_lists e t n v) = (t ≡ s) × IsSound (fixed_lists e t n v)
+AreFixedLists s a = ⊥
+
+-- the array of the elements of its lists
+abbrev pub elements_in : Layout → Layout
+elements_in (fixed_lists e s n v) = e
+elements_in a = bools [] required

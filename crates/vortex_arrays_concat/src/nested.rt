@@ -1,0 +1,145 @@
+//! Columns of any type end to end: leaves, and what stands in records and lists.
+ghost use Rattle.std.specs.Prelude.{◌≡◌, ◌<◌, length, IfOk, IfSome};
+ghost use Rattle.vortex_arrays_concat.specs.EndToEnd.{rows_in_all};
+ghost use Rattle.vortex_arrays_concat.specs.Columns.{AreFields, IsJoined};
+
+use crate::columns::{concat_leaves, concat_validity};
+use crate::fixed_lists::elements_of_all;
+use crate::plain_parts::plain_parts;
+use crate::records::{are_records, field_of_all};
+use std::alloc::{AllocError, Global};
+use vortex_arrays_core::array::{ArrayLayout, ArrayRef};
+use vortex_dtype_core::dtype::DType;
+use vortex_dtype_core::struct_fields::StructField;
+
+/// The rows of arrays of a type, one array after the other, of which there are so many together:
+/// column by column where the arrays are laid out alike, and else once each is laid out plain.
+/// `None` where they can't be.
+#[cycle(concat)]
+#[tactic(auto, using(crate::proofs::PlainLemmas::joined))]
+pub(crate) fn concat_column(
+    alloc: Global,
+    dtype: &DType,
+    arrays: &[ArrayRef],
+    count: usize,
+) -> Result<Option<ArrayRef>, AllocError>
+    requires { count ≡ rows_in_all arrays.now }
+    ensures { IfOk result (λ found. IfSome found (λ a. IsJoined arrays.now a)) }
+{
+    if let Some(array) = concat_alike(alloc, dtype, arrays, count)? {
+        return Ok(Some(array));
+    }
+    let Some(parts) = plain_parts(alloc, dtype, arrays)? else {
+        return Ok(None);
+    };
+    concat_alike(alloc, dtype, parts.as_slice(), count)
+}
+
+// The rows of arrays that are laid out alike, without a dictionary or a constant.
+#[cycle(concat)]
+fn concat_alike(
+    alloc: Global,
+    dtype: &DType,
+    arrays: &[ArrayRef],
+    count: usize,
+) -> Result<Option<ArrayRef>, AllocError>
+    requires { count ≡ rows_in_all arrays.now }
+    ensures { IfOk result (λ found. IfSome found (λ a. IsJoined arrays.now a)) }
+{
+    if arrays.is_empty() {
+        return Ok(None);
+    }
+    match dtype {
+        DType::Struct(fields, _) => concat_records(alloc, fields.as_slice(), arrays, count),
+        DType::FixedSizeList(element, size, _) => {
+            concat_fixed_lists(alloc, element, *size, arrays, count)
+        }
+        _ => concat_leaves(alloc, arrays, count),
+    }
+}
+
+// Records, field by field.
+#[cycle(concat)]
+#[tactic(auto, using(crate::proofs::RecordLemmas::joined))]
+fn concat_records(
+    alloc: Global,
+    types: &[StructField],
+    arrays: &[ArrayRef],
+    count: usize,
+) -> Result<Option<ArrayRef>, AllocError>
+    requires some { 0 < length arrays.now }
+    requires count { count ≡ rows_in_all arrays.now }
+    ensures { IfOk result (λ found. IfSome found (λ a. IsJoined arrays.now a)) }
+{
+    let ArrayLayout::Struct(names, own, _, _) = arrays[0].layout() else {
+        return Ok(None);
+    };
+    if own.len() != types.len() {
+        return Ok(None);
+    }
+    if !are_records(arrays) {
+        return Ok(None);
+    }
+    let Some(fields) = concat_fields(alloc, types, arrays, count)? else {
+        return Ok(None);
+    };
+    let validity = concat_validity(alloc, arrays, count)?;
+    let array = ArrayRef::of_records(alloc, names.clone()?, fields, count, validity)?;
+    Ok(Some(array))
+}
+
+// The fields by position, each of all arrays, where all have them.
+#[cycle(concat)]
+#[tactic(auto, using(crate::proofs::RecordLemmas::fields_made))]
+fn concat_fields(
+    alloc: Global,
+    types: &[StructField],
+    arrays: &[ArrayRef],
+    count: usize,
+) -> Result<Option<Vec<ArrayRef>>, AllocError>
+    requires { count ≡ rows_in_all arrays.now }
+    ensures { IfOk result
+        (λ found. IfSome found (λ fields. AreFields arrays.now (length types.now) fields.items)) }
+{
+    let mut fields = Vec::with_capacity(alloc, types.len())?;
+    for i in 0..types.len() {
+        let Some(parts) = field_of_all(alloc, arrays, i)? else {
+            return Ok(None);
+        };
+        let Some(field) = concat_column(alloc, &types[i].dtype, parts.as_slice(), count)? else {
+            return Ok(None);
+        };
+        // Tells the proof that its parts fit together.
+        let _rows = field.len();
+        fields.push(field)?;
+    }
+    Ok(Some(fields))
+}
+
+// Lists of one size, by their elements.
+#[cycle(concat)]
+#[tactic(auto, using(crate::proofs::FixedLemmas::fixed))]
+fn concat_fixed_lists(
+    alloc: Global,
+    element: &DType,
+    size: u32,
+    arrays: &[ArrayRef],
+    count: usize,
+) -> Result<Option<ArrayRef>, AllocError>
+    requires some { 0 < length arrays.now }
+    requires count { count ≡ rows_in_all arrays.now }
+    ensures { IfOk result (λ found. IfSome found (λ a. IsJoined arrays.now a)) }
+{
+    let Some(parts) = elements_of_all(alloc, size, arrays)? else {
+        return Ok(None);
+    };
+    let Some(total) = count.checked_mul(size as usize) else {
+        return Ok(None);
+    };
+    let Some(elements) = concat_column(alloc, element, parts.as_slice(), total)? else {
+        return Ok(None);
+    };
+    let validity = concat_validity(alloc, arrays, count)?;
+    let array = ArrayRef::of_fixed_lists(alloc, elements, size, count, validity)?;
+    Ok(Some(array))
+}
