@@ -1,11 +1,11 @@
 -- Lists of one size end to end, by their elements.
-use Rattle.std.proofs.Common.{◌≡◌, ◌<◌, ◌≤◌, ◌+◌, ◌*◌, inl, inr, ℕ, zero, suc, cond, List, [], ◌∷◌, ◌++◌, length, map, take, get_or, refl, sym, ap, subst, ◌∙◌, arith}
+use Rattle.std.proofs.Common.{◌≡◌, ◌<◌, ◌≤◌, ◌+◌, ◌*◌, inl, inr, ℕ, cond, List, [], ◌∷◌, ◌++◌, length, map, get_or, refl, sym, ap, subst, ◌∙◌, arith}
 use Rattle.std.specs.List.{All}
 use Rattle.std.proofs.Math.Nat.{add-mul}
 use Rattle.std.proofs.lemmas.Nat.{mul-add-lt}
 use Rattle.std.proofs.lemmas.List.Concat.{flat_map_single}
 use Rattle.std.proofs.lemmas.List.Elements.{All-head, All-tail, All-map}
-use Rattle.vortex_model.specs.LogicalType.{LogicalType, list, fixed_list, boolean_type, non_nullable}
+use Rattle.vortex_model.specs.LogicalType.{LogicalType, list, fixed_list}
 use Rattle.vortex_model.specs.Content.{null, tuple}
 use Rattle.vortex_arrays_model.specs.Layout.{Layout, bools, numbers, strings, constant, dictionary, fixed_lists, list_views, records, Valid, len_of, array_type_of, content_at, span, is_valid, nullability_by, IsSound, HasLength}
 use Rattle.vortex_arrays_model.specs.Parts.{valid_in}

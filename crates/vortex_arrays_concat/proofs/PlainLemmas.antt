@@ -1,5 +1,5 @@
 -- Arrays that are laid out plain, one by one.
-use Rattle.std.proofs.Common.{◌≡◌, ◌<◌, ◌≤◌, ◌+◌, ◌==◌, ℕ, true, false, not, List, [], ◌∷◌, ◌++◌, length, map, flat_map, take, get_or, Option, Bor, refl, sym, ap, subst, ◌∙◌, arith}
+use Rattle.std.proofs.Common.{◌≡◌, ◌<◌, ◌≤◌, ◌+◌, ℕ, true, List, [], ◌∷◌, ◌++◌, length, map, flat_map, take, get_or, Option, Bor, refl, sym, ap, subst, ◌∙◌}
 use Rattle.std.specs.List.{All, sum}
 use Rattle.std.proofs.lemmas.List.{length-map, map-append, take_more, take_all}
 use Rattle.std.proofs.lemmas.List.Folds.{flat_map-map}
@@ -54,6 +54,11 @@ pub has_layout : (k : LogicalType) → has_plain k ≡ true → HasPlain k
 has_layout k h = plain_so k h
 
 pub ruleset gathered = (first_none, first_more, first_all, has_layout)
+
+pub cast_part : (k : LogicalType) (a r : Layout) → array_type_of a ≡ k → array_type_of r ≡ k → rows_of r ≡ rows_of a → IsPlainLayout r → IsPlainPart k a r
+cast_part k a r own kind rows plain = record { own = own; kind = kind; rows = rows; plain = plain }
+
+pub ruleset cast = (cast_part)
 
 -- ---- by the values of the rows
 

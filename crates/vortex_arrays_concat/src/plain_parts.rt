@@ -9,6 +9,7 @@ use crate::plain_types::has_plain;
 use crate::rows::{lend, push_rows};
 use std::alloc::{AllocError, Global};
 use vortex_arrays_builder::plain::build_plain;
+use vortex_arrays_cast::cast::cast_array;
 use vortex_arrays_core::array::ArrayRef;
 use vortex_arrays_view::error::ArrayError;
 use vortex_dtype_core::dtype::DType;
@@ -40,7 +41,8 @@ pub(crate) fn plain_parts(
     Ok(Some(parts))
 }
 
-// The array, where it is of the type and its texts and bytes are not too large.
+// The array column by column, and by the values of its rows where that can't be.
+#[tactic(auto, using(crate::proofs::PlainLemmas::cast))]
 fn plain_part(
     alloc: Global,
     dtype: &DType,
@@ -52,6 +54,9 @@ fn plain_part(
 {
     if !is_of_type(array, dtype) {
         return Ok(None);
+    }
+    if let Some(part) = cast_array(alloc, array, dtype)? {
+        return Ok(Some(part));
     }
     match build_part(alloc, dtype, array) {
         Ok(part) => Ok(Some(part)),

@@ -1,10 +1,10 @@
-use Rattle.std.proofs.Common.{◌≡◌, ◌<◌, ◌≤◌, length, map, get_or, IfSome, IfOk, refl, sym, ap, subst, ◌∙◌, rules, arith}
+use Rattle.std.proofs.Common.{◌≡◌, ◌<◌, length, map, get_or, IfSome, refl, sym, ap, subst, ◌∙◌, rules, arith}
 use Rattle.std.specs.List.{All}
 use Rattle.std.proofs.lemmas.Result.{IfOk-weaker}
 use Rattle.std.proofs.lemmas.Option.{IfSome_then}
 use Rattle.vortex_dtype_core.specs.View.{type_of, fields_of}
 use Rattle.vortex_dtype_core.proofs.Sizes.{type_size, fields_size, field_smaller}
-use Rattle.vortex_arrays_model.specs.Layout.{records, fixed_lists}
+use Rattle.vortex_arrays_model.specs.Layout.{records}
 use Rattle.vortex_arrays_model.specs.Parts.{columns_of}
 use Rattle.vortex_arrays_core.specs.LayoutOf.{valid_of}
 use Rattle.vortex_arrays_concat.specs.EndToEnd.{rows_in_all}
