@@ -1,5 +1,6 @@
 pub mod ColumnLemmas
 pub mod FixedLemmas
+pub mod ListLemmas
 pub mod PlainLemmas
 pub mod RecordLemmas
 pub mod RowLemmas

@@ -1,6 +1,6 @@
 -- Lists of one size.
 use Rattle.std.specs.Prelude.{◌≡◌, ℕ, []}
-use Rattle.vortex_arrays_model.specs.Layout.{Layout, bools, fixed_lists, required, IsSound}
+use Rattle.vortex_arrays_model.specs.Layout.{Layout, bools, fixed_lists, list_views, required, IsSound}
 
 -- it is laid out as lists of this size, and its parts fit together
 abbrev pub AreFixedLists : ℕ → Layout → Type 0
@@ -10,4 +10,5 @@ AreFixedLists s a = ⊥
 -- the array of the elements of its lists
 abbrev pub elements_in : Layout → Layout
 elements_in (fixed_lists e s n v) = e
+elements_in (list_views e o s f v) = e
 elements_in a = bools [] required

@@ -3,6 +3,7 @@
 
 mod columns;
 mod fixed_lists;
+mod lists;
 mod nested;
 mod plain_parts;
 mod plain_types;

@@ -5,6 +5,7 @@ ghost use Rattle.vortex_arrays_concat.specs.Columns.{AreFields, IsJoined};
 
 use crate::columns::{concat_leaves, concat_validity};
 use crate::fixed_lists::elements_of_all;
+use crate::lists::{Lists, lists_of_all, of_lists};
 use crate::plain_parts::plain_parts;
 use crate::records::{are_records, field_of_all};
 use std::alloc::{AllocError, Global};
@@ -54,6 +55,7 @@ fn concat_alike(
         DType::FixedSizeList(element, size, _) => {
             concat_fixed_lists(alloc, element, *size, arrays, count)
         }
+        DType::List(element, _) => concat_lists(alloc, dtype, element, arrays, count),
         _ => concat_leaves(alloc, arrays, count),
     }
 }
@@ -141,5 +143,37 @@ fn concat_fixed_lists(
     };
     let validity = concat_validity(alloc, arrays, count)?;
     let array = ArrayRef::of_fixed_lists(alloc, elements, size, count, validity)?;
+    Ok(Some(array))
+}
+
+// Lists of any size without gaps, each array laid out plain.
+#[cycle(concat)]
+fn concat_lists(
+    alloc: Global,
+    dtype: &DType,
+    element: &DType,
+    arrays: &[ArrayRef],
+    count: usize,
+) -> Result<Option<ArrayRef>, AllocError>
+    requires { count ≡ rows_in_all arrays.now }
+    ensures { IfOk result (λ found. IfSome found (λ a. IsJoined arrays.now a)) }
+{
+    let Some(parts) = plain_parts(alloc, dtype, arrays)? else {
+        return Ok(None);
+    };
+    let Some(lists) = lists_of_all(alloc, parts.as_slice(), count)? else {
+        return Ok(None);
+    };
+    let Lists {
+        elements,
+        offsets,
+        sizes,
+        total,
+    } = lists;
+    let Some(joined) = concat_column(alloc, element, elements.as_slice(), total)? else {
+        return Ok(None);
+    };
+    let validity = concat_validity(alloc, parts.as_slice(), count)?;
+    let array = of_lists(alloc, joined, offsets, sizes, validity)?;
     Ok(Some(array))
 }

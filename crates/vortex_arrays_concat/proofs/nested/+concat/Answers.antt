@@ -7,12 +7,14 @@ use Rattle.vortex_dtype_core.proofs.Sizes.{type_size, fields_size, field_smaller
 use Rattle.vortex_arrays_model.specs.Layout.{records}
 use Rattle.vortex_arrays_model.specs.Parts.{columns_of}
 use Rattle.vortex_arrays_core.specs.LayoutOf.{valid_of}
-use Rattle.vortex_arrays_concat.specs.EndToEnd.{rows_in_all}
-use Rattle.vortex_arrays_concat.specs.Columns.{AreFields, IsJoined, HaveField, fields_at}
+use Rattle.vortex_arrays_concat.specs.EndToEnd.{IsEndToEnd, rows_in_all}
+use Rattle.vortex_arrays_concat.specs.Columns.{AreFields, IsJoined, HaveField, fields_at, validities}
 use Rattle.vortex_arrays_concat.specs.PlainParts.{ArePlainParts}
-use Rattle.vortex_arrays_concat.proofs.PlainLemmas.{parts_count, parts_joined}
+use Rattle.vortex_arrays_concat.proofs.PlainLemmas.{parts_count, parts_joined, parts_some}
 use Rattle.vortex_arrays_concat.specs.FixedLists.{AreFixedLists, elements_in}
 use Rattle.vortex_arrays_concat.proofs.FixedLemmas.{lists_joined}
+use Rattle.vortex_arrays_concat.specs.Lists.{AreListsOf}
+use Rattle.vortex_arrays_concat.proofs.ListLemmas.{views_fit, views_joined}
 use Rattle.vortex_arrays_concat.proofs.RecordLemmas.{field_count, all_columns, records_fit, records_joined}
 use Rattle.vortex_arrays_concat.proofs.nested.+concat.Goals as goal
 
@@ -95,3 +97,54 @@ concat_records-returns t c =
     let parts : a ≡ records (columns_of c.in-Struct.names.value own) n v = search rules in
     records_joined ls a names own gs n v (valid_of c.in_ok-validity.validity) c.args.count c.in_ok-array.array
     c.requires.some c.index-arrays-0.is (parts ∙ ap (λ xs. records (columns_of xs own) n v) (sym same)) (c.if-not-are_records.ensures refl) fields c.in_ok-validity.ensures c.requires.count c.in_ok-array.ensures
+
+pub concat_lists-concat_validity-requires-clause-count : goal.concat_lists-concat_validity-requires-clause-count
+concat_lists-concat_validity-requires-clause-count t c =
+    let k = type_of c.args.dtype.now in
+    let ls = c.args.arrays.now in
+    let xs = c.in-Some.parts.items in
+    let parts : ArePlainParts k ls xs = subst (λ o. IfSome o (λ parts. ArePlainParts k ls parts.items)) c.in-Some.is c.in_ok-parts.ensures in
+    subst (λ ys. c.args.count ≡ rows_in_all ys) (sym c.as_slice-3.ensures.value) (parts_count k ls xs c.args.count parts c.requires)
+
+pub concat_lists-of_lists-requires : goal.concat_lists-of_lists-requires
+concat_lists-of_lists-requires t c =
+    let k = type_of c.args.dtype.now in
+    let ls = c.args.arrays.now in
+    let xs = c.in-Some.parts.items in
+    let parts : ArePlainParts k ls xs = subst (λ o. IfSome o (λ parts. ArePlainParts k ls parts.items)) c.in-Some.is c.in_ok-parts.ensures in
+    let es = c.in-Some-2.lists.elements.items in
+    let os = c.in-Some-2.lists.offsets.items in
+    let ss = c.in-Some-2.lists.sizes.items in
+    let total = c.in-Some-2.lists.total in
+    let e = c.in-Some-3.joined in
+    let v = valid_of c.in_ok-validity.validity in
+    let ys = c.as_slice.result.now in
+    let lent : AreListsOf ys es os ss total = subst (λ o. IfSome o (λ lists. AreListsOf ys lists.elements.items lists.offsets.items lists.sizes.items lists.total)) c.in-Some-2.is c.in_ok-lists.ensures in
+    let lists : AreListsOf xs es os ss total = subst (λ zs. AreListsOf zs es os ss total) c.as_slice.ensures.value lent in
+    let lent_elements : IsJoined c.as_slice-2.result.now e = subst (λ o. IfSome o (λ a. IsJoined c.as_slice-2.result.now a)) c.in-Some-3.is c.in_ok-joined.ensures in
+    let joined : IsJoined es e = subst (λ zs. IsJoined zs e) c.as_slice-2.ensures.value lent_elements in
+    let made : IsEndToEnd (validities xs) v = subst (λ zs. IsEndToEnd (validities zs) v) c.as_slice-3.ensures.value c.in_ok-validity.ensures in
+    let some : 0 < length xs = parts_some k ls xs parts in
+    λ held_offsets held_sizes sound. views_fit xs es os ss total e v some lists parts.plain joined made k parts.kinds held_offsets held_sizes sound
+
+pub concat_lists-returns : goal.concat_lists-returns
+concat_lists-returns t c =
+    let k = type_of c.args.dtype.now in
+    let ls = c.args.arrays.now in
+    let xs = c.in-Some.parts.items in
+    let parts : ArePlainParts k ls xs = subst (λ o. IfSome o (λ parts. ArePlainParts k ls parts.items)) c.in-Some.is c.in_ok-parts.ensures in
+    let es = c.in-Some-2.lists.elements.items in
+    let os = c.in-Some-2.lists.offsets.items in
+    let ss = c.in-Some-2.lists.sizes.items in
+    let total = c.in-Some-2.lists.total in
+    let e = c.in-Some-3.joined in
+    let v = valid_of c.in_ok-validity.validity in
+    let ys = c.as_slice.result.now in
+    let lent : AreListsOf ys es os ss total = subst (λ o. IfSome o (λ lists. AreListsOf ys lists.elements.items lists.offsets.items lists.sizes.items lists.total)) c.in-Some-2.is c.in_ok-lists.ensures in
+    let lists : AreListsOf xs es os ss total = subst (λ zs. AreListsOf zs es os ss total) c.as_slice.ensures.value lent in
+    let lent_elements : IsJoined c.as_slice-2.result.now e = subst (λ o. IfSome o (λ a. IsJoined c.as_slice-2.result.now a)) c.in-Some-3.is c.in_ok-joined.ensures in
+    let joined : IsJoined es e = subst (λ zs. IsJoined zs e) c.as_slice-2.ensures.value lent_elements in
+    let made : IsEndToEnd (validities xs) v = subst (λ zs. IsEndToEnd (validities zs) v) c.as_slice-3.ensures.value c.in_ok-validity.ensures in
+    let some : 0 < length xs = parts_some k ls xs parts in
+    let new = c.in_ok-array.array in
+    parts_joined k ls xs new parts (views_joined xs es os ss total e v some lists parts.plain joined made new c.in_ok-array.ensures)

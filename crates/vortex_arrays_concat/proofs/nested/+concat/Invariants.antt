@@ -19,5 +19,8 @@ decreases-concat_fields l = 4 * fields_size (fields_of l.types.now) + 4
 abbrev pub decreases-concat_fixed_lists : goal.decreases-concat_fixed_lists
 decreases-concat_fixed_lists l = 4 * type_size (type_of l.element.now) + 4
 
+abbrev pub decreases-concat_lists : goal.decreases-concat_lists
+decreases-concat_lists l = 4 * type_size (type_of l.element.now) + 4
+
 abbrev pub invariant-concat_fields-loop-i : goal.invariant-concat_fields-loop-i
 invariant-concat_fields-loop-i l = AreFields l.arrays l.i l.fields.items
