@@ -105,7 +105,8 @@ fn strings_at(
 // That no row is null, where a row could be as before.
 fn without_nulls(validity: &Validity) -> Validity
     ensures fits { (n : ℕ) → HasLength (valid_of result) n }
-    ensures nullability { nullability_by (valid_of result) ≡ nullability_by (valid_of validity.now) }
+    ensures nullability { nullability_by (valid_of result)
+        ≡ nullability_by (valid_of validity.now) }
     ensures valid { (i : ℕ) → is_valid (valid_of result) i ≡ true }
 {
     match validity {

@@ -8,7 +8,7 @@ use vortex_arrays_core::array::ArrayRef;
 use vortex_arrays_validity::places::places_or;
 
 /// The offsets or the sizes of lists.
-#[tactic(auto, using(vortex_arrays_core::proofs::Reading::offsets_are_integers, crate::proofs::ReadLemmas::all_read))]
+#[tactic(auto, using(crate::proofs::ReadLemmas::read))]
 pub(crate) fn read_indices(alloc: Global, array: &ArrayRef) -> Result<Vec<usize>, AllocError>
     requires { IsOffsets (array_type_of array.now) }
     ensures { IfOk result (λ indices. AreRead array.now indices.items) }
