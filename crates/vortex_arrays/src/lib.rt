@@ -21,6 +21,7 @@ pub use vortex_arrays_concat::struct_array_concat::StructArrayConcat;
 pub use vortex_arrays_concat::validity_concat::ValidityConcat;
 pub use vortex_arrays_core::array::{ArrayLayout, ArrayRef, StringKind, Validity};
 pub use vortex_arrays_dictionary::build::build_dictionary;
+pub use vortex_arrays_dictionary::constant::is_constant;
 pub use vortex_arrays_dictionary::encode::dict_encode;
 pub use vortex_arrays_leaf::bool_array::{BoolArray, BoolDataParts};
 pub use vortex_arrays_leaf::constant_array::ConstantArray;

@@ -24,6 +24,7 @@ use Rattle.vortex_arrays_builder.specs.Types.{IsPlainLayout}
 use Rattle.vortex_arrays_dictionary.specs.declared.byte_key.ByteKey.{ByteKey}
 use Rattle.vortex_arrays_dictionary.specs.Distinct.{distinct}
 use Rattle.vortex_arrays_dictionary.specs.Firsts.{at_places, AreKeysOf, AreNumbered}
+use Rattle.vortex_arrays_dictionary.specs.Keyed.{same_bytes}
 
 -- ---- the keys of a column's rows
 
@@ -63,12 +64,9 @@ naturals_equal a b = both_ways (nat_eq a b) (int_eq (pos a) (pos b))
     (λ h. (Decides-int_eq (pos a) (pos b)).1 (ap pos ((Decides-eqb a b).0 h)))
     (λ h. (Decides-eqb a b).1 (ap unsigned_abs ((Decides-int_eq (pos a) (pos b)).0 h)))
 
-numbers_keyed : (k : IntKind) (zs : List ℤ) (v : Valid) (present : List Bool) → present ≡ valid_flags v (length zs) → AreKeysOf int_eq zs present (rows_of (numbers k zs v))
+pub numbers_keyed : (k : IntKind) (zs : List ℤ) (v : Valid) (present : List Bool) → present ≡ valid_flags v (length zs) → AreKeysOf int_eq zs present (rows_of (numbers k zs v))
 numbers_keyed k zs v present same = rows_keyed int_eq zs present (numbers k zs v) v (λ i. integer (get_or zs i (pos 0))) refl (λ i. refl) (λ i. refl) same
     (λ i j d l m p q. λ t. int_eq (get_or_default zs i d (pos 0) l t) (get_or_default zs j d (pos 0) m t))
-
-pub numbers_numbered : (k : IntKind) (zs : List ℤ) (v : Valid) (present : List Bool) (firsts ns : List ℕ) → present ≡ valid_flags v (length zs) → ((cs : List Content) → AreKeysOf int_eq zs present cs → AreNumbered cs firsts ns) → AreNumbered (rows_of (numbers k zs v)) firsts ns
-numbers_numbered k zs v present firsts ns same h = h (rows_of (numbers k zs v)) (numbers_keyed k zs v present same)
 
 flags_equal : (a b : Bool) → beq a b ≡ eq_flag a b
 flags_equal true true = refl
@@ -76,12 +74,9 @@ flags_equal true false = refl
 flags_equal false true = refl
 flags_equal false false = refl
 
-bools_keyed : (bs : List Bool) (v : Valid) (present : List Bool) → present ≡ valid_flags v (length bs) → AreKeysOf beq bs present (rows_of (bools bs v))
+pub bools_keyed : (bs : List Bool) (v : Valid) (present : List Bool) → present ≡ valid_flags v (length bs) → AreKeysOf beq bs present (rows_of (bools bs v))
 bools_keyed bs v present same = rows_keyed beq bs present (bools bs v) v (λ i. boolean (get_or bs i false)) refl (λ i. refl) (λ i. refl) same
     (λ i j d l m p q. (λ t. beq (get_or_default bs i d false l t) (get_or_default bs j d false m t)) ∙ flags_equal (get_or bs i false) (get_or bs j false))
-
-pub bools_numbered : (bs keys : List Bool) (v : Valid) (present : List Bool) (firsts ns : List ℕ) → keys ≡ bs → present ≡ valid_flags v (length bs) → ((cs : List Content) → AreKeysOf beq keys present cs → AreNumbered cs firsts ns) → AreNumbered (rows_of (bools bs v)) firsts ns
-bools_numbered bs keys v present firsts ns e same h = h (rows_of (bools bs v)) (subst (λ ks. AreKeysOf beq ks present (rows_of (bools bs v))) (sym e) (bools_keyed bs v present same))
 
 pub naturals_keyed : (xs : List ℕ) (present : List Bool) (cs : List Content) → AreKeysOf int_eq (map pos xs) present cs → AreKeysOf nat_eq xs present cs
 naturals_keyed xs present cs h =
@@ -103,9 +98,6 @@ strings_equal : (s : Strings) (xs ys : List ℕ) → bytes_eq xs ys ≡ equal_co
 strings_equal texts xs ys = refl
 strings_equal byte_strings xs ys = refl
 
-abbrev key_eq : ByteKey → ByteKey → Bool
-key_eq x y = bytes_eq x.bytes.now y.bytes.now
-
 key_count : (keys : List ByteKey) (n : ℕ) (f : ℕ → List ℕ) → map (λ k. k.bytes.now) keys ≡ map f (range_with_len 0 n) → length keys ≡ n
 key_count keys n f e = sym (length-map keys (λ k. k.bytes.now)) ∙ ap length e ∙ length-map-range_with_len f 0 n
 
@@ -114,10 +106,10 @@ key_at keys n i f d e l =
     sym (get_or-map (λ k. k.bytes.now) keys i d [] (subst (λ m. i < m) (sym (key_count keys n f e)) l))
     ∙ ap (λ bs. get_or bs i []) e ∙ get_or-map-range_with_len f 0 n i i [] l (omega arith)
 
-strings_keyed : (s : Strings) (vs bs : List (List ℕ)) (v : Valid) (present : List Bool) (keys : List ByteKey) → present ≡ valid_flags v (length vs) → map (λ k. k.bytes.now) keys ≡ map (bytes_or_none vs bs present) (range_with_len 0 (length vs)) → AreKeysOf key_eq keys present (rows_of (strings s vs bs v))
+pub strings_keyed : (s : Strings) (vs bs : List (List ℕ)) (v : Valid) (present : List Bool) (keys : List ByteKey) → present ≡ valid_flags v (length vs) → map (λ k. k.bytes.now) keys ≡ map (bytes_or_none vs bs present) (range_with_len 0 (length vs)) → AreKeysOf same_bytes keys present (rows_of (strings s vs bs v))
 strings_keyed s vs bs v present keys same e =
     let many : length keys ≡ length vs = key_count keys (length vs) (bytes_or_none vs bs present) e in
-    rows_keyed key_eq keys present (strings s vs bs v) v (λ i. string_content s (value_of (get_or vs i []) bs)) (sym many) (λ i. refl) (λ i. string_there s (value_of (get_or vs i []) bs)) (subst (λ n. present ≡ valid_flags v n) (sym many) same)
+    rows_keyed same_bytes keys present (strings s vs bs v) v (λ i. string_content s (value_of (get_or vs i []) bs)) (sym many) (λ i. refl) (λ i. string_there s (value_of (get_or vs i []) bs)) (subst (λ n. present ≡ valid_flags v n) (sym many) same)
     (λ i j d l m p q.
     let x : i < length vs = subst (λ n. i < n) many l in
     let y : j < length vs = subst (λ n. j < n) many m in
@@ -125,9 +117,6 @@ strings_keyed s vs bs v present keys same e =
   where
     value : (i : ℕ) → i < length vs → (d : ByteKey) → is_valid v i ≡ true → (get_or keys i d).bytes.now ≡ value_of (get_or vs i []) bs
     value i l d p = key_at keys (length vs) i (bytes_or_none vs bs present) d e l ∙ ap (λ b. cond b (value_of (get_or vs i []) bs) []) (flag_at v (length vs) present i same l ∙ p)
-
-pub strings_numbered : (s : Strings) (vs bs : List (List ℕ)) (v : Valid) (present : List Bool) (keys : List ByteKey) (firsts ns : List ℕ) → present ≡ valid_flags v (length vs) → map (λ k. k.bytes.now) keys ≡ map (bytes_or_none vs bs present) (range_with_len 0 (length vs)) → ((cs : List Content) → AreKeysOf key_eq keys present cs → AreNumbered cs firsts ns) → AreNumbered (rows_of (strings s vs bs v)) firsts ns
-strings_numbered s vs bs v present keys firsts ns same e h = h (rows_of (strings s vs bs v)) (strings_keyed s vs bs v present keys same e)
 
 pub key_rows : (vs bs : List (List ℕ)) (v : Valid) (present : List Bool) (keys : List ByteKey) → present ≡ valid_flags v (length vs) → map (λ k. k.bytes.now) keys ≡ map (bytes_or_none vs bs present) (range_with_len 0 (length vs)) → length present ≡ length keys
 key_rows vs bs v present keys same e = flag_count v (length vs) present same ∙ sym (key_count keys (length vs) (bytes_or_none vs bs present) e)
@@ -163,7 +152,7 @@ pub ruleset flags = (all_true, all_required, all_false)
 pub items_numbered : (zs : List ℤ) (xs : List ℕ) (present : List Bool) (firsts ns : List ℕ) → zs ≡ map pos xs → ((cs : List Content) → AreKeysOf nat_eq xs present cs → AreNumbered cs firsts ns) → (cs : List Content) → AreKeysOf int_eq zs present cs → AreNumbered cs firsts ns
 items_numbered zs xs present firsts ns e h cs t = h cs (naturals_keyed xs present cs (subst (λ ys. AreKeysOf int_eq ys present cs) e t))
 
-pub ruleset keyed = (numbers_numbered, bools_numbered, strings_numbered, flag_count, key_rows, values_held)
+pub ruleset strings_there = (flag_count, values_held)
 
 -- ---- what a plain column says of nulls
 

@@ -1,9 +1,11 @@
 pub mod BuildLemmas
 pub mod CodeLemmas
 pub mod ColumnLemmas
+pub mod ConstantLemmas
 pub mod DistinctLemmas
 pub mod FirstLemmas
 pub mod KeyLemmas
+pub mod KeyedLemmas
 pub mod NumberLemmas
 pub mod NumberingLemmas
 pub mod ValueLemmas

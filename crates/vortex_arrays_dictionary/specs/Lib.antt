@@ -3,4 +3,5 @@ pub mod Columns
 pub mod Dictionary
 pub mod Distinct
 pub mod Firsts
+pub mod Keyed
 pub mod Numbering

@@ -8,8 +8,7 @@ ghost use Rattle.vortex_arrays_dictionary.specs.Dictionary.{IsDictionaryOf};
 ghost use Rattle.vortex_arrays_dictionary.specs.Columns.{is_plain_leaf, IsColumnNumbered, IsDictionaryFrom};
 
 use crate::codes::codes_of;
-use crate::firsts::Firsts;
-use crate::keyed::number_rows;
+use crate::firsts::{Firsts, number_rows};
 use crate::values::rows_at;
 use std::alloc::{AllocError, Global};
 use vortex_arrays_core::array::{ArrayLayout, ArrayRef, Validity};

@@ -1,12 +1,20 @@
 //! Rows numbered by where each distinct one stands first.
-ghost use Rattle.std.specs.Prelude.{◌≡◌, List, length, IfOk};
+ghost use Rattle.std.specs.Prelude.{◌≡◌, List, length, is_some, IfOk, IfSome};
 ghost use Rattle.std.specs.HashMap.{get};
+ghost use Rattle.std.specs.Ordering.{int_eq};
 ghost use Rattle.vortex_model.specs.Content.{Content};
+ghost use Rattle.vortex_arrays_model.specs.Layout.{rows_of};
+ghost use Rattle.vortex_arrays_buffer.specs.PrimitiveBuffers.{integers_of};
+ghost use Rattle.vortex_arrays_dictionary.specs.Columns.{is_plain_leaf};
 ghost use Rattle.vortex_arrays_dictionary.specs.Firsts.{AreKeysOf, AreNumbered, IsNumberedAt, IsNumberedWhere};
+ghost use Rattle.vortex_arrays_dictionary.specs.Keyed.{AreKeyed, AreAsMany};
 
+use crate::keyed::{KeyedRows, Keys, keyed_rows};
 use std::alloc::{AllocError, Global};
 use std::collections::HashMap;
 use std::hash::Hash;
+use vortex_arrays_buffer::primitive_buffer::PrimitiveBuffer;
+use vortex_arrays_core::array::ArrayRef;
 
 /// Where each distinct row stands first, and for each row the number of its place among these, 0
 /// for null.
@@ -16,9 +24,61 @@ pub(crate) struct Firsts {
     pub(crate) numbers: Vec<u64>,
 }
 
-/// Numbers the rows by their keys. One pass, by a map of the keys. A row that is not present is
-/// null.
-pub(crate) fn number_keys<K: Copy + Eq + Hash + Drop>(
+/// The rows of a plain column of truth values, integers, texts or bytes, numbered. `None` for any
+/// other column.
+#[tactic(auto, using(crate::proofs::KeyedLemmas::told))]
+pub(crate) fn number_rows(alloc: Global, array: &ArrayRef) -> Result<Option<Firsts>, AllocError>
+    ensures when { IfOk result (λ found. is_some found ≡ is_plain_leaf array.now) }
+    ensures numbered { IfOk result (λ found. IfSome found
+        (λ made. AreNumbered (rows_of array.now) made.places.items made.numbers.items)) }
+{
+    let Some(rows) = keyed_rows(alloc, array)? else {
+        return Ok(None);
+    };
+    let made = number_keyed(alloc, &rows)?;
+    Ok(Some(made))
+}
+
+// The rows numbered. What their keys are is matched once.
+fn number_keyed(alloc: Global, rows: &KeyedRows<'_>) -> Result<Firsts, AllocError>
+    requires { AreAsMany rows.now }
+    ensures { IfOk result (λ made. (cs : List Content) → AreKeyed rows.now cs
+        → AreNumbered cs made.places.items made.numbers.items) }
+{
+    let present = rows.present.as_slice();
+    match &rows.keys {
+        Keys::Truths(keys) => number_keys(alloc, keys.as_slice(), present),
+        Keys::Integers(items) => number_items(alloc, items, present),
+        Keys::Bytes(keys) => number_keys(alloc, keys.as_slice(), present),
+    }
+}
+
+// Rows whose keys are integers. Their kind is matched once.
+fn number_items(
+    alloc: Global,
+    items: &PrimitiveBuffer,
+    present: &[bool],
+) -> Result<Firsts, AllocError>
+    requires { length present.now ≡ length (integers_of items.now) }
+    ensures { IfOk result
+        (λ made. (cs : List Content) → AreKeysOf int_eq (integers_of items.now) present.now cs
+        → AreNumbered cs made.places.items made.numbers.items) }
+{
+    match items {
+        PrimitiveBuffer::U8(items) => number_keys(alloc, items.as_slice(), present),
+        PrimitiveBuffer::U16(items) => number_keys(alloc, items.as_slice(), present),
+        PrimitiveBuffer::U32(items) => number_keys(alloc, items.as_slice(), present),
+        PrimitiveBuffer::U64(items) => number_keys(alloc, items.as_slice(), present),
+        PrimitiveBuffer::I8(items) => number_keys(alloc, items.as_slice(), present),
+        PrimitiveBuffer::I16(items) => number_keys(alloc, items.as_slice(), present),
+        PrimitiveBuffer::I32(items) => number_keys(alloc, items.as_slice(), present),
+        PrimitiveBuffer::I64(items) => number_keys(alloc, items.as_slice(), present),
+    }
+}
+
+// Numbers the rows by their keys. One pass, by a map of the keys. A row that is not present is
+// null.
+fn number_keys<K: Copy + Eq + Hash + Drop>(
     alloc: Global,
     keys: &[K],
     present: &[bool],

@@ -1,17 +1,14 @@
-//! The rows of a column numbered by its items.
+//! The rows of a column, known by its items.
 ghost use Rattle.std.specs.Prelude.{◌≡◌, ◌<◌, ℕ, List, [], length, map, false, is_some, slice_index_or, IsTrue, IfOk, IfSome};
 ghost use Rattle.std.specs.List.{range_with_len};
-ghost use Rattle.std.specs.Ordering.{int_eq};
-ghost use Rattle.vortex_model.specs.Content.{Content};
 ghost use Rattle.vortex_arrays_view.specs.Views.{HasValue};
 ghost use Rattle.vortex_arrays_model.specs.Layout.{Strings, bools, numbers, strings, is_valid, by_array, rows_of, HasLength, len_of};
 ghost use Rattle.vortex_arrays_buffer.specs.PrimitiveBuffers.{kind_of_numbers, integers_of};
 ghost use Rattle.vortex_arrays_core.specs.LayoutOf.{valid_of};
-ghost use Rattle.vortex_arrays_dictionary.specs.Firsts.{AreKeysOf, AreNumbered};
 ghost use Rattle.vortex_arrays_dictionary.specs.Columns.{is_plain_leaf, valid_flags, bytes_or_none};
+ghost use Rattle.vortex_arrays_dictionary.specs.Keyed.{AreKeyed};
 
 use crate::byte_key::ByteKey;
-use crate::firsts::{Firsts, number_keys};
 use bytes::Bytes;
 use std::alloc::{AllocError, Global};
 use vortex_arrays_buffer::bit_buffer::BitBuffer;
@@ -19,99 +16,110 @@ use vortex_arrays_buffer::primitive_buffer::PrimitiveBuffer;
 use vortex_arrays_core::array::{ArrayLayout, ArrayRef, Validity};
 use vortex_arrays_view::view::BinaryView;
 
-/// The rows of a plain column of truth values, integers, texts or bytes, numbered. `None` for any
-/// other column.
-pub(crate) fn number_rows(alloc: Global, array: &ArrayRef) -> Result<Option<Firsts>, AllocError>
+/// A key for each row. Those of null rows mean nothing.
+pub(crate) enum Keys<'a> {
+    Truths(Vec<bool>),
+    Integers(&'a PrimitiveBuffer),
+    Bytes(Vec<ByteKey<'a>>),
+}
+
+impl<'a> Drop for Keys<'a> {
+    fn drop(self) {
+        match self {
+            Keys::Truths(_keys) => {}
+            Keys::Integers(_items) => {}
+            Keys::Bytes(_keys) => {}
+        }
+    }
+}
+
+/// Rows by their keys, and which of them are not null.
+#[derive(Drop)]
+pub(crate) struct KeyedRows<'a> {
+    pub(crate) keys: Keys<'a>,
+    pub(crate) present: Vec<bool>,
+}
+
+/// The rows of a plain column of truth values, integers, texts or bytes by their items. `None` for
+/// any other column.
+pub(crate) fn keyed_rows(
+    alloc: Global,
+    array: &ArrayRef,
+) -> Result<Option<KeyedRows<'_>>, AllocError>
     ensures when { IfOk result (λ found. is_some found ≡ is_plain_leaf array.now) }
-    ensures numbered { IfOk result (λ found. IfSome found
-        (λ made. AreNumbered (rows_of array.now) made.places.items made.numbers.items)) }
+    ensures keyed { IfOk result
+        (λ found. IfSome found (λ rows. AreKeyed rows (rows_of array.now))) }
 {
     match array.layout() {
         ArrayLayout::Bool(bits, validity) => {
-            let made = number_bools(alloc, bits, validity)?;
-            Ok(Some(made))
+            let rows = keyed_bools(alloc, bits, validity)?;
+            Ok(Some(rows))
         }
         ArrayLayout::Primitive(items, validity) => {
-            let made = number_integers(alloc, items, validity)?;
-            Ok(Some(made))
+            let rows = keyed_integers(alloc, items, validity)?;
+            Ok(Some(rows))
         }
         ArrayLayout::VarBinView(_, views, buffers, validity) => {
-            let made = number_strings(alloc, views.as_slice(), buffers.as_slice(), validity)?;
-            Ok(Some(made))
+            let rows = keyed_strings(alloc, views.as_slice(), buffers.as_slice(), validity)?;
+            Ok(Some(rows))
         }
         _ => Ok(None),
     }
 }
 
-#[tactic(auto, using(crate::proofs::ColumnLemmas::keyed))]
-fn number_bools(alloc: Global, bits: &BitBuffer, validity: &Validity) -> Result<Firsts, AllocError>
+fn keyed_bools<'a>(
+    alloc: Global,
+    bits: &'a BitBuffer,
+    validity: &'a Validity,
+) -> Result<KeyedRows<'a>, AllocError>
     requires { HasLength (valid_of validity.now) (length bits.now) }
-    ensures { IfOk result (λ made. AreNumbered (rows_of (bools bits.now (valid_of validity.now)))
-        made.places.items made.numbers.items) }
+    ensures { IfOk result
+        (λ rows. AreKeyed rows (rows_of (bools bits.now (valid_of validity.now)))) }
 {
     let present = present_rows(alloc, validity, bits.len())?;
-    let keys = bits.to_bools(alloc)?;
-    let made = number_keys(alloc, keys.as_slice(), present.as_slice())?;
-    Ok(made)
+    let truths = bits.to_bools(alloc)?;
+    Ok(KeyedRows {
+        keys: Keys::Truths(truths),
+        present,
+    })
 }
 
-#[tactic(auto, using(crate::proofs::ColumnLemmas::keyed))]
-fn number_integers(
+// The integers are keys as they are.
+fn keyed_integers<'a>(
     alloc: Global,
-    items: &PrimitiveBuffer,
-    validity: &Validity,
-) -> Result<Firsts, AllocError>
+    items: &'a PrimitiveBuffer,
+    validity: &'a Validity,
+) -> Result<KeyedRows<'a>, AllocError>
     requires { HasLength (valid_of validity.now) (length (integers_of items.now)) }
-    ensures { IfOk result (λ made. AreNumbered
-        (rows_of (numbers (kind_of_numbers items.now) (integers_of items.now)
-        (valid_of validity.now))) made.places.items made.numbers.items) }
+    ensures { IfOk result (λ rows. AreKeyed rows (rows_of (numbers (kind_of_numbers items.now)
+        (integers_of items.now) (valid_of validity.now)))) }
 {
     let present = present_rows(alloc, validity, items.len())?;
-    let made = number_items(alloc, items, present.as_slice())?;
-    Ok(made)
+    Ok(KeyedRows {
+        keys: Keys::Integers(items),
+        present,
+    })
 }
 
-// The integers are keys as they are. Their kind is matched once.
-fn number_items(
+#[tactic(auto, using(crate::proofs::ColumnLemmas::strings_there))]
+fn keyed_strings<'a>(
     alloc: Global,
-    items: &PrimitiveBuffer,
-    present: &[bool],
-) -> Result<Firsts, AllocError>
-    requires { length present.now ≡ length (integers_of items.now) }
-    ensures { IfOk result
-        (λ made. (cs : List Content) → AreKeysOf int_eq (integers_of items.now) present.now cs
-        → AreNumbered cs made.places.items made.numbers.items) }
-{
-    match items {
-        PrimitiveBuffer::U8(items) => number_keys(alloc, items.as_slice(), present),
-        PrimitiveBuffer::U16(items) => number_keys(alloc, items.as_slice(), present),
-        PrimitiveBuffer::U32(items) => number_keys(alloc, items.as_slice(), present),
-        PrimitiveBuffer::U64(items) => number_keys(alloc, items.as_slice(), present),
-        PrimitiveBuffer::I8(items) => number_keys(alloc, items.as_slice(), present),
-        PrimitiveBuffer::I16(items) => number_keys(alloc, items.as_slice(), present),
-        PrimitiveBuffer::I32(items) => number_keys(alloc, items.as_slice(), present),
-        PrimitiveBuffer::I64(items) => number_keys(alloc, items.as_slice(), present),
-    }
-}
-
-#[tactic(auto, using(crate::proofs::ColumnLemmas::keyed))]
-fn number_strings(
-    alloc: Global,
-    views: &[BinaryView],
-    buffers: &[Bytes],
-    validity: &Validity,
-) -> Result<Firsts, AllocError>
+    views: &'a [BinaryView],
+    buffers: &'a [Bytes],
+    validity: &'a Validity,
+) -> Result<KeyedRows<'a>, AllocError>
     requires values { (i : ℕ) → i < length views.now → IsTrue (is_valid (valid_of validity.now) i)
         → HasValue (slice_index_or views.now i []) buffers.now }
     requires fits { HasLength (valid_of validity.now) (length views.now) }
-    ensures { IfOk result (λ made. (s : Strings) → AreNumbered
-        (rows_of (strings s views.now buffers.now (valid_of validity.now)))
-        made.places.items made.numbers.items) }
+    ensures { IfOk result (λ rows. (s : Strings)
+        → AreKeyed rows (rows_of (strings s views.now buffers.now (valid_of validity.now)))) }
 {
     let present = present_rows(alloc, validity, views.len())?;
     let keys = byte_keys(alloc, views, buffers, present.as_slice())?;
-    let made = number_keys(alloc, keys.as_slice(), present.as_slice())?;
-    Ok(made)
+    Ok(KeyedRows {
+        keys: Keys::Bytes(keys),
+        present,
+    })
 }
 
 // The texts or bytes of the rows, where they lie. A null row has no bytes.

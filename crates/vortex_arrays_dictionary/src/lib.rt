@@ -4,6 +4,7 @@
 pub mod build;
 mod byte_key;
 mod codes;
+pub mod constant;
 pub mod encode;
 mod firsts;
 mod keyed;

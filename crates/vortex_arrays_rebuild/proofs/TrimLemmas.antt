@@ -102,13 +102,6 @@ between_sound e o s f v r q from to h b p w = (
       omega (arith, h.8 u i after, ap number_in (w.moved i here), ap number_in (w.moved (suc i) after), low)),
 )
 
-first_at_most : (n : ℕ) (o z : Content) → IsView n o z → IsAtMost n o
-first_at_most n (integer (pos i)) (integer (pos s)) h = omega arith
-first_at_most n o z h = absurd h
-
-pub offsets_at_most : (e o s : Layout) (f : Bool) (v : Valid) → IsSound (list_views e o s f v) → AreAtMost (len_of e) o
-offsets_at_most e o s f v h = λ i l. first_at_most (len_of e) (content_at o i) (content_at s i) (h.7 i l)
-
 pub tested_in : (k : IntKind) (z : ℤ) → InRange k z → in_range k z ≡ true
 tested_in k z h = let p = h.from in let q = h.to in grind (arith, ints, p, q)
 

@@ -12,7 +12,8 @@ use Rattle.vortex_model.specs.Valid.{valid, all_have, fields_have}
 use Rattle.vortex_scalar_ops.specs.Equality.{eq_content, eq_contents, holds_variant, hold_variants}
 use Rattle.vortex_scalar_value.specs.View.{raw_at, content_at}
 use Rattle.vortex_scalar_value.specs.declared.scalar_value.ScalarValue.{ScalarValue}
-use Rattle.vortex_arrays_model.specs.Layout.{Layout, constant, array_type_of, rows_of}
+use Rattle.vortex_arrays_model.specs.Layout.{Layout, constant, len_of, array_type_of, content_at as row_content, rows_of}
+use Rattle.vortex_arrays_model.proofs.RowsLemmas.{row_at_position, row_count}
 use Rattle.vortex_arrays_builder.specs.Fits.{fits_constant}
 use Rattle.vortex_arrays_builder.specs.Types.{HasPlain, HavePlain}
 use Rattle.vortex_table_layout.specs.Hinted.{IsConstant}
@@ -114,5 +115,26 @@ constant_made k r n a e = subst IsConstant (sym e) tt
 pub first_valid : (k : LogicalType) (vs : List Value) (v : Value) → All (λ value. valid k (raw_at value) ≡ true) vs → 0 < length vs → v ≡ get_or vs 0 v → valid k (raw_at v) ≡ true
 first_valid k [] v h l e = absurd (omega arith)
 first_valid k (w ∷ vs) v h l e = subst (λ x. valid k (raw_at x) ≡ true) (sym e) (h 0 w (omega arith))
+
+-- ---- the first row of a column, for each of its rows
+
+pub rows_there : (a : Layout) → fits_constant (rows_of a) ≡ true → 0 < len_of a
+rows_there a h = subst (λ n. 0 < n) (row_count a) (some_rows (rows_of a) h)
+  where
+    some_rows : (cs : List Content) → fits_constant cs ≡ true → 0 < length cs
+    some_rows [] h = absurd (cc h)
+    some_rows (c ∷ cs) h = omega arith
+
+all_first : (cs : List Content) (c : Content) → fits_constant cs ≡ true → c ≡ get_or cs 0 c → holds_variant c ≡ false → replicate (length cs) c ≡ cs
+all_first [] c h e v = refl
+all_first (d ∷ cs) c h e v =
+    (λ i. replicate (length (d ∷ cs)) (e i)) ∙ ap (λ xs. d ∷ xs) (equal_rows d cs (subst (λ x. holds_variant x ≡ false) e v) h)
+
+pub first_everywhere : (a b : Layout) (r : Raw) (n : ℕ) → HasPlain (array_type_of a) → fits_constant (rows_of a) ≡ true → content_of r ≡ row_content a 0 → valid (array_type_of a) r ≡ true → n ≡ len_of a → rows_of b ≡ replicate n (content_of r) → rows_of b ≡ rows_of a
+first_everywhere a b r n p h e v m made =
+    made ∙ (λ i. replicate ((m ∙ sym (row_count a)) i) (content_of r))
+    ∙ all_first (rows_of a) (content_of r) h (e ∙ sym (row_at_position a 0 (content_of r) (rows_there a h))) (plain_value (array_type_of a) r p v)
+
+pub ruleset repeated = (rows_there, first_everywhere, constant_kind, constant_made)
 
 pub ruleset equal = (equal_first, equal_all, constant_kind, constant_made, first_valid)

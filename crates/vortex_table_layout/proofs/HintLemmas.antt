@@ -254,7 +254,15 @@ constant_fits a b cs e f c = subst (λ t. IsConstantOr t a b) (sym f ∙ ap fits
 pub constant_unfit : (a b : Layout) (cs : List Content) → cs ≡ rows_of a → fits_constant cs ≡ false → b ≡ a → IsHinted hints.Constant a b
 constant_unfit a b cs e f c = subst (λ t. IsConstantOr t a b) (sym f ∙ ap fits_constant e) c
 
-pub ruleset constants = (column_rows, column_valid, constant_fits, constant_unfit)
+pub ruleset constants_of_values = (column_rows, column_valid, constant_fits, constant_unfit)
+
+pub constant_told : (a b : Layout) (f : Bool) → f ≡ fits_constant (rows_of a) → f ≡ true → IsConstant b → IsHinted hints.Constant a b
+constant_told a b f e t c = constant_fits a b (rows_of a) refl (sym e ∙ t) c
+
+pub unfit_told : (a b : Layout) (f : Bool) → f ≡ fits_constant (rows_of a) → f ≡ false → b ≡ a → IsHinted hints.Constant a b
+unfit_told a b f e t c = constant_unfit a b (rows_of a) refl (sym e ∙ t) c
+
+pub ruleset constants = (constant_told, unfit_told)
 
 pub dictionary_fits : (a b : Layout) → fits_dictionary (array_type_of a) (rows_of a) ≡ true → IsDictionaryOf (rows_of a) b → IsHinted hints.Dictionary a b
 dictionary_fits a b f d = subst (λ t. IsDictionaryOr t a b) (sym f) (inl d)

@@ -4,10 +4,10 @@ ghost use Rattle.vortex_model.specs.Kept.{type_fault};
 ghost use Rattle.vortex_scalar_value.specs.View.{raw_in, raw_at};
 ghost use Rattle.vortex_arrays_model.specs.Layout.{array_type_of, fields_of, rows_of, HaveLength};
 ghost use Rattle.vortex_arrays_model.specs.Parts.{columns_of};
-ghost use Rattle.vortex_arrays_builder.specs.Fits.{fits_dictionary};
+ghost use Rattle.vortex_arrays_builder.specs.Fits.{fits_constant, fits_dictionary};
 ghost use Rattle.vortex_arrays_builder.specs.Types.{HasPlain, HavePlain};
 ghost use Rattle.vortex_table_schema.specs.declared.layout.Layout.TheVariants.{Dictionary, Constant};
-ghost use Rattle.vortex_table_layout.specs.Hinted.{HasHintedColumns};
+ghost use Rattle.vortex_table_layout.specs.Hinted.{HasHintedColumns, IsConstant};
 ghost use Rattle.vortex_table_layout.specs.HintedAnew.{
   AreColumnsFrom,
   IsArrayFrom,
@@ -21,9 +21,12 @@ use crate::fits::fits_dictionary;
 use crate::lay_out::{constant_of, hint_at};
 use crate::rows::row_values;
 use std::alloc::{AllocError, Global};
+use vortex_arrays_builder::constant::build_constant;
 use vortex_arrays_builder::fits::fits_constant;
+use vortex_arrays_builder::rows::row_value;
 use vortex_arrays_core::array::{ArrayLayout, ArrayRef};
 use vortex_arrays_dictionary::build::build_dictionary;
+use vortex_arrays_dictionary::constant::is_constant;
 use vortex_arrays_dictionary::encode::dict_encode;
 use vortex_arrays_view::error::ArrayError;
 use vortex_dtype_ptype::field_names::FieldNames;
@@ -124,6 +127,35 @@ fn hint_by(alloc: Global, column: &ArrayRef, hint: Layout) -> Result<ArrayRef, A
 
 #[tactic(auto, using(crate::proofs::HintLemmas::constants))]
 fn constant_or_same(alloc: Global, column: &ArrayRef) -> Result<ArrayRef, AllocError>
+    requires plain { HasPlain (array_type_of column.now) }
+    ensures dtype { IfOk result (λ hinted. array_type_of hinted ≡ array_type_of column.now) }
+    ensures rows { IfOk result (λ hinted. rows_of hinted ≡ rows_of column.now) }
+    ensures layout { IfOk result (λ hinted. IsHinted Constant column.now hinted) }
+{
+    match is_constant(alloc, column)? {
+        Some(true) => first_repeated(alloc, column),
+        Some(false) => Ok(column.clone()?),
+        None => constant_of_values(alloc, column),
+    }
+}
+
+// The first row of a column whose rows are all equal, as many times as there are rows.
+#[tactic(auto, using(crate::proofs::ConstantLemmas::repeated))]
+fn first_repeated(alloc: Global, column: &ArrayRef) -> Result<ArrayRef, AllocError>
+    requires plain { HasPlain (array_type_of column.now) }
+    requires equal { fits_constant (rows_of column.now) ≡ true }
+    ensures dtype { IfOk result (λ hinted. array_type_of hinted ≡ array_type_of column.now) }
+    ensures rows { IfOk result (λ hinted. rows_of hinted ≡ rows_of column.now) }
+    ensures layout { IfOk result (λ hinted. IsConstant hinted) }
+{
+    let first = row_value(alloc, column, 0)?;
+    let hinted = build_constant(alloc, column.dtype(), first.as_ref(), column.len())?;
+    Ok(hinted)
+}
+
+// A constant where all rows are equal, by a value of each, for a column that isn't laid out plain.
+#[tactic(auto, using(crate::proofs::HintLemmas::constants_of_values))]
+fn constant_of_values(alloc: Global, column: &ArrayRef) -> Result<ArrayRef, AllocError>
     requires plain { HasPlain (array_type_of column.now) }
     ensures dtype { IfOk result (λ hinted. array_type_of hinted ≡ array_type_of column.now) }
     ensures rows { IfOk result (λ hinted. rows_of hinted ≡ rows_of column.now) }

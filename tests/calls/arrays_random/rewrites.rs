@@ -9,7 +9,7 @@ use std::alloc::Global;
 use vortex_arrays::{
     ArrayRef, PrimitiveArray, PrimitiveArrayExt, VarBinViewArray, VarBinViewArrayExt,
     build_constant, build_dictionary, build_plain, cast_array, dict_encode, fits_constant,
-    fits_dictionary,
+    fits_dictionary, is_constant,
 };
 use vortex_dtype::{DType, DTypeError, Nullability, PType};
 use vortex_scalar::ScalarValue;
@@ -72,8 +72,11 @@ pub fn build(
         _ => answered(build_plain(alloc, dtype, values))?,
     };
     checks.holds_at("build, its type", number, *built.dtype() == *dtype);
-    let same = is_constant(&rows) == fits_constant(values);
+    let same = are_equal(&rows) == fits_constant(values);
     checks.holds_at("fits_constant", number, same);
+    if let Some(equal) = is_constant(alloc, &array)? {
+        checks.holds_at("is_constant", number, equal == are_equal(&rows));
+    }
     let rows = copied(alloc, &rows)?;
     let column = Column { array: built, rows };
     checks.holds_at("build", number, column.has_its_rows(alloc)?);
@@ -94,7 +97,7 @@ fn read_rows(alloc: Global, array: &ArrayRef) -> Result<Vec<Value>, DTypeError> 
     Ok(rows)
 }
 
-fn is_constant(rows: &[Value]) -> bool {
+fn are_equal(rows: &[Value]) -> bool {
     !rows.is_empty() && rows.iter().all(|row| is_equal(row.as_ref(), rows[0].as_ref()))
 }
 

@@ -2,7 +2,7 @@ use Rattle.std.proofs.Common.{pos, map, sym, ap, ◌∙◌}
 use Rattle.std.proofs.lemmas.Result.{IfOk-weaker}
 use Rattle.vortex_arrays_buffer.specs.PrimitiveBuffers.{integers_of}
 use Rattle.vortex_arrays_dictionary.proofs.ColumnLemmas.{items_numbered}
-use Rattle.vortex_arrays_dictionary.proofs.keyed.number_items.Goals as goal
+use Rattle.vortex_arrays_dictionary.proofs.firsts.number_items.Goals as goal
 
 pub returns-in-U8 : goal.returns-in-U8
 returns-in-U8 c =

@@ -5,7 +5,7 @@ use Rattle.vortex_model.specs.Valid.{valid}
 use Rattle.vortex_scalar_value.specs.View.{raw_in, raw_at}
 use Rattle.vortex_arrays_model.specs.Layout.{array_type_of}
 use Rattle.vortex_table_layout.proofs.HintLemmas.{column_valid}
-use Rattle.vortex_table_layout.proofs.hint.constant_or_same.Goals as goal
+use Rattle.vortex_table_layout.proofs.hint.constant_of_values.Goals as goal
 
 pub constant_of-requires-clause-valid : goal.constant_of-requires-clause-valid
 constant_of-requires-clause-valid c =
