@@ -1,16 +1,15 @@
 -- Values that are gathered from lists and records.
-use Rattle.std.proofs.Common.{◌≡◌, ◌<◌, ◌+◌, ℕ, zero, suc, List, [], ◌∷◌, ◌++◌, length, map, take, get_or, replicate, Option, Some, None, Bor, false, refl, sym, ap, subst, ◌∙◌, append_assoc, arith, ◌⊎◌, inl, inr, ⊎_elim}
+use Rattle.std.proofs.Common.{◌≡◌, ◌<◌, ◌≤◌, ◌+◌, ℕ, zero, suc, List, [], ◌∷◌, ◌++◌, length, map, take, get_or, set, replicate, Option, Some, None, Bor, false, refl, sym, ap, subst, ◌∙◌, append_assoc, arith, ◌⊎◌, inl, inr, ⊎_elim}
 use Rattle.std.specs.List.{flat_map}
 use Rattle.std.proofs.lemmas.Bool.{cases_eq}
-use Rattle.std.proofs.lemmas.List.{append-nil, length-append, length-map, map-append, take_more, get_or_append_left, get_or_push, take-append-le, take_at}
+use Rattle.std.proofs.lemmas.List.{append-nil, length-append, length-map, map-append, take_more, get_or_append_left, get_or_push, take-append-le, take_at, take_all, take_more_set, length-set}
 use Rattle.std.proofs.lemmas.List.Concat.{flat_map-append}
 use Rattle.vortex_model.specs.Content.{content_of, is_null, Raw, raw_null, raw_tuple}
-use Rattle.vortex_scalar_value.specs.Parts.{items_in, raw_part}
+use Rattle.vortex_scalar_value.specs.Parts.{items_in}
 use Rattle.vortex_scalar_value.specs.View.{raw_of, raw_at, raw_in, raws_in}
 use Rattle.vortex_scalar_value.specs.declared.scalar_value.ScalarValue.{ScalarValue}
 use Rattle.vortex_scalar_value.proofs.Nulls.{is_null-raw_of}
 use Rattle.vortex_arrays_builder.specs.Items.{raws_listed, raw_items, fixed_items, StandEndToEnd}
-use Rattle.vortex_arrays_builder.specs.Plain.{parts_at}
 
 abbrev Value : Type 0
 Value = Option (Bor ScalarValue)
@@ -41,11 +40,6 @@ flat_push f rs r = flat_map-append f rs (r ∷ []) ∙ ap (λ xs. flat_map f rs 
 
 pub flat_more : (f : Raw → List Raw) (vs : List Value) (i : ℕ) (v : Value) (old new : List Raw) → old ≡ flat_map f (map raw_at (take i vs)) → i < length vs → v ≡ get_or vs i v → new ≡ old ++ f (raw_at v) → new ≡ flat_map f (map raw_at (take (i + 1) vs))
 flat_more f vs i v old new h l e n = n ∙ ap (λ xs. xs ++ f (raw_at v)) h ∙ sym (flat_push f (map raw_at (take i vs)) (raw_at v)) ∙ ap (flat_map f) (sym (taken vs i v l e))
-
-pub parts_more : (at : ℕ) (vs : List Value) (i : ℕ) (v w : Value) (out : List Value) → map raw_at out ≡ parts_at at (map raw_at (take i vs)) → i < length vs → v ≡ get_or vs i v → raw_at w ≡ raw_part (raw_at v) at → map raw_at (out ++ w ∷ []) ≡ parts_at at (map raw_at (take (i + 1) vs))
-parts_more at vs i v w out h l e p =
-    map-append raw_at out (w ∷ []) ∙ (λ j. h j ++ p j ∷ [])
-    ∙ sym (ap (parts_at at) (taken vs i v l e) ∙ map-append (λ r. raw_part r at) (map raw_at (take i vs)) (raw_at v ∷ []))
 
 replicate_push : (k : ℕ) → replicate k raw_null ++ raw_null ∷ [] ≡ replicate (k + 1) raw_null
 replicate_push zero = refl
@@ -89,17 +83,36 @@ one_more_stands rs os ss r o s h p q =
       size = λ i l. ⊎_elim (size_before i) (size_last i) (last_or_before i (length rs) (omega (arith, l, length-append rs (r ∷ []))));
     }
 
--- The values so far, with their items, and one value more.
-pub stands_more : (vs : List Value) (i : ℕ) (v : Value) (os ss : List ℕ) (items : List Value) (o s : ℕ) (list : List (Option ScalarValue)) → StandEndToEnd (map raw_at (take i vs)) os ss → map raw_at items ≡ flat_map raw_items (map raw_at (take i vs)) → i < length vs → v ≡ get_or vs i v → o ≡ length items → map raw_in list ≡ raw_items (raw_at v) → s ≡ length list → StandEndToEnd (map raw_at (take (i + 1) vs)) (os ++ o ∷ []) (ss ++ s ∷ [])
-stands_more vs i v os ss items o s list h t l e p m q =
-    subst (λ rs. StandEndToEnd rs (os ++ o ∷ []) (ss ++ s ∷ [])) (sym (taken vs i v l e))
-    (one_more_stands (map raw_at (take i vs)) os ss (raw_at v) o s h (p ∙ sym (length-map items raw_at) ∙ ap length t) (q ∙ sym (length-map list raw_in) ∙ ap length m))
+-- The first i values stand end to end, and there is room for the offsets and the sizes of all.
+pub record FirstStand (vs : List Value) (i : ℕ) (os ss : List ℕ) : Type 0 where
+  pub many_offsets : length os ≡ length vs
+  pub many_sizes : length ss ≡ length vs
+  pub stand : StandEndToEnd (map raw_at (take i vs)) (take i os) (take i ss)
 
-pub ruleset lists = (none_stand, stands_more, flat_more)
+pub first_none : (vs : List Value) (os ss : List ℕ) → length os ≡ length vs → length ss ≡ length vs → FirstStand vs 0 os ss
+first_none vs os ss p q = record { many_offsets = p; many_sizes = q; stand = none_stand }
+
+-- The values so far, with their items, and one value more.
+pub first_more : (vs : List Value) (i : ℕ) (v : Value) (os ss : List ℕ) (items : List Value) (o s : ℕ) (list : List (Option ScalarValue)) → FirstStand vs i os ss → map raw_at items ≡ flat_map raw_items (map raw_at (take i vs)) → i < length vs → v ≡ get_or vs i v → o ≡ length items → map raw_in list ≡ raw_items (raw_at v) → s ≡ length list → FirstStand vs (i + 1) (set os i o) (set ss i s)
+first_more vs i v os ss items o s list h t l e p m q =
+    let more = one_more_stands (map raw_at (take i vs)) (take i os) (take i ss) (raw_at v) o s h.stand (p ∙ sym (length-map items raw_at) ∙ ap length t) (q ∙ sym (length-map list raw_in) ∙ ap length m) in
+    let offsets = take_more_set os i o (subst (λ n. i < n) (sym h.many_offsets) l) in
+    let sizes = take_more_set ss i s (subst (λ n. i < n) (sym h.many_sizes) l) in
+    record {
+      many_offsets = length-set os i o ∙ h.many_offsets;
+      many_sizes = length-set ss i s ∙ h.many_sizes;
+      stand = rw (taken vs i v l e, offsets, sizes) more;
+    }
+
+pub first_all : (vs : List Value) (i : ℕ) (os ss : List ℕ) → length vs ≤ i → FirstStand vs i os ss → StandEndToEnd (map raw_at vs) os ss
+first_all vs i os ss l h =
+    subst (λ ys. StandEndToEnd (map raw_at vs) os ys) (take_all i ss (subst (λ n. n ≤ i) (sym h.many_sizes) l))
+    (subst (λ ys. StandEndToEnd (map raw_at vs) ys (take i ss)) (take_all i os (subst (λ n. n ≤ i) (sym h.many_offsets) l))
+    (subst (λ ys. StandEndToEnd (map raw_at ys) (take i os) (take i ss)) (take_all i vs l) h.stand))
+
+pub ruleset lists = (first_none, first_all, flat_more)
 
 pub ruleset fixed = (flat_more)
-
-pub ruleset columns = (parts_more)
 
 -- a value is never null
 present : (m : ℕ) (r : Raw) → is_null (content_of r) ≡ false → raw_items r ≡ fixed_items m r

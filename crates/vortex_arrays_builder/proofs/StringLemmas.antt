@@ -4,7 +4,7 @@ use Rattle.std.specs.List.{flat_map, sum, All}
 use Rattle.std.specs.Int.{IsNonNegative}
 use Rattle.std.proofs.lemmas.Bool.{le-leb, cases_eq}
 use Rattle.std.proofs.lemmas.Bool.Decides.{leb_tells}
-use Rattle.std.proofs.lemmas.List.{append-nil, length-map, map-append, get_or-map, take_at, length-set, get_or-set_same, get_or-set_other}
+use Rattle.std.proofs.lemmas.List.{append-nil, length-map, get_or-map, take_at, length-set, get_or-set_same, get_or-set_other}
 use Rattle.std.proofs.lemmas.List.Concat.{flat_map-append, length-flat_map}
 use Rattle.std.proofs.lemmas.List.Elements.{All-nil, All-cons}
 use Rattle.std.proofs.lemmas.List.Sums.{sum-map, sum_by-cons}
@@ -38,13 +38,6 @@ pub bytes_more : (vs : List Value) (i : ℕ) (v : Value) (old new piece : List �
 bytes_more vs i v old new piece h l e p n =
     n ∙ (λ j. h j ++ p j)
     ∙ sym (ap (flat_map buffered) (taken vs i v l e) ∙ flat_map-append buffered (map raw_at (take i vs)) (raw_at v ∷ []) ∙ ap (λ xs. flat_map buffered (map raw_at (take i vs)) ++ xs) (append-nil (buffered (raw_at v))))
-
-pub lengths_more : (vs : List Value) (i : ℕ) (v : Value) (old new piece : List ℕ) (n : ℕ) → old ≡ map buffered_len (map raw_at (take i vs)) → i < length vs → v ≡ get_or vs i v → piece ≡ buffered (raw_at v) → n ≡ length piece → new ≡ old ++ n ∷ [] → new ≡ map buffered_len (map raw_at (take (i + 1) vs))
-lengths_more vs i v old new piece n h l e p m f =
-    f ∙ (λ j. h j ++ (m ∙ ap length p) j ∷ [])
-    ∙ sym (ap (map buffered_len) (taken vs i v l e) ∙ map-append buffered_len (map raw_at (take i vs)) (raw_at v ∷ []))
-
-pub ruleset gathered = (bytes_more, lengths_more)
 
 -- ---- the values that were cut
 

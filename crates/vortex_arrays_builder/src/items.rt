@@ -29,13 +29,13 @@ pub(crate) fn end_to_end<'a>(
     ensures items { IfOk result
         (λ lists. map raw_at lists.items.items ≡ flat_map raw_items (map raw_at values.now)) }
 {
-    let mut offsets = Vec::with_capacity(alloc, values.len())?;
-    let mut sizes = Vec::with_capacity(alloc, values.len())?;
+    let mut offsets = vec![in alloc; 0; values.len()]?;
+    let mut sizes = vec![in alloc; 0; values.len()]?;
     let mut items = Vec::new(alloc);
-    for value in values {
-        let list = list_of(*value);
-        offsets.push(items.len() as u64)?;
-        sizes.push(list.len() as u64)?;
+    for i in 0..values.len() {
+        let list = list_of(values[i]);
+        offsets[i] = items.len() as u64;
+        sizes[i] = list.len() as u64;
         push_items(&mut items, list)?;
     }
     Ok(Lists {
@@ -63,7 +63,6 @@ pub(crate) fn fixed_end_to_end<'a>(
 }
 
 /// What records have at an index, null where the record is.
-#[tactic(auto, using(crate::proofs::ItemLemmas::columns))]
 pub(crate) fn column_of<'a>(
     alloc: Global,
     values: &[Option<&'a ScalarValue>],
@@ -72,11 +71,10 @@ pub(crate) fn column_of<'a>(
     ensures { IfOk result
         (λ column. map raw_at column.items ≡ parts_at index (map raw_at values.now)) }
 {
-    let mut column = Vec::with_capacity(alloc, values.len())?;
-    for value in values {
-        column.push(part_of(*value, index))?;
-    }
-    Ok(column)
+    values
+        .iter()
+        .map(|value| part_of(*value, index))
+        .collect(alloc)
 }
 
 // What a record has at an index, and null of null.

@@ -66,7 +66,7 @@ fn views_of(
 }
 
 /// The bytes of the values that no view has room for, end to end, and how many each value has.
-#[tactic(auto, using(crate::proofs::StringLemmas::gathered))]
+#[tactic(auto, using(crate::proofs::StringLemmas::bytes_more))]
 fn long_values(
     alloc: Global,
     values: &[Option<&ScalarValue>],
@@ -76,14 +76,23 @@ fn long_values(
     ensures lengths { IfOk result
         (λ made. made.1.items ≡ map buffered_len (map raw_at values.now)) }
 {
+    let lengths = long_lengths(alloc, values)?;
     let mut bytes = Vec::new(alloc);
-    let mut lengths = Vec::with_capacity(alloc, values.len())?;
     for value in values {
         let value = buffered_bytes(*value);
-        lengths.push(value.len() as u64)?;
         bytes.extend_from_slice(value)?;
     }
     Ok((bytes, lengths))
+}
+
+/// How many bytes each value has that no view has room for.
+fn long_lengths(alloc: Global, values: &[Option<&ScalarValue>]) -> Result<Vec<u64>, AllocError>
+    ensures { IfOk result (λ lengths. lengths.items ≡ map buffered_len (map raw_at values.now)) }
+{
+    values
+        .iter()
+        .map(|value| buffered_bytes(*value).len() as u64)
+        .collect(alloc)
 }
 
 /// Puts each value of at most twelve bytes in its view.

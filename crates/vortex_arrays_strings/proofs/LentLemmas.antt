@@ -1,10 +1,15 @@
 -- Bytes that are lent one after the other.
-use Rattle.std.proofs.Common.{◌≡◌, ◌<◌, ◌+◌, ◌∙◌, ℕ, List, [], ◌∷◌, ◌++◌, length, map, take, get_or, Option, Some, option_map, Bor, refl, sym, ap, subst}
+use Rattle.std.proofs.Common.{◌≡◌, ℕ, List, [], ◌∷◌, map, Option, Result, Ok, Err, IfOk, Vec, Bor, sym, subst}
+use Rattle.std.specs.Fn.{Called}
+use Rattle.std.specs.Iterator.{Yields}
+use Rattle.std.specs.Iterator.Adapters.{map_callee}
 use Rattle.std.specs.List.{All}
-use Rattle.std.proofs.lemmas.List.{map-append, take_more}
-use Rattle.std.proofs.lemmas.List.Elements.{All-nil, All-push}
-use Rattle.vortex_arrays_model.specs.Layout.{Strings}
-use Rattle.vortex_arrays_strings.specs.Values.{lent, IsHeld, IsPresent}
+use Rattle.std.specs.Vec.{vec_items}
+use Rattle.std.specs.declared.iter.Map.{Map}
+use denote.Param.Members.{Mut}
+use Rattle.std.proofs.lemmas.Iterator.{IsCollectResult, maps}
+use Rattle.std.proofs.lemmas.List.Elements.{All-nil, All-cons, All-map}
+use Rattle.vortex_arrays_strings.specs.Values.{lent}
 
 abbrev Value : Type 0
 Value = Option (List ℕ)
@@ -12,32 +17,15 @@ Value = Option (List ℕ)
 abbrev Lent : Type 0
 Lent = Option (Bor (List ℕ))
 
--- one value more
-pub values_more : {X : Type 0} (f : X → Value) (xs : List X) (i : ℕ) (x : X) (out : List Lent) (v : Lent) → map lent out ≡ map f (take i xs) → i < length xs → x ≡ get_or xs i x → lent v ≡ f x → map lent (out ++ v ∷ []) ≡ map f (take (i + 1) xs)
-values_more f xs i x out v h l e p =
-    map-append lent out (v ∷ []) ∙ (λ j. h j ++ p j ∷ [])
-    ∙ sym (ap (map f) (take_more xs i x l ∙ ap (λ y. take i xs ++ y ∷ []) (sym e)) ∙ map-append f (take i xs) (x ∷ []))
+-- what holds of each result of a closure holds of all that it gives
+module _ {S A F R : Type 0} (steps : S → Option A → S → Type 0) (g : Mut F (A × Unit {0}) R) (P : R → Type 0) (f : F) (called : (x : A) (r : R) (q : F) → Called g f (x, tt) r q → (q ≡ f) × P r) where
+  all_given : (rs : List R) (s t : Map S F) → map_callee s ≡ f → Yields (maps steps g) s rs t → All P rs
+  all_given [] s t a y = All-nil P
+  all_given (r ∷ rs) s t a y =
+      let m = called y.1.0 r (map_callee y.0) (subst (λ w. Called g w (y.1.0, tt) r (map_callee y.0)) a y.1.2) in
+      All-cons P r rs m.1 (all_given rs y.0 t m.0 y.2)
 
-pub there_more : {X : Type 0} (f : X → List ℕ) (xs : List X) (i : ℕ) (x : X) (out : List Lent) (v : Lent) → map lent out ≡ map (option_map f) (map Some (take i xs)) → i < length xs → x ≡ get_or xs i x → lent v ≡ Some (f x) → map lent (out ++ v ∷ []) ≡ map (option_map f) (map Some (take (i + 1) xs))
-there_more f xs i x out v h l e p =
-    map-append lent out (v ∷ []) ∙ (λ j. h j ++ p j ∷ [])
-    ∙ sym (ap (λ ys. map (option_map f) (map Some ys)) (take_more xs i x l ∙ ap (λ y. take i xs ++ y ∷ []) (sym e))
-    ∙ ap (map (option_map f)) (map-append Some (take i xs) (x ∷ []))
-    ∙ map-append (option_map f) (map Some (take i xs)) (Some x ∷ []))
-
-pushed_all : (P : Value → Type 0) (out : List Lent) (v : Lent) → All P (map lent out) → P (lent v) → All P (map lent (out ++ v ∷ []))
-pushed_all P out v h p = subst (All P) (sym (map-append lent out (v ∷ []))) (All-push P (map lent out) (lent v) h p)
-
-pub held_pushed : (s : Strings) (out : List Lent) (v : Lent) → All (IsHeld s) (map lent out) → IsHeld s (lent v) → All (IsHeld s) (map lent (out ++ v ∷ []))
-held_pushed s = pushed_all (IsHeld s)
-
-pub present_pushed : (out : List Lent) (v : Lent) → All IsPresent (map lent out) → IsPresent (lent v) → All IsPresent (map lent (out ++ v ∷ []))
-present_pushed = pushed_all IsPresent
-
-pub held_none : (s : Strings) → All (IsHeld s) (map lent [])
-held_none s = All-nil (IsHeld s)
-
-pub present_none : All IsPresent (map lent [])
-present_none = All-nil IsPresent
-
-pub ruleset pushed = (values_more, there_more, held_pushed, present_pushed, held_none, present_none)
+pub all_lent : {S A F Z E : Type 0} (steps : S → Option A → S → Type 0) (s : Map S F) {g : Mut F (A × Unit {0}) Lent} (P : Value → Type 0) {f : F} (r : Result (Vec Lent Z) E) → IsCollectResult (maps steps g) s r → map_callee s ≡ f → ((x : A) (r : Lent) (q : F) → Called g f (x, tt) r q → (q ≡ f) × P (lent r)) → IfOk r (λ w. All P (map lent (vec_items w)))
+all_lent {S} {A} {F} {Z} {E} steps s {g} P {f} (Ok w) d a k =
+    subst (λ rs. All P (map lent rs)) (sym d.2.0) (All-map P lent d.0 (all_given steps g (λ r. P (lent r)) f k d.0 s d.1.0 a d.1.1))
+all_lent steps s P (Err x) d a k = tt

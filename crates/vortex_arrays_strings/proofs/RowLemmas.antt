@@ -1,8 +1,7 @@
 -- Rows of texts and of bytes.
-use Rattle.std.proofs.Common.{IsTrue, ◌≡◌, ◌<◌, ◌≤◌, ◌+◌, ℕ, Bool, true, false, not, cond, List, [], ◌∷◌, ◌++◌, length, map, take, get_or, is_some, Option, Some, None, Bor, refl, sym, ap, subst, ◌∙◌, arith}
-use Rattle.std.specs.List.{All, range_with_len}
+use Rattle.std.proofs.Common.{IsTrue, ◌≡◌, ◌<◌, ◌≤◌, ◌+◌, ℕ, Bool, true, false, not, cond, List, [], ◌∷◌, ◌++◌, length, map, take, get_or, is_some, Option, Some, None, Bor, refl, sym, ap, subst, ◌∙◌}
+use Rattle.std.specs.List.{All}
 use Rattle.std.proofs.lemmas.List.{ext_get_or, length-map, map-append, get_or-map, take_more, take_all}
-use Rattle.std.proofs.lemmas.List.FromFn.{map-range_with_len_more}
 use Rattle.std.proofs.lemmas.List.Elements.{All-nil, All-push}
 use Rattle.vortex_model.specs.LogicalType.{Nullability, non_nullable, nullable}
 use Rattle.vortex_model.specs.Content.{Content, null, is_null}
@@ -205,12 +204,3 @@ pub nulls_of_nullable : (n : Nullability) (vs : List Value) → n ≡ nullable �
 nulls_of_nullable n vs e = λ f. absurd (cc (sym e ∙ f))
 
 pub ruleset all_present = (nulls_of_present, nulls_of_nullable)
-
--- ---- rows read one after the other
-
-pub resolved_more : (f : ℕ → Value) (i : ℕ) (out : List Lent) (v : Lent) →
-    map lent out ≡ map f (range_with_len 0 i) → lent v ≡ f i →
-    map lent (out ++ v ∷ []) ≡ map f (range_with_len 0 (i + 1))
-resolved_more f i out v h e =
-    map-append lent out (v ∷ []) ∙ (λ j. h j ++ e j ∷ [])
-    ∙ sym (map-range_with_len_more f 0 i i (omega arith))

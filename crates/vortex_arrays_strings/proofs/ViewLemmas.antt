@@ -37,14 +37,6 @@ bytes_more vs i v old new piece h l e p n =
     n ∙ (λ j. h j ++ p j)
     ∙ sym (ap (flat_map buffered) (raws_taken vs i v l e) ∙ flat_map-append buffered before (raw_of_bytes (lent v) ∷ []) ∙ ap (λ xs. flat_map buffered before ++ xs) (append-nil (buffered (raw_of_bytes (lent v)))))
 
-pub lengths_more : (vs : List Lent) (i : ℕ) (v : Lent) (old new piece : List ℕ) (n : ℕ) → old ≡ map buffered_len (map raw_of_bytes (map lent (take i vs))) → i < length vs → v ≡ get_or vs i v → piece ≡ buffered (raw_of_bytes (lent v)) → n ≡ length piece → new ≡ old ++ n ∷ [] → new ≡ map buffered_len (map raw_of_bytes (map lent (take (i + 1) vs)))
-lengths_more vs i v old new piece n h l e p m f =
-    let before = map raw_of_bytes (map lent (take i vs)) in
-    f ∙ (λ j. h j ++ (m ∙ ap length p) j ∷ [])
-    ∙ sym (ap (map buffered_len) (raws_taken vs i v l e) ∙ map-append buffered_len before (raw_of_bytes (lent v) ∷ []))
-
-pub ruleset gathered = (bytes_more, lengths_more)
-
 -- ---- views of short values
 
 bytes_in_raw : (v : Value) → bytes_in (raw_of_bytes v) ≡ bytes_or_none v

@@ -160,21 +160,31 @@ fn views_of(
 }
 
 /// The bytes of the values that no view has room for, end to end, and how many each value has.
-#[tactic(auto, using(crate::proofs::ViewLemmas::gathered))]
+#[tactic(auto, using(crate::proofs::ViewLemmas::bytes_more))]
 fn long_values(alloc: Global, values: &[Option<&[u8]>]) -> Result<(Vec<u8>, Vec<u64>), AllocError>
     ensures bytes { IfOk result (λ made. made.0.items
         ≡ flat_map buffered (map raw_of_bytes (map lent values.now))) }
     ensures lengths { IfOk result (λ made. made.1.items
         ≡ map buffered_len (map raw_of_bytes (map lent values.now))) }
 {
+    let lengths = long_lengths(alloc, values)?;
     let mut bytes = Vec::new(alloc);
-    let mut lengths = Vec::with_capacity(alloc, values.len())?;
     for value in values {
         let value = long_bytes(*value);
-        lengths.push(value.len() as u64)?;
         bytes.extend_from_slice(value)?;
     }
     Ok((bytes, lengths))
+}
+
+/// How many bytes each value has that no view has room for.
+fn long_lengths(alloc: Global, values: &[Option<&[u8]>]) -> Result<Vec<u64>, AllocError>
+    ensures { IfOk result (λ lengths. lengths.items
+        ≡ map buffered_len (map raw_of_bytes (map lent values.now))) }
+{
+    values
+        .iter()
+        .map(|value| long_bytes(*value).len() as u64)
+        .collect(alloc)
 }
 
 /// Puts each value of at most twelve bytes in its view.

@@ -7,7 +7,6 @@ use std::alloc::{AllocError, Global};
 use std::convert::{AsSlice, AsStr};
 
 /// The bytes of each item.
-#[tactic(auto, using(crate::proofs::LentLemmas::pushed))]
 pub(crate) fn lend_bytes<T: AsSlice<u8>>(
     alloc: Global,
     items: &[T],
@@ -17,15 +16,10 @@ pub(crate) fn lend_bytes<T: AsSlice<u8>>(
     ensures held { IfOk result (λ all. All (IsHeld byte_strings) (map lent all.items)) }
     ensures present { IfOk result (λ all. All IsPresent (map lent all.items)) }
 {
-    let mut all = Vec::with_capacity(alloc, items.len())?;
-    for item in items {
-        all.push(Some(bytes_of(item)))?;
-    }
-    Ok(all)
+    items.iter().map(|item| Some(bytes_of(item))).collect(alloc)
 }
 
 /// The bytes of each item that is there.
-#[tactic(auto, using(crate::proofs::LentLemmas::pushed))]
 pub(crate) fn lend_some_bytes<T: AsSlice<u8>>(
     alloc: Global,
     items: &[Option<T>],
@@ -34,15 +28,10 @@ pub(crate) fn lend_some_bytes<T: AsSlice<u8>>(
         (λ all. map lent all.items ≡ map (option_map T.items) items.now) }
     ensures held { IfOk result (λ all. All (IsHeld byte_strings) (map lent all.items)) }
 {
-    let mut all = Vec::with_capacity(alloc, items.len())?;
-    for item in items {
-        all.push(bytes_of_some(item))?;
-    }
-    Ok(all)
+    items.iter().map(|item| bytes_of_some(item)).collect(alloc)
 }
 
 /// The bytes of each text.
-#[tactic(auto, using(crate::proofs::LentLemmas::pushed))]
 pub(crate) fn lend_texts<T: AsStr>(
     alloc: Global,
     items: &[T],
@@ -52,15 +41,10 @@ pub(crate) fn lend_texts<T: AsStr>(
     ensures held { IfOk result (λ all. All (IsHeld texts) (map lent all.items)) }
     ensures present { IfOk result (λ all. All IsPresent (map lent all.items)) }
 {
-    let mut all = Vec::with_capacity(alloc, items.len())?;
-    for item in items {
-        all.push(Some(text_of(item)))?;
-    }
-    Ok(all)
+    items.iter().map(|item| Some(text_of(item))).collect(alloc)
 }
 
 /// The bytes of each text that is there.
-#[tactic(auto, using(crate::proofs::LentLemmas::pushed))]
 pub(crate) fn lend_some_texts<T: AsStr>(
     alloc: Global,
     items: &[Option<T>],
@@ -69,11 +53,7 @@ pub(crate) fn lend_some_texts<T: AsStr>(
         (λ all. map lent all.items ≡ map (option_map T.text) items.now) }
     ensures held { IfOk result (λ all. All (IsHeld texts) (map lent all.items)) }
 {
-    let mut all = Vec::with_capacity(alloc, items.len())?;
-    for item in items {
-        all.push(text_of_some(item))?;
-    }
-    Ok(all)
+    items.iter().map(|item| text_of_some(item)).collect(alloc)
 }
 
 // The bytes of an item that is there.

@@ -165,15 +165,12 @@ impl VarBinViewArrayIter for VarBinViewArray {
 }
 
 // The values of all rows.
-#[tactic(auto, using(crate::proofs::RowLemmas::resolved_more))]
 fn resolve_all(alloc: Global, array: &VarBinViewArray) -> Result<Vec<Option<&[u8]>>, AllocError>
     ensures { IfOk result (λ values. map lent values.items ≡ values_of array.now) }
 {
-    let mut values = Vec::with_capacity(alloc, array.len())?;
-    for i in 0..array.len() {
-        values.push(resolved_view(array, i))?;
-    }
-    Ok(values)
+    (0..array.len())
+        .map(|i| resolved_view(array, i))
+        .collect(alloc)
 }
 
 // The value that the view of a row stands for, and `None` for null.
