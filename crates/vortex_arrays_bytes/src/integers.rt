@@ -1,5 +1,5 @@
 //! Integers read from bytes that stand end to end.
-ghost use Rattle.std.specs.Prelude.{◌≡◌, ◌+◌, ◌*◌, ◌≤◌, ◌<◌, ℕ, pos, true, false, cond, length, map, take, drop, IfOk, IfSome, IsTrue};
+ghost use Rattle.std.specs.Prelude.{◌≡◌, ◌+◌, ◌*◌, ◌≤◌, ◌<◌, ℕ, pos, true, false, cond, length, map, take, drop, IfOk, IsTrue};
 ghost use Rattle.vortex_dtype_ptype.specs.Numbers.{integral, is_integral, HasByteWidth};
 ghost use Rattle.vortex_dtype_ptype.specs.View.{number_kind_of};
 ghost use Rattle.vortex_dtype_native.specs.NativeBytes.{AreBytesOf};
@@ -114,7 +114,7 @@ fn read_items<T: Element>(
         (λ items. StandInBytes T.kind width (valid_of validity.now) bytes.now
         (map T.integer items.items)) }
 {
-    if let Some(bits) = packed_rows(validity) {
+    if let Some(bits) = validity.packed() {
         return read_where(alloc, bytes, width, bits);
     }
     match validity {
@@ -123,18 +123,6 @@ fn read_items<T: Element>(
         Validity::AllInvalid => read_by_row(alloc, bytes, width, validity, rows),
         Validity::Array(_) => read_by_row(alloc, bytes, width, validity, rows),
     }
-}
-
-// The bits that tell which rows are not null, where the validity has them.
-fn packed_rows(validity: &Validity) -> Option<&BitBuffer>
-    ensures { IfSome result (λ bits. valid_of validity.now ≡ by_array (bools bits.now required)) }
-{
-    if let Validity::Array(rows) = validity {
-        if let ArrayLayout::Bool(bits, Validity::NonNullable) = rows.layout() {
-            return Some(bits);
-        }
-    }
-    None
 }
 
 // The integers of rows none of which is null.

@@ -3,7 +3,7 @@ ghost use Rattle.std.specs.Prelude.{◌≡◌, length, IfOk, IfSome};
 ghost use Rattle.vortex_dtype_ptype.specs.View.{nullability_of_flag};
 ghost use Rattle.vortex_dtype_core.specs.View.{type_of};
 ghost use Rattle.vortex_arrays_buffer.specs.PrimitiveBuffers.{kind_of_numbers, integers_of};
-ghost use Rattle.vortex_arrays_model.specs.Layout.{bools, numbers, strings, required, by_array, type_of_strings, HasLength, IsSound};
+ghost use Rattle.vortex_arrays_model.specs.Layout.{bools, numbers, strings, type_of_strings, HasLength, IsSound};
 ghost use Rattle.vortex_arrays_core.specs.LayoutOf.{valid_of, strings_of};
 ghost use Rattle.vortex_arrays_validity.specs.Validities.{IsRecast};
 ghost use Rattle.vortex_arrays_cast.specs.Cast.{IsCast};
@@ -16,7 +16,7 @@ use std::rc::Rc;
 use vortex_arrays_buffer::bit_buffer::BitBuffer;
 use vortex_arrays_buffer::buffer::Buffer;
 use vortex_arrays_buffer::primitive_buffer::PrimitiveBuffer;
-use vortex_arrays_core::array::{ArrayLayout, ArrayRef, StringKind, Validity};
+use vortex_arrays_core::array::{ArrayRef, StringKind, Validity};
 use vortex_arrays_validity::validity_ext::ValidityExt;
 use vortex_arrays_view::view::BinaryView;
 use vortex_dtype_core::dtype::DType;
@@ -46,18 +46,6 @@ pub(crate) fn cast_validity(
             }
         }
     }
-}
-
-/// The bits that tell which rows are not null, where the validity has them.
-pub(crate) fn packed_rows(validity: &Validity) -> Option<&BitBuffer>
-    ensures { IfSome result (λ bits. valid_of validity.now ≡ by_array (bools bits.now required)) }
-{
-    if let Validity::Array(rows) = validity {
-        if let ArrayLayout::Bool(bits, Validity::NonNullable) = rows.layout() {
-            return Some(bits);
-        }
-    }
-    None
 }
 
 /// Truth values. Their bits are shared.

@@ -6,7 +6,6 @@ ghost use Rattle.vortex_arrays_model.specs.Canonical.{counts, IsLaidOut};
 ghost use Rattle.vortex_arrays_core.specs.LayoutOf.{valid_of};
 ghost use Rattle.vortex_arrays_cast.specs.Cast.{StandEvenly};
 
-use crate::leaves::packed_rows;
 use std::alloc::{AllocError, Global};
 use vortex_arrays_buffer::bit_buffer::BitBuffer;
 use vortex_arrays_buffer::buffer::Buffer;
@@ -91,7 +90,7 @@ fn are_null_lists_empty(sizes: &[u64], validity: &Validity) -> bool
     ensures { IsTrue result → (i : ℕ) → i < length sizes.now
         → is_valid (valid_of validity.now) i ≡ false → slice_index_or sizes.now i 0 ≡ 0 }
 {
-    if let Some(bits) = packed_rows(validity) {
+    if let Some(bits) = validity.packed() {
         return are_empty_where_false(sizes, bits);
     }
     match validity {

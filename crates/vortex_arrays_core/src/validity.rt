@@ -44,17 +44,17 @@ impl Validity {
         Ok(())
     }
 
-    /// The bits that are true where a row is not null, where they lie packed.
-    pub(crate) fn packed(&self) -> Option<&BitBuffer>
+    /// The packed bits that are true where a row is not null. `None` where no array says so, since
+    /// no row is null or each is, and where that array is laid out otherwise.
+    pub fn packed(&self) -> Option<&BitBuffer>
         ensures { IfSome result (λ bits. valid_of self.now ≡ by_array (bools bits.now required)) }
     {
-        let Validity::Array(rows) = self else {
-            return None;
-        };
-        match &rows.data.layout {
-            ArrayLayout::Bool(bits, Validity::NonNullable) => Some(bits),
-            _ => None,
+        if let Validity::Array(rows) = self {
+            if let ArrayLayout::Bool(bits, Validity::NonNullable) = &rows.data.layout {
+                return Some(bits);
+            }
         }
+        None
     }
 
     /// Null where either is, as Vortex's `Validity::and`.

@@ -1,5 +1,5 @@
 //! Whether views have values, and whether the values are texts.
-ghost use Rattle.std.specs.Prelude.{◌≡◌, ◌<◌, ℕ, true, false, [], length, slice_index_or, IsTrue, OnOk, IfErr, IfSome};
+ghost use Rattle.std.specs.Prelude.{◌≡◌, ◌<◌, ℕ, true, false, [], length, slice_index_or, IsTrue, OnOk, IfErr};
 ghost use Rattle.vortex_arrays_view.specs.Views.{value_of, HasValue};
 ghost use Rattle.vortex_arrays_model.specs.Layout.{bools, texts, Valid, required, by_array, is_valid, HasLength, IsString};
 ghost use Rattle.vortex_arrays_core.specs.LayoutOf.{valid_of, strings_of};
@@ -8,7 +8,7 @@ ghost use Rattle.vortex_arrays_leaf.specs.ViewFaults.{IsViewsFault, IsTextsFault
 
 use bytes::Bytes;
 use vortex_arrays_buffer::bit_buffer::BitBuffer;
-use vortex_arrays_core::array::{ArrayLayout, StringKind, Validity};
+use vortex_arrays_core::array::{StringKind, Validity};
 use vortex_arrays_view::error::ArrayError;
 use vortex_arrays_view::view::BinaryView;
 
@@ -23,7 +23,7 @@ pub(crate) fn check_views(
     ensures refused { IfErr result
         (λ e. IsViewsFault e views.now buffers.now (valid_of validity.now)) }
 {
-    if let Some(bits) = packed_rows(validity) {
+    if let Some(bits) = validity.packed() {
         return check_views_where(views, buffers, bits);
     }
     match validity {
@@ -32,18 +32,6 @@ pub(crate) fn check_views(
         Validity::AllInvalid => Ok(()),
         Validity::Array(_) => check_views_by_row(views, buffers, validity),
     }
-}
-
-// The bits that tell which rows are not null, where the validity has them.
-fn packed_rows(validity: &Validity) -> Option<&BitBuffer>
-    ensures { IfSome result (λ bits. valid_of validity.now ≡ by_array (bools bits.now required)) }
-{
-    if let Validity::Array(rows) = validity {
-        if let ArrayLayout::Bool(bits, Validity::NonNullable) = rows.layout() {
-            return Some(bits);
-        }
-    }
-    None
 }
 
 // Tests the views of all rows, none of which is null.
@@ -117,7 +105,7 @@ pub(crate) fn check_values(
     ensures refused { IfErr result (λ e. IsTextsFault e (strings_of kind) views.now buffers.now
         (valid_of validity.now)) }
 {
-    if let Some(bits) = packed_rows(validity) {
+    if let Some(bits) = validity.packed() {
         return check_values_where(kind, views, buffers, bits);
     }
     match validity {

@@ -1,142 +1,123 @@
 -- Rows overwritten at the first places.
-use Rattle.std.proofs.Common.{◌≡◌, ◌≢◌, ◌<◌, ◌+◌, ◌∙◌, ℕ, ℤ, pos, true, List, Bool, false, length, map, set, get_or, slice_index_or, Some, None, refl, sym, ap, subst, arith, inl, inr}
-use Rattle.std.specs.Prelude.{◌≤ℤ◌, ◌<ℤ◌, negsuc, unsigned_abs}
+use Rattle.std.proofs.Common.{◌≡◌, ◌≢◌, ◌<◌, ◌+◌, ◌∙◌, ℕ, pos, List, Bool, false, length, set, get_or, Some, refl, sym, ap, subst, arith, inl, inr}
 use Rattle.std.proofs.lemmas.Bool.{cases_eq}
-use Rattle.std.proofs.lemmas.Int.{ints}
-use Rattle.std.proofs.lemmas.List.{get_or-map, get_or-set_other, get_or-set_same, length-set}
-use Rattle.vortex_model.specs.LogicalType.{IntKind, u8, u16, u32, u64, i8, i16, i32, i64}
-use Rattle.vortex_model.specs.Content.{integer}
-use Rattle.vortex_model.specs.Valid.{greatest_number, in_range}
-use Rattle.vortex_model.proofs.Tests.{range_so}
-use Rattle.vortex_arrays_model.specs.Layout.{Layout, Valid, bools, numbers, required, by_array, len_of, content_at, is_valid, natural, IsCode}
+use Rattle.std.proofs.lemmas.Grind.{get_or_default_zero}
+use Rattle.std.proofs.lemmas.List.{get_or-set_other, get_or-set_same, length-set}
+use Rattle.vortex_model.specs.Content.{Content, null, integer}
+use Rattle.vortex_arrays_model.specs.Layout.{Layout, len_of, content_at, IsCode}
 use Rattle.vortex_arrays_model.specs.Parts.{AreWithin}
 use Rattle.vortex_arrays_model.specs.Picks.{position_of}
+use Rattle.vortex_arrays_validity.specs.Places.{place_or, places_or, IsNamedLast, IsUnnamed}
 use Rattle.vortex_arrays_validity.specs.Validities.{IsLastPlace, NoPlace}
+use Rattle.vortex_arrays_validity.proofs.PlaceLemmas.{place_count, place_read, row_named}
 
 -- by the first n places
-pub record IsOverwritten (old new : List Bool) (places : Layout) (q : Valid) (n : ℕ) : Type 0 where
+pub record IsOverwritten (old new patches : List Bool) (places : List ℕ) (n : ℕ) : Type 0 where
   pub count : length new ≡ length old
-  pub kept : (j : ℕ) → NoPlace places n j → slice_index_or new j false ≡ slice_index_or old j false
-  pub overwritten : (j k : ℕ) → IsLastPlace places n j k → slice_index_or new j false ≡ is_valid q k
+  pub kept : (j : ℕ) → IsUnnamed places n j → get_or new j false ≡ get_or old j false
+  pub overwritten : (j k : ℕ) → j < length old → IsNamedLast places n j k →
+      get_or new j false ≡ get_or patches k false
 
-pub by_none : (rows : List Bool) (places : Layout) (q : Valid) → IsOverwritten rows rows places q 0
-by_none rows places q = record {
+pub by_none : (rows patches : List Bool) (places : List ℕ) →
+    IsOverwritten rows rows patches places 0
+by_none rows patches places = record {
   count = refl;
   kept = λ j h. refl;
-  overwritten = λ j k last. absurd (omega (arith, last.within));
+  overwritten = λ j k small last. absurd (omega (arith, last.within));
 }
 
 -- the last of the first n + 1 places is one of the first n where it isn't the one behind them
-pub is_before : (places : Layout) (n j k : ℕ) → k ≢ n → IsLastPlace places (n + 1) j k →
-    IsLastPlace places n j k
+is_before : (places : List ℕ) (n j k : ℕ) → k ≢ n → IsNamedLast places (n + 1) j k →
+    IsNamedLast places n j k
 is_before places n j k other last = record {
   within = omega (arith, last.within, other);
   names = last.names;
   last = λ l after before. last.last l after (omega (arith, before));
 }
 
-pub by_null : (old new : List Bool) (places : Layout) (q : Valid) (n : ℕ) →
-    position_of (content_at places n) ≡ None → IsOverwritten old new places q n →
-    IsOverwritten old new places q (n + 1)
-by_null old new places q n null h = record {
+-- a place, as clauses read it
+read_by_zero : (places : List ℕ) (n p : ℕ) → n < length places → p ≡ get_or places n p →
+    p ≡ get_or places n 0
+read_by_zero places n p l at = at ∙ get_or_default_zero places n p l
+
+-- the place behind the first n is the last
+newest : (places : List ℕ) (n p j k : ℕ) → p ≡ get_or places n 0 → k ≡ n →
+    IsNamedLast places (n + 1) j k → j ≡ p
+newest places n p j k at e last = sym last.names ∙ ap (λ m. get_or places m 0) e ∙ sym at
+
+-- the place behind the first n names no row
+pub by_past : (old new patches : List Bool) (places : List ℕ) (n p : ℕ) → n < length places →
+    p ≡ get_or places n p → (p < length new → ⊥) → IsOverwritten old new patches places n →
+    IsOverwritten old new patches places (n + 1)
+by_past old new patches places n p l at past h = record {
   count = h.count;
-  kept = λ j none. h.kept j (λ k l. none k (omega (arith, l)));
-  overwritten = λ j k last. h.overwritten j k (is_before places n j k
-      (λ e. absurd (cc (null, last.names, ap (λ m. position_of (content_at places m)) e))) last);
+  kept = λ j none. h.kept j (λ k before. none k (omega (arith, before)));
+  overwritten = λ j k small last. h.overwritten j k small (is_before places n j k (λ e.
+      let same : j ≡ p = newest places n p j k (read_by_zero places n p l at) e last in
+      past (omega (arith, small, same, h.count))) last);
 }
 
--- where the place behind the first n names row p, and that is overwritten
-pub newest : (new : List Bool) (places : Layout) (q : Valid) (n p : ℕ) →
-    position_of (content_at places n) ≡ Some p → p < length new → (j k : ℕ) → k ≡ n →
-    IsLastPlace places (n + 1) j k →
-    slice_index_or (set new p (is_valid q n)) j false ≡ is_valid q k
-newest new places q n p at_p within j k e last =
-    let named : position_of (content_at places n) ≡ Some j =
-    subst (λ m. position_of (content_at places m) ≡ Some j) e last.names in
-    let same : j ≡ p = cc (named, at_p) in
-    ap (λ i. slice_index_or (set new p (is_valid q n)) i false) same
-    ∙ get_or-set_same new p (is_valid q n) false within ∙ ap (is_valid q) (sym e)
+-- it names one
+pub by_place : (old new patches : List Bool) (places : List ℕ) (n p : ℕ) → n < length places →
+    p ≡ get_or places n p → p < length new → IsOverwritten old new patches places n →
+    IsOverwritten old (set new p (get_or patches n false)) patches places (n + 1)
+by_place old new patches places n p l at within h =
+    let b : Bool = get_or patches n false in
+    let is : p ≡ get_or places n 0 = read_by_zero places n p l at in
+    record {
+      count = length-set new p b ∙ h.count;
+      kept = λ j none.
+          get_or-set_other new p j b false (λ e. none n (omega arith) (sym is ∙ sym e))
+          ∙ h.kept j (λ k before. none k (omega (arith, before)));
+      overwritten = λ j k small last. elim (cases_eq k n) [
+        | inl e ↦ ap (λ i. get_or (set new p b) i false) (newest places n p j k is e last)
+            ∙ get_or-set_same new p b false within ∙ ap (λ m. get_or patches m false) (sym e)
+        | inr other ↦ get_or-set_other new p j b false (λ e.
+            last.last n (omega (arith, last.within, other)) (omega arith) (sym is ∙ sym e))
+            ∙ h.overwritten j k small (is_before places n j k other last)
+      ];
+    }
 
--- an earlier place names another row where it is the last to name it
-pub earlier : (old new : List Bool) (places : Layout) (q : Valid) (n p : ℕ) →
-    position_of (content_at places n) ≡ Some p → IsOverwritten old new places q n →
-    (j k : ℕ) → k ≢ n → IsLastPlace places (n + 1) j k →
-    slice_index_or (set new p (is_valid q n)) j false ≡ is_valid q k
-earlier old new places q n p at_p h j k other last =
-    get_or-set_other new p j (is_valid q n) false
-    (λ e. last.last n (omega (arith, last.within, other)) (omega arith) (at_p ∙ ap Some (sym e)))
-    ∙ h.overwritten j k (is_before places n j k other last)
+pub ruleset steps = (by_none, by_past, by_place)
 
-pub by_place : (old new : List Bool) (places : Layout) (q : Valid) (n p : ℕ) →
-    position_of (content_at places n) ≡ Some p → p < length old →
-    IsOverwritten old new places q n →
-    IsOverwritten old (set new p (is_valid q n)) places q (n + 1)
-by_place old new places q n p at_p within h = record {
-  count = length-set new p (is_valid q n) ∙ h.count;
-  kept = λ j none.
-      get_or-set_other new p j (is_valid q n) false
-      (λ e. none n (omega arith) (at_p ∙ ap Some (sym e)))
-      ∙ h.kept j (λ k l. none k (omega (arith, l)));
-  overwritten = λ j k last. elim (cases_eq k n) [
-    | inl e ↦ newest new places q n p at_p (subst (λ m. p < m) (sym h.count) within) j k e last
-    | inr other ↦ earlier old new places q n p at_p h j k other last
-  ];
-}
+-- ---- the places of an array, each null or a row of n, as a list
 
--- ---- places that are numbers
+place_of_position : (n : ℕ) (c : Content) (j : ℕ) → IsCode n c → position_of c ≡ Some j →
+    place_or n c ≡ j
+place_of_position n null j h e = absurd (cc (e))
+place_of_position n (integer (pos i)) j h e = cc (e)
+place_of_position n c j h e = absurd h
 
--- a number of any kind is one of the machine, or below zero
-pub greatest_below : (i : IntKind) (z : ℤ) → z ≤ℤ greatest_number i → z ≤ℤ pos 18446744073709551615
-greatest_below u8 z h = grind (arith, ints, h)
-greatest_below u16 z h = grind (arith, ints, h)
-greatest_below u32 z h = grind (arith, ints, h)
-greatest_below u64 z h = h
-greatest_below i8 z h = grind (arith, ints, h)
-greatest_below i16 z h = grind (arith, ints, h)
-greatest_below i32 z h = grind (arith, ints, h)
-greatest_below i64 z h = grind (arith, ints, h)
+listed : (a : Layout) (n : ℕ) (places : List ℕ) (k j : ℕ) → places ≡ places_or n a →
+    AreWithin a n → k < len_of a → position_of (content_at a k) ≡ Some j → get_or places k 0 ≡ j
+listed a n places k j e h l at = ap (λ xs. get_or xs k 0) e ∙ place_read n a k 0 l
+    ∙ place_of_position n (content_at a k) j (h k l) at
 
-pub below_word : (i : IntKind) (z : ℤ) → in_range i z ≡ true → z ≤ℤ pos 18446744073709551615
-below_word i z h = greatest_below i z (let r = range_so i z h in r.to)
+position : (a : Layout) (n : ℕ) (places : List ℕ) (k j : ℕ) → places ≡ places_or n a →
+    AreWithin a n → k < length places → j < n → get_or places k 0 ≡ j →
+    position_of (content_at a k) ≡ Some j
+position a n places k j e h l small at =
+    let read : j ≡ get_or places k j = sym (get_or_default_zero places k j l ∙ at) in
+    ap position_of (row_named a n places k j e h l read small)
 
-pub natural_abs : (z : ℤ) → pos 0 ≤ℤ z → natural z ≡ unsigned_abs z
-natural_abs (pos n) h = refl
-natural_abs (negsuc n) h = grind (arith, ints, h)
+pub count_listed : (a : Layout) (n : ℕ) (places : List ℕ) → places ≡ places_or n a →
+    length places ≡ len_of a
+count_listed a n places e = ap length e ∙ place_count n a
 
-pub natural_below : (z : ℤ) → z <ℤ pos 0 → natural z ≡ 0
-natural_below (pos n) h = grind (arith, ints, h)
-natural_below (negsuc n) h = refl
+pub none_listed : (a : Layout) (n : ℕ) (places : List ℕ) (j : ℕ) → places ≡ places_or n a →
+    AreWithin a n → j < n → NoPlace a (len_of a) j → IsUnnamed places (length places) j
+none_listed a n places j e h small none = λ k l at.
+    let inside : k < len_of a = subst (λ m. k < m) (count_listed a n places e) l in
+    none k inside (position a n places k j e h l small at)
 
-pub ruleset held = (below_word, natural_abs, natural_below)
-
--- the number of an item, among the numbers
-natural_at : {X : Type 0} (f : X → ℤ) (xs : List X) (i n : ℕ) (x : X) → i < length xs → x ≡ get_or xs i x → n ≡ natural (f x) → n ≡ natural (get_or (map f xs) i (pos 0))
-natural_at f xs i n x l at is = is ∙ ap (λ y. natural (f y)) at ∙ ap natural (sym (get_or-map f xs i x (pos 0) l))
-
--- an item names its number
-pub item_names : {X : Type 0} (k : IntKind) (f : X → ℤ) (xs : List X) (i n : ℕ) (x : X) → i < length xs → x ≡ get_or xs i x → n ≡ natural (f x) → position_of (content_at (numbers k (map f xs) required) i) ≡ Some n
-item_names k f xs i n x l at is = ap Some (sym (natural_at f xs i n x l at is))
-
-code_below : (n : ℕ) (z : ℤ) → IsCode n (integer z) → natural z < n
-code_below n (pos i) h = h
-code_below n (negsuc i) h = absurd h
-
-pub item_within : {X : Type 0} (k : IntKind) (f : X → ℤ) (xs : List X) (i n m : ℕ) (x : X) → i < length xs → x ≡ get_or xs i x → n ≡ natural (f x) → IsCode m (content_at (numbers k (map f xs) required) i) → n < m
-item_within k f xs i n m x l at is h = subst (λ j. j < m) (sym (natural_at f xs i n x l at is)) (code_below m (get_or (map f xs) i (pos 0)) h)
-
--- where truth values say of each place what its row becomes
-pub item_written : (old new patches : List Bool) (places : Layout) (n p : ℕ) →
-    position_of (content_at places n) ≡ Some p → p < length old →
-    IsOverwritten old new places (by_array (bools patches required)) n →
-    IsOverwritten old (set new p (get_or patches n false)) places (by_array (bools patches required)) (n + 1)
-item_written old new patches places n p at_p within h = by_place old new places (by_array (bools patches required)) n p at_p within h
-
-pub ruleset steps = (by_none, by_null, item_written)
-
--- ---- places of an array that is numbers
-
-pub within_alike : (a : Layout) (k : IntKind) (xs : List ℤ) (n : ℕ) → a ≡ numbers k xs required → AreWithin a n → AreWithin (numbers k xs required) n
-within_alike a k xs n e h = subst (λ p. AreWithin p n) e h
-
-pub kept_alike : (a : Layout) (k : IntKind) (xs : List ℤ) (old new : List Bool) → a ≡ numbers k xs required → ((j : ℕ) → NoPlace (numbers k xs required) (length xs) j → slice_index_or new j false ≡ slice_index_or old j false) → (j : ℕ) → NoPlace a (len_of a) j → slice_index_or new j false ≡ slice_index_or old j false
-kept_alike a k xs old new e h = subst (λ p. (j : ℕ) → NoPlace p (len_of p) j → slice_index_or new j false ≡ slice_index_or old j false) (sym e) h
+pub last_listed : (a : Layout) (n : ℕ) (places : List ℕ) (j k : ℕ) → places ≡ places_or n a →
+    AreWithin a n → j < n → IsLastPlace a (len_of a) j k → IsNamedLast places (length places) j k
+last_listed a n places j k e h small last =
+    let count : length places ≡ len_of a = count_listed a n places e in
+    record {
+      within = subst (λ m. k < m) (sym count) last.within;
+      names = listed a n places k j e h last.within last.names;
+      last = λ l after before at.
+          last.last l after (subst (λ m. l < m) count before)
+          (position a n places l j e h before small at);
+    }

@@ -7,16 +7,16 @@ use Rattle.std.proofs.lemmas.Int.{ints}
 use Rattle.std.proofs.lemmas.List.{ext_get_or, get_or-map, get_or_past, get_or-replicate, length-map, length-replicate}
 use Rattle.std.proofs.lemmas.Simd.{map-map}
 use Rattle.std.proofs.lemmas.Slice.Zip.{length-zip, get_or-zip}
-use Rattle.vortex_model.specs.LogicalType.{LogicalType, IntKind, integer_type}
+use Rattle.vortex_model.specs.LogicalType.{LogicalType, IntKind, u8, u16, u32, u64, i8, i16, i32, i64, integer_type}
 use Rattle.vortex_model.specs.Content.{Content, null, boolean, integer, text, byte_string, tuple, tagged, scalar, Raw, content_of}
-use Rattle.vortex_model.specs.Valid.{IsContent}
+use Rattle.vortex_model.specs.Valid.{greatest_number, in_range, IsContent}
+use Rattle.vortex_model.proofs.Tests.{range_so}
 use Rattle.vortex_arrays_model.specs.Layout.{Layout, numbers, constant, dictionary, Valid, all_null, by_array, len_of, array_type_of, content_at, number_in, pick, rows_of, is_valid, IsCode, IsInteger, IsSound, HasLength}
 use Rattle.vortex_arrays_model.specs.Parts.{AreWithin}
 use Rattle.vortex_arrays_model.proofs.RowsLemmas.{row_at_position, row_count}
 use Rattle.vortex_arrays_model.proofs.ValidRows.{rows_valid}
 use Rattle.vortex_arrays_validity.specs.Places.{number_or, place_or, places_or, place_at, places_at, numbers_where}
 use Rattle.vortex_arrays_validity.specs.Validities.{valid_rows}
-use Rattle.vortex_arrays_validity.proofs.Overwritten.{below_word, greatest_below}
 use Rattle.vortex_arrays_validity.proofs.Rows.{bit_says, row_count as valid_count}
 
 -- ---- what the lists of places say of a row
@@ -58,6 +58,20 @@ no_place_named n (integer (pos i)) p h e l = absurd (l (subst (λ j. j < n) (sym
 no_place_named n c p h e l = absurd h
 
 -- ---- a number of the machine, or below zero
+
+-- a number of any kind is one of the machine, or below zero
+greatest_below : (i : IntKind) (z : ℤ) → z ≤ℤ greatest_number i → z ≤ℤ pos 18446744073709551615
+greatest_below u8 z h = grind (arith, ints, h)
+greatest_below u16 z h = grind (arith, ints, h)
+greatest_below u32 z h = grind (arith, ints, h)
+greatest_below u64 z h = h
+greatest_below i8 z h = grind (arith, ints, h)
+greatest_below i16 z h = grind (arith, ints, h)
+greatest_below i32 z h = grind (arith, ints, h)
+greatest_below i64 z h = grind (arith, ints, h)
+
+pub below_word : (i : IntKind) (z : ℤ) → in_range i z ≡ true → z ≤ℤ pos 18446744073709551615
+below_word i z h = greatest_below i z (let r = range_so i z h in r.to)
 
 pub number_abs : (n : ℕ) (z : ℤ) → pos 0 ≤ℤ z → number_or n z ≡ unsigned_abs z
 number_abs n (pos i) h = refl

@@ -163,9 +163,9 @@ required_patched v q places n e f = record {
 -- bits that were overwritten say of each row whether it is null
 pub rows_patched : (v q w : Valid) (places : Layout) (n : ℕ) (old new : List Bool) →
     old ≡ valid_rows v n → length new ≡ length old →
-    ((j : ℕ) → NoPlace places (len_of places) j →
+    ((j : ℕ) → j < n → NoPlace places (len_of places) j →
     slice_index_or new j false ≡ slice_index_or old j false) →
-    ((j k : ℕ) → IsLastPlace places (len_of places) j k →
+    ((j k : ℕ) → j < n → IsLastPlace places (len_of places) j k →
     slice_index_or new j false ≡ is_valid q k) →
     HasLength w (length new) → nullability_by w ≡ nullable → valid_rows w (length new) ≡ new →
     either_nullable (nullability_by v) (nullability_by q) ≡ nullable → IsPatched v q places w n
@@ -176,11 +176,11 @@ rows_patched v q w places n old new is count kept over fits kind read wide =
     record {
       fits = subst (HasLength w) len fits;
       nullability = kind ∙ sym wide;
-      kept = λ j l none. sym (says j l) ∙ kept j none ∙ bit_says v old n j is l;
-      patched = λ j k l last. sym (says j l) ∙ over j k last;
+      kept = λ j l none. sym (says j l) ∙ kept j l none ∙ bit_says v old n j is l;
+      patched = λ j k l last. sym (says j l) ∙ over j k l last;
     }
 
-pub ruleset patches = (required_patched, rows_patched, row_count)
+pub ruleset patches = (required_patched)
 
 pub either_null : (m n : Nullability) →
     ((is_nullable m || is_nullable n) ≡ true) ↔ (either_nullable m n ≡ nullable)

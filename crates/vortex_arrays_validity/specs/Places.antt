@@ -1,5 +1,5 @@
 -- The places that integers name.
-use Rattle.std.specs.Prelude.{ℕ, ℤ, pos, Bool, cond, List, map, slice_index_or}
+use Rattle.std.specs.Prelude.{◌≡◌, ◌≢◌, ◌<◌, ℕ, ℤ, pos, Bool, cond, List, map, slice_index_or}
 use Rattle.std.specs.List.{zip}
 use Rattle.vortex_model.specs.Content.{Content, null, integer}
 use Rattle.vortex_arrays_model.specs.Layout.{Layout, rows_of}
@@ -29,3 +29,13 @@ places_at n a indices = map (place_at n (rows_of a)) indices
 -- the numbers as places, and n in place of each whose row is false
 abbrev pub numbers_where : ℕ → List ℤ → List Bool → List ℕ
 numbers_where n zs rows = map (λ p. cond p.1 (number_or n p.0) n) (zip zs rows)
+
+-- none of the first n places is j
+abbrev pub IsUnnamed : List ℕ → ℕ → ℕ → Type 0
+IsUnnamed places n j = (k : ℕ) → k < n → slice_index_or places k 0 ≢ j
+
+-- of the first n places, place k is the last that is j
+pub record IsNamedLast (places : List ℕ) (n j k : ℕ) : Type 0 where
+  pub within : k < n
+  pub names : slice_index_or places k 0 ≡ j
+  pub last : (l : ℕ) → k < l → l < n → slice_index_or places l 0 ≢ j

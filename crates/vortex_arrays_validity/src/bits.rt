@@ -1,5 +1,5 @@
 //! Arrays of truth values without null, read and made as packed bits.
-ghost use Rattle.std.specs.Prelude.{◌≡◌, ◌<◌, ◌↔◌, ℕ, true, false, length, slice_index_or, All, IsTrue, IfOk, IfSome};
+ghost use Rattle.std.specs.Prelude.{◌≡◌, ◌<◌, ◌↔◌, ℕ, true, false, length, slice_index_or, All, IsTrue, IfOk};
 ghost use Rattle.vortex_model.specs.LogicalType.{nullable};
 ghost use Rattle.vortex_arrays_model.specs.Layout.{bools, required, by_array, len_of, nullability_by, is_valid, HasLength};
 ghost use Rattle.vortex_arrays_core.specs.LayoutOf.{valid_of};
@@ -90,22 +90,10 @@ pub fn same_rows(mine: &Validity, theirs: &Validity, len: usize) -> bool
     ensures { IsTrue result
         ↔ ((i : ℕ) → i < len → is_valid (valid_of mine.now) i ≡ is_valid (valid_of theirs.now) i) }
 {
-    if let (Some(ours), Some(others)) = (packed_rows(mine), packed_rows(theirs)) {
+    if let (Some(ours), Some(others)) = (mine.packed(), theirs.packed()) {
         return are_same(ours, others);
     }
     is_each_same(mine, theirs, len)
-}
-
-/// The bits of the rows, where an array of them says which are null.
-fn packed_rows(validity: &Validity) -> Option<&BitBuffer>
-    ensures { IfSome result (λ bits. valid_of validity.now ≡ by_array (bools bits.now required)) }
-{
-    if let Validity::Array(rows) = validity {
-        if let ArrayLayout::Bool(bits, Validity::NonNullable) = rows.layout() {
-            return Some(bits);
-        }
-    }
-    None
 }
 
 /// Whether the bits are the same.

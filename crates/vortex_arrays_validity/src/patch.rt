@@ -1,18 +1,16 @@
 //! Rows overwritten at places.
-ghost use Rattle.std.specs.Prelude.{◌≡◌, ◌<◌, ◌↔◌, ℕ, length, map, IsTrue, slice_index_or, false, Some, IfOk, OnOk, IfErr};
+ghost use Rattle.std.specs.Prelude.{◌≡◌, ◌<◌, ◌↔◌, ℕ, length, IsTrue, slice_index_or, false, IfOk, OnOk, IfErr};
 ghost use Rattle.vortex_model.specs.LogicalType.{either_nullable, nullable};
-ghost use Rattle.vortex_arrays_model.specs.Layout.{numbers, required, len_of, array_type_of, content_at, natural, nullability_by, HasLength, IsCode, IsInteger};
-ghost use Rattle.vortex_arrays_model.specs.Parts.{AreWithin};
-ghost use Rattle.vortex_arrays_model.specs.Picks.{position_of};
-ghost use Rattle.vortex_arrays_buffer.specs.PrimitiveBuffers.{kind_of_numbers, integers_of};
+ghost use Rattle.vortex_arrays_model.specs.Layout.{nullability_by, HasLength};
 ghost use Rattle.vortex_arrays_core.specs.LayoutOf.{valid_of};
-ghost use Rattle.vortex_arrays_validity.specs.Validities.{valid_rows, CanPatch, IsLastPlace, IsPatched, IsPatchFault, NoPlace};
+ghost use Rattle.vortex_arrays_validity.specs.Places.{IsNamedLast, IsUnnamed};
+ghost use Rattle.vortex_arrays_validity.specs.Validities.{valid_rows, CanPatch, IsPatched, IsPatchFault};
 
 use crate::bits::{bits_of, of_rows};
+use crate::places::places_or;
 use std::alloc::{AllocError, Global};
-use vortex_arrays_buffer::element::Element;
-use vortex_arrays_buffer::{BitBuffer, Mask, PrimitiveBuffer};
-use vortex_arrays_core::array::{ArrayLayout, ArrayRef, Validity};
+use vortex_arrays_buffer::{BitBuffer, Mask};
+use vortex_arrays_core::array::{ArrayRef, Validity};
 use vortex_arrays_view::error::ArrayError;
 
 /// Tests that rows of so many can be overwritten so, as `ValidityExt::patch` does.
@@ -53,7 +51,8 @@ pub fn patched(
     }
     let mut rows = all_rows(alloc, validity, len)?;
     let theirs = all_rows(alloc, patches, places.len())?;
-    overwrite(&mut rows, places, theirs.as_slice());
+    let indices = places_or(alloc, places, len)?;
+    overwrite(&mut rows, &indices, &theirs);
     let bits = BitBuffer::from_bools(alloc, &rows)?;
     let made = of_rows(alloc, Mask::from_buffer(bits))?;
     Ok(made)
@@ -85,112 +84,21 @@ fn all_rows(alloc: Global, validity: &Validity, len: usize) -> Result<Vec<bool>,
     }
 }
 
-/// Overwrites the rows at the places in turn.
-fn overwrite(rows: &mut Vec<bool>, places: &ArrayRef, patches: &[bool])
-    requires kind { IsInteger (array_type_of places.now) }
-    requires within { AreWithin places.now (length rows.old.items) }
-    requires theirs { length patches.now ≡ len_of places.now }
-    ensures count { length rows.new.items ≡ length rows.old.items }
-    ensures kept { (j : ℕ) → NoPlace places.now (len_of places.now) j
-        → slice_index_or rows.new.items j false ≡ slice_index_or rows.old.items j false }
-    ensures overwritten { (j k : ℕ) → IsLastPlace places.now (len_of places.now) j k
-        → slice_index_or rows.new.items j false ≡ slice_index_or patches.now k false }
-{
-    if let ArrayLayout::Primitive(items, validity) = places.layout() {
-        if let Validity::NonNullable = validity {
-            overwrite_numbers(rows, items, patches);
-            return;
-        }
-    }
-    overwrite_each(rows, places, patches);
-}
-
-/// Overwrites the rows place by place, of places in any layout.
+/// Overwrites the rows at the places in turn. A place past the rows names none.
 #[tactic(auto, using(crate::proofs::Overwritten::steps))]
-fn overwrite_each(rows: &mut Vec<bool>, places: &ArrayRef, patches: &[bool])
-    requires kind { IsInteger (array_type_of places.now) }
-    requires within { AreWithin places.now (length rows.old.items) }
-    requires theirs { length patches.now ≡ len_of places.now }
-    ensures count { length rows.new.items ≡ length rows.old.items }
-    ensures kept { (j : ℕ) → NoPlace places.now (len_of places.now) j
-        → slice_index_or rows.new.items j false ≡ slice_index_or rows.old.items j false }
-    ensures overwritten { (j k : ℕ) → IsLastPlace places.now (len_of places.now) j k
-        → slice_index_or rows.new.items j false ≡ slice_index_or patches.now k false }
+fn overwrite(rows: &mut [bool], places: &[usize], patches: &[bool])
+    requires { length patches.now ≡ length places.now }
+    ensures count { length rows.new ≡ length rows.old }
+    ensures kept { (j : ℕ) → IsUnnamed places.now (length places.now) j
+        → slice_index_or rows.new j false ≡ slice_index_or rows.old j false }
+    ensures overwritten { (j k : ℕ) → j < length rows.old
+        → IsNamedLast places.now (length places.now) j k
+        → slice_index_or rows.new j false ≡ slice_index_or patches.now k false }
 {
     for k in 0..places.len() {
-        if let Some(place) = places.integer(k) {
-            rows[place as usize] = patches[k];
+        let place = places[k];
+        if place < rows.len() {
+            rows[place] = patches[k];
         }
     }
-}
-
-/// Overwrites the rows at numbers, whose kind is matched once.
-#[tactic(auto, using(vortex_arrays_buffer::proofs::NumberLemmas::eq_numbers))]
-fn overwrite_numbers(rows: &mut Vec<bool>, places: &PrimitiveBuffer, patches: &[bool])
-    requires within { AreWithin (numbers (kind_of_numbers places.now) (integers_of places.now)
-        required) (length rows.old.items) }
-    requires theirs { length patches.now ≡ length (integers_of places.now) }
-    ensures count { length rows.new.items ≡ length rows.old.items }
-    ensures kept { (j : ℕ)
-        → NoPlace (numbers (kind_of_numbers places.now) (integers_of places.now) required)
-        (length (integers_of places.now)) j
-        → slice_index_or rows.new.items j false ≡ slice_index_or rows.old.items j false }
-    ensures overwritten { (j k : ℕ)
-        → IsLastPlace (numbers (kind_of_numbers places.now) (integers_of places.now) required)
-        (length (integers_of places.now)) j k
-        → slice_index_or rows.new.items j false ≡ slice_index_or patches.now k false }
-{
-    match places {
-        PrimitiveBuffer::U8(items) => overwrite_items(rows, items.as_slice(), patches),
-        PrimitiveBuffer::U16(items) => overwrite_items(rows, items.as_slice(), patches),
-        PrimitiveBuffer::U32(items) => overwrite_items(rows, items.as_slice(), patches),
-        PrimitiveBuffer::U64(items) => overwrite_items(rows, items.as_slice(), patches),
-        PrimitiveBuffer::I8(items) => overwrite_items(rows, items.as_slice(), patches),
-        PrimitiveBuffer::I16(items) => overwrite_items(rows, items.as_slice(), patches),
-        PrimitiveBuffer::I32(items) => overwrite_items(rows, items.as_slice(), patches),
-        PrimitiveBuffer::I64(items) => overwrite_items(rows, items.as_slice(), patches),
-    }
-}
-
-/// The same where the kind is known.
-#[tactic(auto, using(crate::proofs::Overwritten::steps))]
-fn overwrite_items<T: Element>(rows: &mut Vec<bool>, places: &[T], patches: &[bool])
-    requires within { AreWithin (numbers T.kind (map T.integer places.now) required)
-        (length rows.old.items) }
-    requires theirs { length patches.now ≡ length places.now }
-    ensures count { length rows.new.items ≡ length rows.old.items }
-    ensures kept { (j : ℕ)
-        → NoPlace (numbers T.kind (map T.integer places.now) required) (length places.now) j
-        → slice_index_or rows.new.items j false ≡ slice_index_or rows.old.items j false }
-    ensures overwritten { (j k : ℕ)
-        → IsLastPlace (numbers T.kind (map T.integer places.now) required) (length places.now) j k
-        → slice_index_or rows.new.items j false ≡ slice_index_or patches.now k false }
-{
-    let count = rows.len();
-    for k in 0..places.len() {
-        let place = place_at(places, k, count);
-        rows[place] = patches[k];
-    }
-}
-
-/// The place among so many that stands there.
-fn place_at<T: Element>(places: &[T], k: usize, count: usize) -> usize
-    requires stands { k < length places.now }
-    requires place { IsCode count
-        (content_at (numbers T.kind (map T.integer places.now) required) k) }
-    ensures names { position_of (content_at (numbers T.kind (map T.integer places.now) required) k)
-        ≡ Some result }
-    ensures within { result < count }
-{
-    let _count = count;
-    natural_of(places[k])
-}
-
-/// The number, and 0 in place of one below it.
-#[tactic(auto, using(crate::proofs::Overwritten::held))]
-fn natural_of<T: Element>(item: T) -> usize
-    ensures { result ≡ natural (T.integer item) }
-{
-    let number = item.get();
-    if number < 0 { 0 } else { number as usize }
 }

@@ -3,7 +3,7 @@ use Rattle.std.specs.Result.{IfOk}
 use Rattle.std.proofs.lemmas.Result.{IfOk-weaker}
 use Rattle.vortex_arrays_model.specs.Layout.{dictionary, len_of, IsSound}
 use Rattle.vortex_arrays_core.specs.LayoutOf.{layout_of}
-use Rattle.vortex_arrays_validity.specs.Places.{places_or, places_at}
+use Rattle.vortex_arrays_validity.specs.Places.{places_or}
 use Rattle.vortex_arrays_validity.proofs.PlaceLemmas.{constant_or, dictionary_or}
 use Rattle.vortex_arrays_validity.proofs.places.+places_or.Goals as goal
 
