@@ -40,6 +40,15 @@ fn known(alloc: Global, checks: &mut Checks<'_>) -> Result<(), DTypeError> {
     checks.holds("as_array, none", Validity::AllInvalid.as_array().is_none());
     checks.holds("into_array", some.into_array()?.is_some());
     checks.holds("into_array, none", Validity::NonNullable.into_array()?.is_none());
+    let some = by(alloc, &[true, false])?;
+    checks.holds(
+        "packed",
+        match some.packed() {
+            Some(bits) => bits.value(0) && !bits.value(1) && bits.len() == 2,
+            None => false,
+        },
+    );
+    checks.holds("packed, none", Validity::AllValid.packed().is_none());
     Ok(())
 }
 
