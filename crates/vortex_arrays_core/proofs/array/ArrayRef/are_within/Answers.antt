@@ -9,4 +9,4 @@ pub returns-in-Some : goal.returns-in-Some
 returns-in-Some c =
     let items = c.in-Primitive.items in
     let mine : c.args.self.now ≡ numbers (kind_of_numbers items) (integers_of items) (valid_of c.in-Primitive.validity) = search rules in
-    within_where c.args.self.now (kind_of_numbers items) (integers_of items) (valid_of c.in-Primitive.validity) c.in-Some.bits.now c.args.count c.are_within_where.result mine c.in-Some.ensures c.are_within_where.ensures
+    within_where c.args.self.now (kind_of_numbers items) (integers_of items) (valid_of c.in-Primitive.validity) c.in-Some.bits.now c.args.count c.are_within_where.result mine c.in-Some.ensures.bits c.are_within_where.ensures

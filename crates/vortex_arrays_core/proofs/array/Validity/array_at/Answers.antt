@@ -13,7 +13,7 @@ returns-in-Some-Primitive c =
     let places = c.in-Some-Primitive.places in
     let nulls = c.in-Some-Primitive.nulls in
     let codes : c.args.indices.now ≡ numbers (kind_of_numbers places) (integers_of places) (valid_of nulls) = search rules in
-    IfOk-weaker c.and.result _ _ (λ u both. taken_by_bits (valid_of c.args.self.now) c.args.indices.now c.in_ok-rows-2.rows (kind_of_numbers places) (integers_of places) (valid_of nulls) (valid_of u) c.in-Some-Primitive.rows.now c.in_ok-rows.rows c.len.result c.args.len c.in-Some-Primitive.ensures codes c.in_ok-rows-2.ensures c.in_ok-rows.ensures c.len.ensures.count c.requires.within both) c.and.ensures
+    IfOk-weaker c.and.result _ _ (λ u both. taken_by_bits (valid_of c.args.self.now) c.args.indices.now c.in_ok-rows-2.rows (kind_of_numbers places) (integers_of places) (valid_of nulls) (valid_of u) c.in-Some-Primitive.rows.now c.in_ok-rows.rows c.len.result c.args.len c.in-Some-Primitive.ensures.bits codes c.in_ok-rows-2.ensures c.in_ok-rows.ensures c.len.ensures.count c.requires.within both) c.and.ensures
 
 pub returns : goal.returns
 returns c = taken_by_array (valid_of c.args.self.now) (nullability_of (array_type_of c.args.indices.now)) (len_of c.args.indices.now) (λ i. position_of (content_at c.args.indices.now i)) c.in_ok-rows-3.rows c.in_ok-bits.bits c.requires.nullable c.in_ok-rows-3.ensures (c.in_ok-bits.ensures.count ∙ c.len-2.ensures.count)
