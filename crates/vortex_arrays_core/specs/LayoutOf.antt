@@ -1,5 +1,5 @@
 -- The layout of an array, whose children are seen as theirs.
-use Rattle.std.specs.Prelude.{◌≡◌, ℤ, length, Option, Some, None}
+use Rattle.std.specs.Prelude.{◌≡◌, ℤ, length, Option, Some, None, Bool as Truth, true, false}
 use Rattle.vortex_model.specs.Content.{Content, null, integer}
 use Rattle.vortex_arrays_model.specs.Layout.{Layout, Strings, texts, byte_strings, bools, numbers, strings, constant, dictionary, fixed_lists, list_views, records, Valid, required, all_valid, all_null, by_array}
 use Rattle.vortex_arrays_model.specs.Parts.{columns_of}
@@ -17,6 +17,11 @@ valid_of NonNullable = required
 valid_of AllValid = all_valid
 valid_of AllInvalid = all_null
 valid_of (Array a) = by_array a
+
+-- which rows are not null is said by truth values that lie packed, none of them null
+abbrev pub is_packed : Valid → Truth
+is_packed (by_array (bools bs required)) = true
+is_packed v = false
 
 abbrev pub strings_of : StringKind → Strings
 strings_of Utf8 = texts

@@ -3,6 +3,5 @@ pub mod Filter
 pub mod Flags
 pub mod LayoutFalls
 pub mod LayoutOf
-pub mod Packed
 pub mod Picking
 pub mod RawRows

@@ -3,8 +3,7 @@ ghost use Rattle.std.specs.Prelude.{◌≡◌, is_some, IfOk, IfErr, IfSome};
 ghost use Rattle.vortex_dtype_ptype.specs.View.{nullability_of_flag};
 ghost use Rattle.vortex_arrays_model.specs.Layout.{nullability_by, bools, required, by_array, len_of, HasLength};
 ghost use Rattle.vortex_arrays_model.specs.Column.{IsValidInBoth};
-ghost use Rattle.vortex_arrays_core.specs.LayoutOf.{valid_of};
-ghost use Rattle.vortex_arrays_core.specs.Packed.{is_packed};
+ghost use Rattle.vortex_arrays_core.specs.LayoutOf.{valid_of, is_packed};
 ghost use Rattle.vortex_arrays_core.specs.Faults.{IsValidityFault};
 
 use crate::array::{ArrayLayout, ArrayRef, Validity};
@@ -45,20 +44,17 @@ impl Validity {
         Ok(())
     }
 
-    /// The packed bits that are true where a row is not null. `None` where no array says so, since
-    /// no row is null or each is, and where that array is laid out otherwise.
+    /// The bits that are true where a row is not null, where they lie packed and can't be null.
     pub fn packed(&self) -> Option<&BitBuffer>
         ensures when { is_some result ≡ is_packed (valid_of self.now) }
-        ensures bits { IfSome result
-            (λ bits. valid_of self.now ≡ by_array (bools bits.now required)) }
+        ensures bits { IfSome result (λ b. valid_of self.now ≡ by_array (bools b.now required)) }
     {
-        let Validity::Array(rows) = self else {
-            return None;
-        };
-        match &rows.data.layout {
-            ArrayLayout::Bool(bits, Validity::NonNullable) => Some(bits),
-            _ => None,
+        if let Validity::Array(rows) = self {
+            if let ArrayLayout::Bool(bits, Validity::NonNullable) = &rows.data.layout {
+                return Some(bits);
+            }
         }
+        None
     }
 
     /// Null where either is, as Vortex's `Validity::and`.
