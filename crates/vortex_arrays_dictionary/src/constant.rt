@@ -44,7 +44,7 @@ fn are_equal(rows: &KeyedRows<'_>) -> bool
     }
 }
 
-// The same of rows whose keys are integers. Their kind is matched once.
+// Whether there are rows and all are equal, by integers as keys. Their kind is matched once.
 fn items_equal(items: &PrimitiveBuffer, present: &[bool]) -> bool
     requires { length present.now ≡ length (integers_of items.now) }
     ensures { (cs : List Content) → AreKeysOf int_eq (integers_of items.now) present.now cs
