@@ -1,19 +1,23 @@
 //! Calls what can be asked of values with their type, conversions from and to the machine's values,
-//! and the parts of views.
+//! the parts of views, the makers of nested values, and the zeros and defaults of types.
 #![tactic(auto)]
 
 mod checks;
 mod compare;
+mod defaults;
+mod extensions;
 mod from_native;
 mod from_scalar;
 mod into_native;
 mod laws;
 mod make;
+mod makers;
 mod methods;
 mod nested_views;
 mod parts;
 mod reinterpret;
 mod samples;
+mod types;
 mod values;
 mod views;
 
@@ -47,10 +51,19 @@ fn run(alloc: Global, checks: &mut Checks<'_>) -> Done {
     Ok(())
 }
 
+fn run_nested(alloc: Global, checks: &mut Checks<'_>) -> Result<(), DTypeError> {
+    makers::run(alloc, checks)?;
+    extensions::run(alloc, checks)?;
+    checks.end_part("nested values are made of their parts");
+    defaults::run(alloc, checks)?;
+    checks.end_part("types have zeros and defaults");
+    Ok(())
+}
+
 fn main(rt: HostRuntime) -> ExitCode {
     let mut checks = Checks::new(&rt);
     let outcome = match run(rt.alloc(), &mut checks) {
-        Ok(()) => Ok(()),
+        Ok(()) => run_nested(rt.alloc(), &mut checks),
         Err(ScalarError::Memory) => Err(DTypeError::Memory),
         Err(error) => {
             let _ = println!(rt; "refused, since {error}");

@@ -1,13 +1,21 @@
-//! Calls what is known of statistics: which there are, their types, and sets of them.
+//! Calls what is known of statistics: which there are, their types, and sets of them; and what tells
+//! the truths of bound expressions: at the rows of arrays of each layout, and of what statistics
+//! tell.
 #![tactic(auto)]
 
 mod bitsets;
 mod checks;
 mod combining;
+mod expressions;
+mod layouts;
+mod make_arrays;
 mod merges;
 mod pairs;
+mod placeholders;
 mod providers;
+mod refusals;
 mod sets;
+mod statistics;
 mod stats;
 mod typed_sets;
 mod types;
@@ -42,10 +50,22 @@ fn run(alloc: Global, checks: &mut Checks<'_>) -> Done {
     Ok(())
 }
 
+fn run_truths(alloc: Global, checks: &mut Checks<'_>) -> Result<(), DTypeError> {
+    layouts::run(alloc, checks)?;
+    checks.end_part("truths at the rows of each layout");
+    statistics::run(alloc, checks)?;
+    checks.end_part("truths by statistics");
+    placeholders::run(alloc, checks)?;
+    checks.end_part("placeholders over bound inputs");
+    refusals::run(alloc, checks)?;
+    checks.end_part("refusals, in their order");
+    Ok(())
+}
+
 fn main(rt: HostRuntime) -> ExitCode {
     let mut checks = Checks::new(&rt);
     let outcome = match run(rt.alloc(), &mut checks) {
-        Ok(()) => Ok(()),
+        Ok(()) => run_truths(rt.alloc(), &mut checks),
         Err(StatsError::Memory) => Err(DTypeError::Memory),
         Err(error) => {
             let _ = println!(rt; "refused, since {error}");
