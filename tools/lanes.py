@@ -1,11 +1,8 @@
 #!/usr/bin/env python3
-"""Prints how many checks may run side by side here: on three of four processors, and as many as
-memory holds.
+"""Prints how many checks may run side by side here: one a processor, and as many as memory holds.
 
-A processor is one that this process may run on, or fewer by the quota of its control group. Checks
-on all of four processors slow one another down by so much that three take less of the processors
-and hardly longer. A check of a crate takes up to three gigabytes; six parts of seven of what is
-free are lent.
+A processor is one that this process may run on, or fewer by the quota of its control group. A check
+of a crate takes up to three gigabytes; six parts of seven of what is free are lent.
 """
 import os
 import re
@@ -55,8 +52,7 @@ def free_memory():
 
 
 def lanes():
-    count = processors()
-    return max(1, min(count - count // 4, free_memory() * 6 // (7 * CHECK)))
+    return max(1, min(processors(), free_memory() * 6 // (7 * CHECK)))
 
 
 if __name__ == "__main__":
