@@ -16,8 +16,8 @@ use vortex_arrays_buffer::primitive_buffer::PrimitiveBuffer;
 use vortex_arrays_core::array::ArrayRef;
 
 /// Whether an array of truth values, integers, texts or bytes has rows and all are equal, null ones
-/// to one another, as Vortex's `is_constant`. It makes no value of a row, and ends at the first row
-/// that differs. `None` where the array itself is not laid out plain.
+/// to one another, as Vortex's `is_constant`. It makes no value of a row, and compares keys of rows
+/// up to the first that differs. `None` where the array itself is not laid out plain.
 #[tactic(auto, using(crate::proofs::KeyedLemmas::told))]
 pub fn is_constant(alloc: Global, array: &ArrayRef) -> Result<Option<bool>, AllocError>
     ensures when { IfOk result (λ found. is_some found ≡ is_plain_leaf array.now) }
