@@ -1,19 +1,23 @@
 #!/usr/bin/env python3
 """Tries wrong bodies function by function: each crates/NAME/wrong-bodies/*.edit has to be refused.
 
-mutants.py [--anew] [--jobs N] [CRATE ..]    over the libraries that `rt ci` or `rt lib` built;
-                                             all crates that have such a folder, if none is named
+mutants.py [--anew] [--jobs N] [--unedited] [CRATE ..]    over the libraries that `rt ci` or
+                                                          `rt lib` built; all crates that have such
+                                                          a folder, if none is named
 
 An edit begins with a line `function: PATH`, the function that has to lose its proof, named as a
 check prints it, below its crate. What follows is read as `rt must-fail` reads an edit.
 
 `rt ci` proves a crate whole once more for its first must-fail edit, which costs far more than the
-functions that the edits are of. Here only those are checked, with what they call: each under its
-edit, where it must not be proved. As they stand they have to be: where the crate's own library,
-which only a proved crate has, is older than one of its files, they are checked so first. A proof
-reads the contracts of what its function calls and no bodies. So edits of different functions are
-tried by one check, where each function has to lose its own proof; one that only calls what lost it
-is tried alone, and so is one that does not fit behind the others.
+functions that the edits are of. Here only those are checked, each under its edit, where it must not
+be proved. As they stand they have to be: where the crate's own library, which only a proved crate
+has, is older than one of its files, they are checked so first, with what they call. A proof reads
+the contracts of what its function calls and no bodies. So edits of different functions are tried by
+one check, where each function has to lose its own proof; those that only call what lost it are
+tried again without it, and so is one that does not fit behind the others. And what the library
+shows to be proved is not proved again: in the copy that is checked the other functions have no body
+and a hole for a proof (left_out.py). `--unedited` sees that in these copies, with no edit written,
+each function of an edit has its proof: it is run where left_out.py was changed.
 
 A verdict is kept in the folder nuldvaki/mutants of XDG_CACHE_HOME, or else of ~/.cache, by the
 checksum of all that it rests on: the line of `rt version`; src, specs and proofs of the crate and
@@ -40,12 +44,13 @@ sys.dont_write_bytecode = True
 TOP = os.path.dirname(os.path.dirname(os.path.abspath(__file__)))
 sys.path.insert(0, os.path.join(TOP, "tools"))
 import lanes
+import left_out
 import sources
 
 PARTS = ("src", "specs", "proofs")
 FOLDER = "wrong-bodies"
 # To be raised when edits are judged in another way, so that no earlier verdict counts.
-JUDGED_BY = "2"
+JUDGED_BY = "3"
 WELL = "refused, as it must be"
 
 
@@ -61,13 +66,18 @@ class Kit:
     Where a newer kit no longer has one of them, the run ends here, and only here is it mended."""
 
     # Of `rattle check --help`: the flags that are used, and how a check with `--only` ends.
-    FLAGS = ("--only <PATH>", "--incremental <DIR>", "--jobs <N>", "`only=N proved=M`")
-    LAST_LINE = re.compile(r"only=(\d+) proved=(\d+)")
+    FLAGS = ("--only <PATH>", "--incremental <DIR>", "--jobs <N>", "--allow-holes")
+    FLAGS += ("`only=N proved=M`", "`only=N holes=K`")
+    LAST_LINE = re.compile(r"only=(\d+) (?:proved|holes)=(\d+)")
+    # In a built library, the modules that its build made: a line each, a list that names it first.
+    MADE = os.path.join("toolchain", "made.json")
     # A function that isn't proved; one that isn't for a reason of its own, and not only since it
     # calls another; and a path that `--only` finds nothing by.
     UNPROVED = r"^fn %s::([\w:]+): (?:not proved|no proof)"
     LOST = UNPROVED + "(?!: it calls )"
     UNKNOWN = re.compile(r"error: `\w+` has no function `([\w:]+)`")
+    # A name that a file of the copy does not find in a module.
+    LACKS = r"^(?:note: )?\./(\S+)/\w+\.antt:[\d:]+ error: module `(\S+)` has no "
 
     def __init__(self):
         path = shutil.which("rt") or stop("there is no `rt` on the path")
@@ -128,11 +138,10 @@ class Kit:
             self.unfit("`%s` ends with status %d" % (" ".join(words), ran.returncode))
         return ran.stdout.strip()
 
-    def check(self, crate, copy, kept, functions):
-        """What the check of these functions says of a copy, over what checks before it kept."""
+    def check(self, crate, copy, flags, functions):
+        """What the check of these functions says of a copy."""
         only = [word for it in functions for word in ("--only", it)]
-        kept = ["--incremental", kept]
-        words = [*self.guarded(), self.rattle, "check", *self.words[crate.name], *kept, *only]
+        words = [*self.guarded(), self.rattle, "check", *self.words[crate.name], *flags, *only]
         with tempfile.TemporaryFile("w+", errors="replace") as said:
             how = {"stdin": subprocess.DEVNULL, "stdout": said, "stderr": subprocess.STDOUT}
             ran = subprocess.Popen(words, cwd=copy, **how)
@@ -157,6 +166,21 @@ class Kit:
     def lost(self, crate, said):
         """The functions that lost their own proof."""
         return set(re.findall(self.LOST % crate.name, said, re.M))
+
+    def strayed(self, crate, said):
+        """The first line that tells of a file which can't be read for want of what is not of its
+        own function, or ''. An edit changes what can be named of its function alone."""
+        for found in re.finditer(self.LACKS, said, re.M):
+            own = "Rattle.%s.%s." % (crate.name, found[1].replace("/", "."))
+            if not found[2].startswith(own):
+                return found[0]
+        return ""
+
+    def made(self, crate):
+        """The modules that the build of the crate's library made below `proofs`."""
+        with open(os.path.join(os.path.dirname(crate.library()), self.MADE), "rb") as it:
+            names = {json.loads(line)[0] for line in it}
+        return {it[len("proofs/") :] for it in names if it.startswith("proofs/")}
 
 
 class Edit:
@@ -302,7 +326,9 @@ class Bench:
 
     def __init__(self, kit, crate, room):
         self.kit, self.crate = kit, crate
-        self.copy, self.kept = os.path.join(room, "crate"), os.path.join(room, "kept")
+        self.copy, kept = os.path.join(room, "crate"), os.path.join(room, "kept")
+        # What earlier checks of the copy found is kept for those behind them.
+        self.flags = ["--incremental", kept]
         for part in PARTS:
             if os.path.isdir(os.path.join(crate.folder, part)):
                 shutil.copytree(os.path.join(crate.folder, part), os.path.join(self.copy, part))
@@ -324,9 +350,15 @@ class Bench:
                 file.write(text)
         return were
 
+    def leave_out(self, edits):
+        """Leaves nothing to be proved in the copy but what the functions of these edits are."""
+        functions = {it.function for it in edits}
+        left_out.Copy(self.crate.name, self.copy, self.kit.made(self.crate), functions).leave_out()
+        self.flags.append("--allow-holes")
+
     def check(self, edits):
         functions = sorted({it.function for it in edits})
-        return self.kit.check(self.crate, self.copy, self.kept, functions)
+        return self.kit.check(self.crate, self.copy, self.flags, functions)
 
     def sound(self, edits):
         """The edits whose functions are proved as they stand, and why the others can't be tried."""
@@ -342,6 +374,14 @@ class Bench:
             why.update({it.name: told for it in lost})
             edits = [it for it in edits if it not in lost]
         return edits, why
+
+    def unedited(self, edits):
+        """Each edit, and why its function has no proof in the copy as it is, or ''."""
+        said = self.check(edits)
+        ended, last = self.kit.ends(said)
+        lost = self.kit.unproved(self.crate, said)
+        is_well = lambda it: ended and it.function not in lost
+        return [(it.name, "" if is_well(it) else "NOT PROVED in the copy: " + last) for it in edits]
 
     def apply(self, group):
         """Writes the edits into the copy, one behind the other.
@@ -366,6 +406,7 @@ class Bench:
         alone = [it for edit in apart for it in self.judged([edit])]
         lines = said.split("\n")
         unread = next((it for it in lines if self.kit.unread(it, were)), "")
+        unread = unread or self.kit.strayed(self.crate, said)
         ended, last = self.kit.ends(said)
         if len(group) > 1 and (unread or not ended):
             # One of them can't be read, or the check broke off: each is tried alone.
@@ -377,6 +418,9 @@ class Bench:
         unclear = [it for it in group if it.function not in lost]
         if len(group) == 1:
             return found + [(it, "NOT REFUSED: " + last, True) for it in unclear]
+        if len(unclear) < len(group):
+            # Each may only call what lost its proof, which now stands as it was.
+            return found + (self.judged(unclear) if unclear else [])
         return found + [it for edit in unclear for it in self.judged([edit])]
 
 
@@ -385,9 +429,9 @@ def lacking(crate):
     return next((it for it in crate.below if not os.path.isfile(it.library())), None)
 
 
-def tried(kit, crate, anew):
+def tried(kit, crate, anew, unedited):
     """Each of the crate's edits with its verdict, '' where it is refused, and how many were tried.
-    """
+    With `unedited`, whether their functions are proved in the copy that they are tried on."""
     edits, missing = crate.edits(), lacking(crate)
     if missing:
         why = "not tried: the library %s is not built: run `rt ci`" % missing.name
@@ -400,7 +444,11 @@ def tried(kit, crate, anew):
         for edit in new:
             found[edit.name] = bench.read(edit)
         new = [it for it in new if not found[it.name]]
-        if not crate.is_proved():
+        if new and crate.is_proved():
+            bench.leave_out(new)
+            if unedited:
+                return bench.unedited(new), len(new)
+        elif new:
             new, why = bench.sound(new)
             found.update(why)
         for group in in_groups(new):
@@ -414,6 +462,7 @@ def arguments():
     usage = argparse.ArgumentParser(description="Tries the wrong bodies of crates.")
     usage.add_argument("--anew", action="store_true", help="try also what an earlier run tried")
     usage.add_argument("--jobs", type=int, default=0, metavar="N", help="N crates at a time")
+    usage.add_argument("--unedited", action="store_true", help="check the copies with no edit")
     usage.add_argument("crates", nargs="*", metavar="CRATE")
     return usage.parse_args()
 
@@ -430,11 +479,13 @@ def main():
     crates = sorted((it for it in crates if it.edits()), key=lambda it: -len(it.edits()))
     passed, failed, new = 0, 0, 0
     with concurrent.futures.ThreadPoolExecutor(given.jobs or lanes.lanes()) as pool:
-        runs = pool.map(lambda it: tried(kit, it, given.anew), crates)
+        anew = given.anew or given.unedited
+        runs = pool.map(lambda it: tried(kit, it, anew, given.unedited), crates)
         for crate, (found, count) in zip(crates, runs):
             new += count
             for name, why in found:
-                print("mutants %s/%s: %s" % (crate.name, name, why or WELL), flush=True)
+                well = "proved in the copy" if given.unedited else WELL
+                print("mutants %s/%s: %s" % (crate.name, name, why or well), flush=True)
                 passed, failed = passed + (not why), failed + bool(why)
             if count:
                 took = (crate.name, crate.checks, crate.seconds)

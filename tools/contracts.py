@@ -33,6 +33,8 @@ import sources
 # the names stand that its file brings in by `ghost use`.
 Contract = collections.namedtuple("Contract", "crate path clauses uses")
 Clause = collections.namedtuple("Clause", "word text")
+# A function's body: the function's name, and where its `fn`, the body's brace and its end are.
+Body = collections.namedtuple("Body", "name starts opens ends")
 ITEM = re.compile(
     r"\b(?:(impl)\b|(?:unsafe\s+)?(trait)\s+(\w+)|(mod)\s+(\w+)\s*(?=\{)|"
     r"(macro_rules)!\s*(\w+)|(fn)\s+([$\w]+)|(ghost)\s+(?!use\b)(\w+))|([{(\[])"
@@ -81,11 +83,11 @@ def names_of(use):
 
 
 class Reader:
-    """Collects the contracts of one file."""
+    """Collects the contracts of one file, and where its bodies are."""
 
     def __init__(self, crate, text):
         self.crate, self.code, self.text = crate, sources.blanked(text), without_comments(text)
-        self.uses, self.found = {}, []
+        self.uses, self.found, self.bodies = {}, [], []
         for use in USE.finditer(self.text):
             self.uses.update(names_of(use))
 
@@ -139,7 +141,9 @@ class Reader:
         self.keep((*path, item[9]), clauses)
         if clause[2] == ";":
             return clause.end()
-        return sources.end_of_group(self.code, clause.start())
+        ends = sources.end_of_group(self.code, clause.start())
+        self.bodies.append(Body(item[9], item.start(), clause.start(), ends))
+        return ends
 
     def start_of_parameters(self, at, first):
         """The bracket behind the name and its type parameters, whose bounds may have some too."""
