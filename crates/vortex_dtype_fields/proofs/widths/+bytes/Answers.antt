@@ -6,7 +6,8 @@ use Rattle.vortex_dtype_core.specs.View.{type_of, fields_of}
 use Rattle.vortex_dtype_core.proofs.Views.{type_of-Primitive, type_of-FixedSizeList}
 use Rattle.vortex_dtype_fields.proofs.Counted.{list_counted, field_uncounted, sum_uncounted, sum_next, still_countable, all_counted}
 use Rattle.vortex_dtype_fields.proofs.Digits.{numbers_counted}
-use Rattle.vortex_dtype_core.proofs.Sizes.{type_size, fields_size, field_smaller}
+use Rattle.vortex_dtype_core.proofs.Sizes.{type_size, fields_size, field_smaller, levels}
+use borrow.Author.Rules.{get_or_read}
 use Rattle.vortex_dtype_fields.proofs.widths.+bytes.Goals as goal
 
 pub counted_bytes-returns-in-Primitive : goal.counted_bytes-returns-in-Primitive
@@ -44,3 +45,30 @@ counted_bytes_of_fields-loop-field-preserved t c = record {
 
 pub counted_bytes_of_fields-returns : goal.counted_bytes_of_fields-returns
 counted_bytes_of_fields-returns t c = all_counted c.args.fields.now c.loop-field.field-index c.loop-field.all c.loop-field-test.false c.loop-field.invariant.small c.loop-field.invariant.sum c.loop-field.invariant.left
+
+pub counted_bytes-returns-in-Map : goal.counted_bytes-returns-in-Map
+counted_bytes-returns-in-Map t c = grind (arith, levels)
+
+pub counted_bytes_of_fields-loop-field-smaller : goal.counted_bytes_of_fields-loop-field-smaller
+counted_bytes_of_fields-loop-field-smaller t c = grind (arith, levels, get_or_read, c.well_formed, c.loop-field.invariant, c.loop-field.far-field-index, c.loop-field-test.true)
+
+pub counted_bytes-returns-in-Struct : goal.counted_bytes-returns-in-Struct
+counted_bytes-returns-in-Struct t c = grind (arith, levels)
+
+pub counted_bytes-returns-in-Utf8-3 : goal.counted_bytes-returns-in-Utf8-3
+counted_bytes-returns-in-Utf8-3 t c = grind (arith, levels)
+
+pub counted_bytes_of_fields-offset_bounds-fields-field-index : goal.counted_bytes_of_fields-offset_bounds-fields-field-index
+counted_bytes_of_fields-offset_bounds-fields-field-index t c = grind (arith, levels)
+
+pub counted_bytes-returns-in-Extension : goal.counted_bytes-returns-in-Extension
+counted_bytes-returns-in-Extension t c = grind (arith, levels, get_or_read)
+
+pub counted_bytes-returns-in-Map-2 : goal.counted_bytes-returns-in-Map-2
+counted_bytes-returns-in-Map-2 t c = grind (arith, levels)
+
+pub counted_bytes_of_fields-loop-field-init : goal.counted_bytes_of_fields-loop-field-init
+counted_bytes_of_fields-loop-field-init t c = grind (arith, levels)
+
+pub counted_bytes-returns-in_err-bytes-in-FixedSizeList : goal.counted_bytes-returns-in_err-bytes-in-FixedSizeList
+counted_bytes-returns-in_err-bytes-in-FixedSizeList t c = grind (arith, levels, get_or_read)
