@@ -27,14 +27,8 @@ returns-in_err-value-clause-flag c = grind (arith, (as_err c.from_residual-in_er
 pub returns-in_err-pushed-clause-flag : goal.returns-in_err-pushed-clause-flag
 returns-in_err-pushed-clause-flag c = grind (arith, (as_err c.from_residual-in_err-pushed.ensures.0).1)
 
-pub of_dict-requires : goal.of_dict-requires
-of_dict-requires c κs = grind (arith, pushed, c.requires-raw)
-
 pub returns-clause-flag : goal.returns-clause-flag
 returns-clause-flag c = grind (arith, pushed)
-
-pub same-codes : goal.same-codes
-same-codes c = grind (arith, pushed)
 
 pub returns-in_err-value-clause-masked : goal.returns-in_err-value-clause-masked
 returns-in_err-value-clause-masked c = grind (arith, (as_err c.from_residual-in_err-value.ensures.0).1)

@@ -33,9 +33,6 @@ hash_variants-loop-variant-preserved g t c =
     c.loop-variant-test.true c.variant-item.is (c.hash.ensures ∙ ap (λ n. fold g.H.Hasher.write c.loop-variant.state (fed.str n)) c.as_str.ensures) (search rules) c.hash_type.ensures
     ∙ c.loop-variant.invariant
 
-pub hash_type-hash_type-requires-in-Map-2 : goal.hash_type-hash_type-requires-in-Map-2
-hash_type-hash_type-requires-in-Map-2 t c κs within = grind (ints, arith, writes, get_or_read)
-
 pub hash_fields-loop-field-init : goal.hash_fields-loop-field-init
 hash_fields-loop-field-init t c = grind (arith, writes)
 
@@ -75,14 +72,8 @@ hash_fields-offset_bounds-fields-field-index t c = grind (arith, writes)
 pub hash_type-hash_variants-requires : goal.hash_type-hash_variants-requires
 hash_type-hash_variants-requires t c κs within = grind (ints, arith, writes)
 
-pub hash_fields-fact_in-hash : goal.hash_fields-fact_in-hash
-hash_fields-fact_in-hash t c = grind (arith, writes, get_or_read)
-
 pub hash_type-returns-in-Map : goal.hash_type-returns-in-Map
 hash_type-returns-in-Map t c = grind (ints, arith, writes, get_or_read)
-
-pub hash_variants-fact_in-hash : goal.hash_variants-fact_in-hash
-hash_variants-fact_in-hash t c = grind (ints, arith, writes, get_or_read)
 
 pub hash_type-hash_fields-requires : goal.hash_type-hash_fields-requires
 hash_type-hash_fields-requires t c κs within = grind (ints, arith, writes)

@@ -49,23 +49,14 @@ counted_bytes_of_fields-returns t c = all_counted c.args.fields.now c.loop-field
 pub counted_bytes-returns-in-Map : goal.counted_bytes-returns-in-Map
 counted_bytes-returns-in-Map t c = grind (arith, levels)
 
-pub counted_bytes_of_fields-loop-field-smaller : goal.counted_bytes_of_fields-loop-field-smaller
-counted_bytes_of_fields-loop-field-smaller t c = grind (arith, levels, get_or_read, c.well_formed, c.loop-field.invariant, c.loop-field.far-field-index, c.loop-field-test.true)
-
 pub counted_bytes-returns-in-Struct : goal.counted_bytes-returns-in-Struct
 counted_bytes-returns-in-Struct t c = grind (arith, levels)
-
-pub counted_bytes-returns-in-Utf8-3 : goal.counted_bytes-returns-in-Utf8-3
-counted_bytes-returns-in-Utf8-3 t c = grind (arith, levels)
 
 pub counted_bytes_of_fields-offset_bounds-fields-field-index : goal.counted_bytes_of_fields-offset_bounds-fields-field-index
 counted_bytes_of_fields-offset_bounds-fields-field-index t c = grind (arith, levels)
 
 pub counted_bytes-returns-in-Extension : goal.counted_bytes-returns-in-Extension
 counted_bytes-returns-in-Extension t c = grind (arith, levels, get_or_read)
-
-pub counted_bytes-returns-in-Map-2 : goal.counted_bytes-returns-in-Map-2
-counted_bytes-returns-in-Map-2 t c = grind (arith, levels)
 
 pub counted_bytes_of_fields-loop-field-init : goal.counted_bytes_of_fields-loop-field-init
 counted_bytes_of_fields-loop-field-init t c = grind (arith, levels)

@@ -25,9 +25,6 @@ returns-in_err-validity-clause-column c = grind (arith, (as_err c.from_residual-
 pub returns-in_err-rest-clause-column : goal.returns-in_err-rest-clause-column
 returns-in_err-rest-clause-column c = grind (arith, (as_err c.from_residual-in_err-rest.ensures.0).1)
 
-pub same-column : goal.same-column
-same-column c = grind (arith, taken, get_or_read)
-
 pub returns-in_err-names-clause-column : goal.returns-in_err-names-clause-column
 returns-in_err-names-clause-column c = grind (arith, (as_err c.from_residual-in_err-names.ensures.0).1)
 

@@ -19,8 +19,5 @@ returns-in_err-all-clause-made c = grind (arith, (as_err c.from_residual-in_err-
 pub returns-in_err-tags-clause-made : goal.returns-in_err-tags-clause-made
 returns-in_err-tags-clause-made c = grind (arith, (as_err c.from_residual.ensures.0).1)
 
-pub same-names : goal.same-names
-same-names c = grind (arith, numbered, get_or_read)
-
 pub returns-in_err-all-clause-refused : goal.returns-in_err-all-clause-refused
 returns-in_err-all-clause-refused c = grind (arith, numbered, get_or_read)
