@@ -15,8 +15,9 @@ sys.path.insert(0, os.path.join(TOP, "tools"))
 import contracts
 import sources
 
-# The files of a function's proof. The last stands for all of it.
-OF_A_PROOF = ("Answers.antt", "Invariants.antt", "Proof.antt")
+# What a proof is made with, and the file that stands for a whole one.
+GIVEN = ("Answers.antt", "Invariants.antt")
+PROOF = "Proof.antt"
 HOLE = """use Rattle.{crate}.proofs.{module}.Statement.{{statement}}
 
 pub {name}_spec : {{M : Type 1}} → statement M
@@ -52,7 +53,7 @@ def of_closure(path):
 
 def files_below(folder, ending):
     for at, _, names in os.walk(folder):
-        yield from (os.path.join(at, it) for it in names if it.endswith(ending))
+        yield from (it for it in (os.path.join(at, name) for name in names) if it.endswith(ending))
 
 
 class Copy:
@@ -99,14 +100,11 @@ class Copy:
                 it.write(self.without_bodies(text))
         self.remove_proofs()
         kept = {it for cycle in self.cycles if self.is_kept(cycle) for it in self.cycles[cycle]}
-        written = {os.path.dirname(it) for it in files_below(self.proofs, self.hole_file())}
+        written = {os.path.dirname(it) for it in files_below(self.proofs, "/" + PROOF)}
         written = {os.path.relpath(it, self.proofs) for it in written}
         for path in (self.proofs_made() | written) - self.kept - kept:
             if self.is_function(path):
                 self.put_hole(path)
-
-    def hole_file(self):
-        return OF_A_PROOF[-1]
 
     def without_bodies(self, text):
         for body in reversed(Bodies(self.crate, text).bodies):
@@ -143,9 +141,9 @@ class Copy:
     def put_hole(self, path):
         folder = os.path.join(self.proofs, path)
         os.makedirs(folder, exist_ok=True)
-        for it in OF_A_PROOF:
+        for it in GIVEN:
             if os.path.exists(os.path.join(folder, it)):
                 os.remove(os.path.join(folder, it))
         module = path.replace("/", ".")
-        with open(os.path.join(folder, self.hole_file()), "w", encoding="utf-8") as it:
+        with open(os.path.join(folder, PROOF), "w", encoding="utf-8") as it:
             it.write(HOLE.format(crate=self.crate, module=module, name=last_of(path)))
