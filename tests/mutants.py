@@ -444,6 +444,9 @@ def tried(kit, crate, anew, unedited):
         for edit in new:
             found[edit.name] = bench.read(edit)
         new = [it for it in new if not found[it.name]]
+        if unedited and not crate.is_proved():
+            why = "not tried: the library %s is older than its files: run `rt ci`" % crate.name
+            return [(it.name, why) for it in edits], 0
         if new and crate.is_proved():
             bench.leave_out(new)
             if unedited:
