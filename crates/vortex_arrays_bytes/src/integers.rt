@@ -190,11 +190,11 @@ fn read_by_row<T: Element>(
         (λ items. StandInBytes T.kind width (valid_of validity.now) bytes.now
         (map T.integer items.items)) }
 {
-    let mut items = Vec::with_capacity(alloc, rows)?;
+    let mut items = vec![in alloc; zero(); rows]?;
     let mut start = 0;
     for i in 0..rows {
         let (item, next) = item_at(bytes, start, width, validity.is_valid(i, rows));
-        items.push(item)?;
+        items[i] = item;
         start = next;
     }
     Ok(items)

@@ -68,9 +68,8 @@ Value = Option ScalarValue
 abbrev Lent : Type 0
 Lent = Option (Bor ScalarValue)
 
-pub built_valid : (k : LogicalType) (a : Layout) (vs : List Value) (bs : List Lent) → array_type_of a ≡ k → (AreOf (array_type_of a) [] → AreOf (array_type_of a) vs) → map raw_at bs ≡ map raw_in vs → All (λ b. valid k (raw_at b) ≡ true) bs
-built_valid k a vs bs kind f e =
-    valid_lent k vs bs e (subst (λ j. AreOf j vs) kind (f (All-nil (λ row. valid (array_type_of a) (raw_in row) ≡ true))))
+pub built_valid : (k : LogicalType) (a : Layout) (vs : List Value) (bs : List Lent) → array_type_of a ≡ k → AreOf (array_type_of a) vs → map raw_at bs ≡ map raw_in vs → All (λ b. valid k (raw_at b) ≡ true) bs
+built_valid k a vs bs kind h e = valid_lent k vs bs e (subst (λ j. AreOf j vs) kind h)
 
 pub built_part : (k : LogicalType) (a r : Layout) (vs : List Value) (bs : List Lent) → array_type_of a ≡ k → map content_in vs ≡ rows_of a → map raw_at bs ≡ map raw_in vs → array_type_of r ≡ k → rows_of r ≡ map value_content bs → IsPlainLayout r → IsPlainPart k a r
 built_part k a r vs bs own rows e kind made plain = record {

@@ -1,7 +1,7 @@
 -- Rows of arrays end to end.
-use Rattle.std.proofs.Common.{◌≡◌, ◌<◌, ◌≤◌, ◌+◌, ◌^◌, ◌↔◌, ℕ, true, false, ◌&&◌, IsTrue, None, List, [], ◌∷◌, ◌++◌, length, map, take, drop, get_or, Option, Bor, inl, inr, refl, sym, ap, subst, ◌∙◌, append_assoc, add-one, arith}
+use Rattle.std.proofs.Common.{◌≡◌, ◌<◌, ◌≤◌, ◌+◌, ◌^◌, ◌↔◌, ℕ, true, false, ◌&&◌, IsTrue, None, List, [], ◌∷◌, ◌++◌, length, map, take, drop, set, get_or, Option, Bor, inl, inr, refl, sym, ap, subst, ◌∙◌, add-one, arith}
 use Rattle.std.specs.List.{All, list_all}
-use Rattle.std.proofs.lemmas.List.{length-map, map-append, get_or-map, take_more, take_all, drop_all, append-nil, map-id}
+use Rattle.std.proofs.lemmas.List.{length-map, length-set, map-append, get_or-map, take_more, take_more_set, take_all, drop_all, append-nil, map-id}
 use Rattle.std.proofs.lemmas.List.Concat.{flat_map-append}
 use Rattle.std.proofs.lemmas.List.Sums.{sum_by-cons}
 use Rattle.std.proofs.lemmas.List.Elements.{All-nil, All-append, All-cons, All-tail}
@@ -58,35 +58,40 @@ Value = Option ScalarValue
 abbrev pub AreOf : LogicalType → List Value → Type 0
 AreOf k vs = All (λ row. valid k (raw_in row) ≡ true) vs
 
--- the first rows of the array stand behind those that were there
-pub record IsPushed (a : Layout) (old new : List Value) (i : ℕ) : Type 0 where
-  pub rows : map content_in new ≡ map content_in old ++ take i (rows_of a)
-  pub valid : AreOf (array_type_of a) old → AreOf (array_type_of a) new
-
-pub pushed_none : (a : Layout) (old : List Value) → IsPushed a old old 0
-pushed_none a old = record { rows = sym (append-nil (map content_in old)); valid = λ h. h }
-
 one_valid : (k : LogicalType) (vs ws : List Value) (v : Value) → AreOf k vs → valid k (raw_in v) ≡ true → ws ≡ vs ++ v ∷ [] → AreOf k ws
 one_valid k vs ws v h e made = subst (AreOf k) (sym made) (All-append (λ row. valid k (raw_in row) ≡ true) vs (v ∷ []) h (All-cons (λ row. valid k (raw_in row) ≡ true) v [] e (All-nil (λ row. valid k (raw_in row) ≡ true))))
 
-pub pushed_more : (a : Layout) (old new next : List Value) (i : ℕ) (v : Value) → IsPushed a old new i → i < len_of a → content_in v ≡ content_at a i → valid (array_type_of a) (raw_in v) ≡ true → next ≡ new ++ v ∷ [] → IsPushed a old next (i + 1)
-pushed_more a old new next i v h l e f made =
+-- The first rows of the array stand in their places, and there is room for all.
+pub record ArePlaced (a : Layout) (vs : List Value) (i : ℕ) : Type 0 where
+  pub room : length vs ≡ len_of a
+  pub rows : map content_in (take i vs) ≡ take i (rows_of a)
+  pub valid : AreOf (array_type_of a) (take i vs)
+
+pub placed_none : (a : Layout) (vs : List Value) → length vs ≡ len_of a → ArePlaced a vs 0
+placed_none a vs room = record { room = room; rows = refl; valid = All-nil (λ row. valid (array_type_of a) (raw_in row) ≡ true) }
+
+pub placed_more : (a : Layout) (vs : List Value) (i : ℕ) (v : Value) → ArePlaced a vs i → i < len_of a → content_in v ≡ content_at a i → valid (array_type_of a) (raw_in v) ≡ true → ArePlaced a (set vs i v) (i + 1)
+placed_more a vs i v h l e f =
     let within : i < length (rows_of a) = subst (λ n. i < n) (sym (row_count a)) l in
+    let placed : take (i + 1) (set vs i v) ≡ take i vs ++ v ∷ [] = take_more_set vs i v (subst (λ n. i < n) (sym h.room) l) in
     record {
-      rows = ap (map content_in) made ∙ map-append content_in new (v ∷ [])
+      room = length-set vs i v ∙ h.room;
+      rows = ap (map content_in) placed ∙ map-append content_in (take i vs) (v ∷ [])
           ∙ (λ t. h.rows t ++ (e ∙ sym (row_at_position a i (content_in v) l)) t ∷ [])
-          ∙ append_assoc (map content_in old) (take i (rows_of a)) (get_or (rows_of a) i (content_in v) ∷ [])
-          ∙ ap (λ xs. map content_in old ++ xs) (sym (take_more (rows_of a) i (content_in v) within));
-      valid = λ g. one_valid (array_type_of a) new next v (h.valid g) f made;
+          ∙ sym (take_more (rows_of a) i (content_in v) within);
+      valid = one_valid (array_type_of a) (take i vs) (take (i + 1) (set vs i v)) v h.valid f placed;
     }
 
-pub pushed_all : (a : Layout) (old new : List Value) (i : ℕ) → IsPushed a old new i → len_of a ≤ i → map content_in new ≡ map content_in old ++ rows_of a
-pushed_all a old new i h l = h.rows ∙ ap (λ xs. map content_in old ++ xs) (take_all i (rows_of a) (subst (λ m. m ≤ i) (sym (row_count a)) l))
+placed_whole : (a : Layout) (vs : List Value) (i : ℕ) → ArePlaced a vs i → len_of a ≤ i → take i vs ≡ vs
+placed_whole a vs i h l = take_all i vs (subst (λ m. m ≤ i) (sym h.room) l)
 
-pub pushed_valid : (a : Layout) (old new : List Value) (i : ℕ) → IsPushed a old new i → AreOf (array_type_of a) old → AreOf (array_type_of a) new
-pushed_valid a old new i h g = h.valid g
+pub placed_rows : (a : Layout) (vs : List Value) (i : ℕ) → ArePlaced a vs i → len_of a ≤ i → map content_in vs ≡ rows_of a
+placed_rows a vs i h l = sym (ap (map content_in) (placed_whole a vs i h l)) ∙ h.rows ∙ take_all i (rows_of a) (subst (λ m. m ≤ i) (sym (row_count a)) l)
 
-pub ruleset pushed = (pushed_none, pushed_more, pushed_all, pushed_valid)
+pub placed_valid : (a : Layout) (vs : List Value) (i : ℕ) → ArePlaced a vs i → len_of a ≤ i → AreOf (array_type_of a) vs
+placed_valid a vs i h l = subst (AreOf (array_type_of a)) (placed_whole a vs i h l) h.valid
+
+pub ruleset placed = (placed_none, placed_rows, placed_valid)
 
 -- ---- the rows of all
 
@@ -97,13 +102,13 @@ pub record AreGathered (ls : List Layout) (i : ℕ) (vs : List Value) : Type 0 w
 pub gathered_none : (ls : List Layout) → AreGathered ls 0 []
 gathered_none ls = record { rows = refl; valid = λ k h. All-nil (λ row. valid k (raw_in row) ≡ true) }
 
-pub gathered_more : (ls : List Layout) (i : ℕ) (a : Layout) (old new : List Value) → AreGathered ls i old → i < length ls → a ≡ get_or ls i a → map content_in new ≡ map content_in old ++ rows_of a → (AreOf (array_type_of a) old → AreOf (array_type_of a) new) → AreGathered ls (i + 1) new
-gathered_more ls i a old new h l e r v = record {
-  rows = r ∙ ap (λ xs. xs ++ rows_of a) h.rows
+pub gathered_more : (ls : List Layout) (i : ℕ) (a : Layout) (vs ws : List Value) → AreGathered ls i vs → i < length ls → a ≡ get_or ls i a → map content_in ws ≡ rows_of a → AreOf (array_type_of a) ws → AreGathered ls (i + 1) (vs ++ ws)
+gathered_more ls i a vs ws h l e r v = record {
+  rows = map-append content_in vs ws ∙ (λ t. h.rows t ++ r t)
       ∙ sym (ap rows_of_arrays (take_more ls i a l ∙ ap (λ y. take i ls ++ y ∷ []) (sym e)) ∙ flat_map-append rows_of (take i ls) (a ∷ []) ∙ ap (λ xs. rows_of_arrays (take i ls) ++ xs) (append-nil (rows_of a)));
   valid = λ k all.
       let kind : array_type_of a ≡ k = ap array_type_of e ∙ all i a l in
-      subst (λ j. AreOf j new) kind (v (subst (λ j. AreOf j old) (sym kind) (h.valid k all)));
+      All-append (λ row. valid k (raw_in row) ≡ true) vs ws (h.valid k all) (subst (λ j. AreOf j ws) kind v);
 }
 
 pub gathered_rows : (ls : List Layout) (i : ℕ) (vs : List Value) → AreGathered ls i vs → length ls ≤ i → map content_in vs ≡ rows_of_arrays ls
@@ -112,19 +117,7 @@ gathered_rows ls i vs h l = h.rows ∙ ap rows_of_arrays (take_all i ls l)
 pub gathered_valid : (ls : List Layout) (i : ℕ) (vs : List Value) → AreGathered ls i vs → (k : LogicalType) → All (λ a. array_type_of a ≡ k) ls → AreOf k vs
 gathered_valid ls i vs h = h.valid
 
-pub ruleset gathered = (gathered_none, gathered_more, gathered_rows, gathered_valid)
-
--- ---- values that are lent
-
-lent_one : (v : Value) (b : Option (Bor ScalarValue)) → raw_at b ≡ raw_in v → raw_at b ≡ raw_in v
-lent_one v b h = h
-
-pub lent_more : (vs : List Value) (i : ℕ) (v : Value) (bs cs : List (Option (Bor ScalarValue))) (b : Option (Bor ScalarValue)) → map raw_at bs ≡ map raw_in (take i vs) → i < length vs → v ≡ get_or vs i v → raw_at b ≡ raw_in v → cs ≡ bs ++ b ∷ [] → map raw_at cs ≡ map raw_in (take (i + 1) vs)
-lent_more vs i v bs cs b h l e f made =
-    ap (map raw_at) made ∙ map-append raw_at bs (b ∷ []) ∙ (λ t. h t ++ f t ∷ [])
-    ∙ sym (ap (map raw_in) (take_more vs i v l ∙ ap (λ y. take i vs ++ y ∷ []) (sym e)) ∙ map-append raw_in (take i vs) (v ∷ []))
-
-pub ruleset lent = (lent_more)
+pub ruleset gathered = (gathered_none, gathered_rows, gathered_valid)
 
 -- ---- one type for all
 

@@ -6,7 +6,7 @@ ghost use Rattle.vortex_arrays_builder.specs.Types.{HasPlain};
 ghost use Rattle.vortex_arrays_concat.specs.PlainParts.{IsPlainPart, ArePlainParts};
 
 use crate::plain_types::has_plain;
-use crate::rows::{lend, push_rows};
+use crate::rows::{lend, rows_in};
 use std::alloc::{AllocError, Global};
 use vortex_arrays_builder::plain::build_plain;
 use vortex_arrays_cast::cast::cast_array;
@@ -72,8 +72,7 @@ fn build_part(alloc: Global, dtype: &DType, array: &ArrayRef) -> Result<ArrayRef
     requires own { array_type_of array.now ≡ type_of dtype.now }
     ensures { IfOk result (IsPlainPart (type_of dtype.now) array.now) }
 {
-    let mut rows = Vec::with_capacity(alloc, array.len())?;
-    push_rows(alloc, array, &mut rows)?;
+    let rows = rows_in(alloc, array)?;
     let lent = lend(alloc, rows.as_slice())?;
     build_plain(alloc, dtype, lent.as_slice())
 }

@@ -1,5 +1,5 @@
 //! The rows of arrays of records, one array after the other.
-ghost use Rattle.std.specs.Prelude.{◌≡◌, ◌≤◌, ◌^◌, ◌++◌, true, map, length, IfOk, OnOk, MatchOption, All};
+ghost use Rattle.std.specs.Prelude.{◌≡◌, ◌≤◌, ◌^◌, true, map, length, IfOk, MatchOption, All};
 ghost use Rattle.vortex_model.specs.Valid.{valid};
 ghost use Rattle.vortex_model.specs.LogicalType.{LogicalType};
 ghost use Rattle.vortex_scalar_value.specs.View.{raw_in, raw_at, content_in};
@@ -43,42 +43,37 @@ pub(crate) fn rows_of(
 {
     let mut rows = Vec::with_capacity(alloc, count)?;
     for array in arrays {
-        push_rows(alloc, array.as_array(), &mut rows)?;
+        let mut more = rows_in(alloc, array.as_array())?;
+        rows.append(&mut more)?;
     }
     Ok(rows)
 }
 
-/// Adds the values of the rows of an array.
-#[tactic(auto, using(crate::proofs::RowLemmas::pushed))]
-pub(crate) fn push_rows(
+/// The values of the rows of an array.
+#[tactic(auto, using(crate::proofs::RowLemmas::placed))]
+pub(crate) fn rows_in(
     alloc: Global,
     array: &ArrayRef,
-    rows: &mut Vec<Option<ScalarValue>>,
-) -> Result<(), AllocError>
-    ensures rows { OnOk result (map content_in rows.new.items
-        ≡ map content_in rows.old.items ++ rows_of array.now) }
-    ensures valid { OnOk result (All (λ row. valid (array_type_of array.now) (raw_in row) ≡ true)
-        rows.old.items → All (λ row. valid (array_type_of array.now) (raw_in row) ≡ true)
-        rows.new.items) }
+) -> Result<Vec<Option<ScalarValue>>, AllocError>
+    ensures rows { IfOk result (λ rows. map content_in rows.items ≡ rows_of array.now) }
+    ensures valid { IfOk result
+        (λ rows. All (λ row. valid (array_type_of array.now) (raw_in row) ≡ true) rows.items) }
 {
-    for i in 0..array.len() {
-        let row = row_value(alloc, array, i)?;
-        rows.push(row)?;
+    let count = array.len();
+    let mut rows = Vec::new(alloc);
+    rows.resize_with(count, || None)?;
+    for i in 0..count {
+        rows[i] = row_value(alloc, array, i)?;
     }
-    Ok(())
+    Ok(rows)
 }
 
 /// The values as they are lent.
-#[tactic(auto, using(crate::proofs::RowLemmas::lent))]
 pub(crate) fn lend(
     alloc: Global,
     values: &[Option<ScalarValue>],
 ) -> Result<Vec<Option<&ScalarValue>>, AllocError>
     ensures { IfOk result (λ lent. map raw_at lent.items ≡ map raw_in values.now) }
 {
-    let mut lent = Vec::with_capacity(alloc, values.len())?;
-    for value in values {
-        lent.push(value.as_ref())?;
-    }
-    Ok(lent)
+    values.iter().map(|value| value.as_ref()).collect(alloc)
 }

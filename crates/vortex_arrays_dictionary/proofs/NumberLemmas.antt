@@ -1,11 +1,11 @@
 -- What numbering a value leaves.
-use Rattle.std.proofs.Common.{◌≡◌, ◌<◌, ◌≤◌, ◌+◌, ℕ, true, cond, List, [], ◌∷◌, ◌++◌, length, map, take, get_or, Option, Some, Bor, refl, sym, ap, subst, ◌∙◌, inl, inr, arith}
+use Rattle.std.proofs.Common.{◌≡◌, ◌<◌, ◌≤◌, ◌+◌, ℕ, true, cond, List, [], ◌∷◌, ◌++◌, length, map, take, set, get_or, Option, Some, Bor, refl, sym, ap, subst, ◌∙◌, inl, inr, arith}
 use Rattle.std.specs.BTreeMap.{BTreeMap, get}
 use Rattle.std.specs.Cmp.Derive.{both_true}
 use Rattle.std.specs.Ordering.{int_eq, is_eq}
 use Rattle.std.specs.Str.{bytes_eq}
 use Rattle.std.proofs.lemmas.Cmp.{int_eq_equiv, nat_list_eq_equiv}
-use Rattle.std.proofs.lemmas.List.{map-append, length-map, take_more, take_all, get_or-map}
+use Rattle.std.proofs.lemmas.List.{map-append, length-map, take_more, take_more_set, take_all, get_or-map}
 use Rattle.vortex_model.specs.LogicalType.{LogicalType}
 use Rattle.vortex_model.specs.Kept.{is_leaf}
 use Rattle.vortex_model.specs.Content.{Raw, raw_null}
@@ -41,15 +41,17 @@ abbrev Value : Type 0
 Value = Option (Bor ScalarValue)
 
 -- one value more is numbered
-pub numbered_turn : (k : LogicalType) (vs : List Value) (i : ℕ) (v : Value) (ds es : List Raw) (ns : List ℕ) (n : ℕ) → is_leaf k ≡ true → AreOf k (map raw_at vs) → IsNumbering k (map raw_at (take i vs)) ds ns → i < length vs → v ≡ get_or vs i v → IsNumberedOrNull ds (raw_at v) es n → IsNumbering k (map raw_at (take (i + 1) vs)) es (ns ++ n ∷ [])
-numbered_turn k vs i v ds es ns n leaf held p l is h =
+pub numbered_turn : (k : LogicalType) (vs : List Value) (i : ℕ) (v : Value) (ds es : List Raw) (ns : List ℕ) (n : ℕ) → is_leaf k ≡ true → length ns ≡ length vs → AreOf k (map raw_at vs) → IsNumbering k (map raw_at (take i vs)) ds (take i ns) → i < length vs → v ≡ get_or vs i v → IsNumberedOrNull ds (raw_at v) es n → IsNumbering k (map raw_at (take (i + 1) vs)) es (take (i + 1) (set ns i n))
+numbered_turn k vs i v ds es ns n leaf many held p l is h =
     let same : map raw_at (take (i + 1) vs) ≡ map raw_at (take i vs) ++ raw_at v ∷ [] =
     ap (map raw_at) (take_more vs i v l ∙ ap (λ y. take i vs ++ y ∷ []) (sym is)) ∙ map-append raw_at (take i vs) (v ∷ []) in
     let this : valid k (raw_at v) ≡ true = subst (λ y. valid k (raw_at y) ≡ true) (sym is)
     (subst (λ r. valid k r ≡ true) (get_or-map raw_at vs i v raw_null l) (held i raw_null (omega (arith, length-map vs raw_at)))) in
-    subst (λ rs. IsNumbering k rs es (ns ++ n ∷ [])) (sym same) (numbered_more k (map raw_at (take i vs)) ds es ns (raw_at v) n leaf p this h)
+    subst (IsNumbering k (map raw_at (take (i + 1) vs)) es) (sym (take_more_set ns i n (subst (λ m. i < m) (sym many) l)))
+    (subst (λ rs. IsNumbering k rs es (take i ns ++ n ∷ [])) (sym same) (numbered_more k (map raw_at (take i vs)) ds es (take i ns) (raw_at v) n leaf p this h))
 
-pub numbered_all : (k : LogicalType) (vs : List Value) (i : ℕ) (ds : List Raw) (ns : List ℕ) → length vs ≤ i → IsNumbering k (map raw_at (take i vs)) ds ns → IsNumbering k (map raw_at vs) ds ns
-numbered_all k vs i ds ns l p = subst (λ xs. IsNumbering k (map raw_at xs) ds ns) (take_all i vs l) p
+pub numbered_all : (k : LogicalType) (vs : List Value) (i : ℕ) (ds : List Raw) (ns : List ℕ) → length vs ≤ i → length ns ≡ length vs → IsNumbering k (map raw_at (take i vs)) ds (take i ns) → IsNumbering k (map raw_at vs) ds ns
+numbered_all k vs i ds ns l many p =
+    subst (IsNumbering k (map raw_at vs) ds) (take_all i ns (subst (λ m. m ≤ i) (sym many) l)) (subst (λ xs. IsNumbering k (map raw_at xs) ds (take i ns)) (take_all i vs l) p)
 
 pub ruleset numbering = (none_numbered, numbered_turn, numbered_all)

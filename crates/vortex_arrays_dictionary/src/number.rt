@@ -31,10 +31,9 @@ pub(crate) fn number_values<'a>(
 {
     let mut places = BTreeMap::new(alloc);
     let mut distinct = Vec::new(alloc);
-    let mut numbers = Vec::with_capacity(alloc, values.len())?;
-    for value in values {
-        let number = number_or_zero(&mut places, &mut distinct, *value)?;
-        numbers.push(number)?;
+    let mut numbers = vec![in alloc; 0; values.len()]?;
+    for i in 0..values.len() {
+        numbers[i] = number_or_zero(&mut places, &mut distinct, values[i])?;
     }
     Ok(Numbering {
         values: distinct,

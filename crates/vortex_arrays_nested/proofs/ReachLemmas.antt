@@ -1,30 +1,16 @@
 -- Offsets and sizes that are numbers, and the elements that their lists reach.
-use Rattle.std.proofs.Common.{◌≡◌, ◌↔◌, IsTrue, ◌<◌, ◌≤◌, ◌+◌, ℕ, ℤ, pos, Bool, true, List, length, map, get_or, refl, sym, ap, subst, ◌∙◌, arith, Option}
+use Rattle.std.proofs.Common.{◌≡◌, ◌↔◌, IsTrue, ◌<◌, ◌≤◌, ◌+◌, ℕ, ℤ, pos, Bool, List, length, map, get_or, refl, sym, ap, subst, ◌∙◌, arith, Option}
 use Rattle.std.specs.Prelude.{◌≤ℤ◌, ◌<ℤ◌, negsuc, unsigned_abs, MatchOption}
 use Rattle.std.proofs.lemmas.Int.{ints}
-use Rattle.vortex_model.specs.LogicalType.{IntKind, u8, u16, u32, u64, i8, i16, i32, i64}
-use Rattle.vortex_model.specs.Valid.{greatest_number, in_range}
-use Rattle.vortex_model.proofs.Tests.{range_so}
+use Rattle.vortex_model.specs.LogicalType.{IntKind}
 use Rattle.vortex_model.specs.Content.{integer}
 use Rattle.vortex_arrays_model.specs.Layout.{Layout, numbers, Valid, required, array_type_of, len_of, content_at, natural, number_in, IsOffsets, IsView, AreEndToEnd}
 use Rattle.vortex_arrays_model.specs.Trimmed.{AreBounds}
+use Rattle.vortex_arrays_validity.proofs.PlaceLemmas.{below_word}
 use Rattle.vortex_arrays_nested.specs.ListViews.{LieWithin, AllLieWithin}
 use Rattle.vortex_arrays_nested.proofs.PairLemmas.{not_null, number_at}
 
 -- ---- a number of any kind is one of the machine, or below zero
-
-greatest_below : (i : IntKind) (z : ℤ) → z ≤ℤ greatest_number i → z ≤ℤ pos 18446744073709551615
-greatest_below u8 z h = grind (arith, ints, h)
-greatest_below u16 z h = grind (arith, ints, h)
-greatest_below u32 z h = grind (arith, ints, h)
-greatest_below u64 z h = h
-greatest_below i8 z h = grind (arith, ints, h)
-greatest_below i16 z h = grind (arith, ints, h)
-greatest_below i32 z h = grind (arith, ints, h)
-greatest_below i64 z h = grind (arith, ints, h)
-
-pub below_word : (i : IntKind) (z : ℤ) → in_range i z ≡ true → z ≤ℤ pos 18446744073709551615
-below_word i z h = greatest_below i z (let r = range_so i z h in r.to)
 
 pub natural_abs : (z : ℤ) → pos 0 ≤ℤ z → natural z ≡ unsigned_abs z
 natural_abs (pos n) h = refl

@@ -1,53 +1,59 @@
 -- Lengths that are counted one after another.
-use Rattle.std.proofs.Common.{◌≡◌, ◌∙◌, sym, ap, subst, ℕ, ℤ, pos, ◌-ℤ◌, ◌+◌, ◌-◌, ◌<◌, ◌≤◌, zero, suc, true, List, [], ◌∷◌, ◌++◌, length, take, get_or, map, refl, arith, FitsSigned}
+use Rattle.std.proofs.Common.{◌≡◌, ◌∙◌, sym, ap, subst, ℕ, ℤ, pos, ◌-ℤ◌, ◌+◌, ◌-◌, ◌<◌, ◌≤◌, zero, suc, true, List, [], ◌∷◌, ◌++◌, length, take, set, get_or, map, refl, arith, FitsSigned}
 use Rattle.std.specs.Prelude.{unsigned_abs}
 use Rattle.std.specs.Int.{IsNonNegative, w128}
 use Rattle.std.specs.List.{All, sum}
 use Rattle.std.proofs.lemmas.Int.{ints}
-use Rattle.std.proofs.lemmas.List.{length-map, take-map, take_all, take_more, map_push, get_or-map}
+use Rattle.std.proofs.lemmas.List.{length-map, length-set, take-map, take_all, take_more, take_more_set, map_push, get_or-map}
 use Rattle.std.proofs.lemmas.List.Elements.{All-nil, All-get_or, All-push}
 use Rattle.std.proofs.lemmas.List.Sums.{sum_by_push, sum_by_more_le}
 use Rattle.vortex_model.specs.LogicalType.{IntKind, u8, u16, u32, u64, i8, i16, i32, i64}
 use Rattle.vortex_model.specs.Valid.{in_range}
 use Rattle.vortex_arrays_view.specs.Lengths.{counts_of, lengths_between, AddUp}
 
--- the first n lengths are counted, and so many bytes are left
+-- The first n lengths are counted, there is room for the counts of all, and so many bytes are left.
 pub record Counted (lengths : List ℤ) (n : ℕ) (counts : List ℕ) (left total : ℕ) : Type 0 where
-  pub counted : counts ≡ counts_of (take n lengths)
+  pub room : length counts ≡ length lengths
+  pub counted : take n counts ≡ counts_of (take n lengths)
   pub natural : All IsNonNegative (take n lengths)
-  pub sums : sum counts + left ≡ total
+  pub sums : sum (take n counts) + left ≡ total
 
-pub counted_none : (lengths : List ℤ) (total : ℕ) → Counted lengths 0 [] total total
-counted_none lengths total = record { counted = refl; natural = All-nil IsNonNegative; sums = omega arith }
+pub counted_none : (lengths : List ℤ) (counts : List ℕ) (total : ℕ) → length counts ≡ length lengths → Counted lengths 0 counts total total
+counted_none lengths counts total room = record { room = room; counted = refl; natural = All-nil IsNonNegative; sums = omega arith }
 
-pub counted_more : (lengths : List ℤ) (n : ℕ) (counts : List ℕ) (left total : ℕ) (length' : ℤ) (count : ℕ) → Counted lengths n counts left total → n < length lengths → length' ≡ get_or lengths n (pos 0) → pos count ≡ length' → count ≤ left → Counted lengths (n + 1) (counts ++ count ∷ []) (left - count) total
+pub counted_more : (lengths : List ℤ) (n : ℕ) (counts : List ℕ) (left total : ℕ) (length' : ℤ) (count : ℕ) → Counted lengths n counts left total → n < length lengths → length' ≡ get_or lengths n (pos 0) → pos count ≡ length' → count ≤ left → Counted lengths (n + 1) (set counts n count) (left - count) total
 counted_more lengths n counts left total z count c l at is fits =
     let e : get_or lengths n (pos 0) ≡ pos count = sym at ∙ sym is in
     let more : take (n + 1) lengths ≡ take n lengths ++ pos count ∷ [] = take_more lengths n (pos 0) l ∙ ap (λ y. take n lengths ++ y ∷ []) e in
+    let placed : take (n + 1) (set counts n count) ≡ take n counts ++ count ∷ [] = take_more_set counts n count (subst (λ m. n < m) (sym c.room) l) in
     record {
-      counted = ap (λ r. r ++ count ∷ []) c.counted ∙ sym (map_push unsigned_abs (take n lengths) (pos count)) ∙ ap counts_of (sym more);
+      room = length-set counts n count ∙ c.room;
+      counted = placed ∙ ap (λ r. r ++ count ∷ []) c.counted ∙ sym (map_push unsigned_abs (take n lengths) (pos count)) ∙ ap counts_of (sym more);
       natural = subst (All IsNonNegative) (sym more) (All-push IsNonNegative (take n lengths) (pos count) c.natural tt);
-      sums = omega (arith, c.sums, fits, sum_by_push (λ x. x) counts count);
+      sums = omega (arith, c.sums, fits, ap sum placed, sum_by_push (λ x. x) (take n counts) count);
     }
 
 pub counted_refused : (lengths : List ℤ) (n : ℕ) (counts : List ℕ) (left total : ℕ) (length' : ℤ) → Counted lengths n counts left total → n < length lengths → length' ≡ get_or lengths n (pos 0) → (IsNonNegative length' → left < unsigned_abs length') → AddUp lengths total → ⊥
 counted_refused lengths n counts left total z c l at over a =
     let natural : IsNonNegative z = subst IsNonNegative (sym at) (All-get_or IsNonNegative lengths n (pos 0) l a.counts) in
     let here : get_or (counts_of lengths) n 0 ≡ unsigned_abs z = get_or-map unsigned_abs lengths n (pos 0) 0 l ∙ ap unsigned_abs (sym at) in
-    let front : sum (take n (counts_of lengths)) ≡ sum counts = ap sum (take-map unsigned_abs n lengths ∙ sym c.counted) in
+    let front : sum (take n (counts_of lengths)) ≡ sum (take n counts) = ap sum (take-map unsigned_abs n lengths ∙ sym c.counted) in
     omega (arith, over natural, here, front, c.sums, a.sums, sum_by_more_le (λ x. x) (counts_of lengths) n 0 (omega (arith, l, length-map lengths unsigned_abs)))
 
+counts_whole : (lengths : List ℤ) (n : ℕ) (counts : List ℕ) (left total : ℕ) → Counted lengths n counts left total → length lengths ≤ n → take n counts ≡ counts
+counts_whole lengths n counts left total c h = take_all n counts (subst (λ m. m ≤ n) (sym c.room) h)
+
 pub counted_all : (lengths : List ℤ) (n : ℕ) (counts : List ℕ) (left total : ℕ) → Counted lengths n counts left total → length lengths ≤ n → counts ≡ counts_of lengths
-counted_all lengths n counts left total c h = c.counted ∙ ap counts_of (take_all n lengths h)
+counted_all lengths n counts left total c h = sym (counts_whole lengths n counts left total c h) ∙ c.counted ∙ ap counts_of (take_all n lengths h)
 
 pub adds_up : (lengths : List ℤ) (n : ℕ) (counts : List ℕ) (left total : ℕ) → Counted lengths n counts left total → length lengths ≤ n → left ≤ 0 → AddUp lengths total
 adds_up lengths n counts left total c h none = record {
   counts = subst (All IsNonNegative) (take_all n lengths h) c.natural;
-  sums = ap sum (sym (counted_all lengths n counts left total c h)) ∙ omega (arith, c.sums, none);
+  sums = ap sum (sym (counted_all lengths n counts left total c h)) ∙ omega (arith, ap sum (counts_whole lengths n counts left total c h), c.sums, none);
 }
 
 pub bytes_left : (lengths : List ℤ) (n : ℕ) (counts : List ℕ) (left total : ℕ) → Counted lengths n counts left total → length lengths ≤ n → 0 < left → AddUp lengths total → ⊥
-bytes_left lengths n counts left total c h more a = omega (arith, ap sum (counted_all lengths n counts left total c h), c.sums, a.sums, more)
+bytes_left lengths n counts left total c h more a = omega (arith, ap sum (counts_whole lengths n counts left total c h), ap sum (counted_all lengths n counts left total c h), c.sums, a.sums, more)
 
 -- lengths between offsets, by place
 pub length-lengths_between : (offsets : List ℤ) → length (lengths_between offsets) ≡ length offsets - 1

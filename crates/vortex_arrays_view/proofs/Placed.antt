@@ -1,8 +1,8 @@
 -- Values that are put into buffers one after another, a new buffer begun where the next does not fit.
-use Rattle.std.proofs.Common.{◌≡◌, ◌∙◌, sym, ap, subst, ℕ, zero, suc, ◌+◌, ◌-◌, ◌<◌, ◌≤◌, ◌^◌, Bool, cond, List, [], ◌∷◌, ◌++◌, length, take, drop, get_or, refl, arith, length-append, length-take, length-drop, inl, inr}
+use Rattle.std.proofs.Common.{◌≡◌, ◌∙◌, sym, ap, subst, ℕ, zero, suc, ◌+◌, ◌-◌, ◌<◌, ◌≤◌, ◌^◌, Bool, cond, List, [], ◌∷◌, ◌++◌, length, take, drop, set, get_or, refl, arith, length-append, length-take, length-drop, inl, inr}
 use Rattle.std.specs.List.{All, concat, sum}
-use Rattle.std.proofs.lemmas.Bool.{cases_lt, le-leb}
-use Rattle.std.proofs.lemmas.List.{drop_at, nil_from_length, take_all, drop-drop, drop-append-le, take-append-le, length-take-le, get_or_append_left, get_or-append-add, get_or_push}
+use Rattle.std.proofs.lemmas.Bool.{cases_lt, cases_eq, le-leb}
+use Rattle.std.proofs.lemmas.List.{drop_at, nil_from_length, take_all, drop-drop, drop-append-le, take-append-le, length-take-le, length-set, get_or_append_left, get_or-append-add, get_or_push, get_or-set_same, get_or-set_other}
 use Rattle.std.proofs.lemmas.List.Elements.{All-nil, All-get_or, All-push}
 use Rattle.vortex_arrays_view.specs.Made.{short_view, long_view, view_of}
 use Rattle.vortex_arrays_view.specs.Laws.{LiesAt}
@@ -101,7 +101,7 @@ short_stands v first bs cs view h s = record {
   lies = λ k. absurd (omega (arith, h, k));
 }
 
--- The first n values are placed: those that end at start in buffers that are closed, and the others in the one that is open up to stop.
+-- The first n values are placed: those that end at start in buffers that are closed, and the others in the one that is open up to stop. There is room for the views of all.
 pub record Places (bytes lengths : List ℕ) (first limit n start stop : ℕ) (buffers views : List (List ℕ)) : Type 0 where
   pub stops : stop ≡ end_of lengths n
   pub starts : IsValueEnd lengths start
@@ -112,15 +112,15 @@ pub record Places (bytes lengths : List ℕ) (first limit n start stop : ℕ) (b
   pub within : All (λ buffer. length buffer ≤ limit) buffers
   pub least : (others : List (List ℕ)) → IsCutting bytes lengths limit others → reach_of others (length buffers) ≤ start
   pub rest : 0 < length buffers → start < length bytes
-  pub count : length views ≡ n
+  pub count : length views ≡ length lengths
   pub placed : (k : ℕ) → k < n → Stands (value_in bytes lengths k) first (buffers ++ part bytes start stop ∷ []) (get_or views k [])
 
 no_reach : (lengths : List ℕ) (count : ℕ) → IsValueEnd lengths (length (concat (take count [])))
 no_reach lengths zero = record { count = 0; ends = refl }
 no_reach lengths (suc count) = record { count = 0; ends = refl }
 
-pub places_none : (bytes lengths : List ℕ) (first limit : ℕ) → Places bytes lengths first limit 0 0 0 [] []
-places_none bytes lengths first limit = record {
+pub places_none : (bytes lengths : List ℕ) (first limit : ℕ) (views : List (List ℕ)) → length views ≡ length lengths → Places bytes lengths first limit 0 0 0 [] views
+places_none bytes lengths first limit views count = record {
   stops = refl;
   starts = record { count = 0; ends = refl };
   order = omega arith;
@@ -130,7 +130,7 @@ places_none bytes lengths first limit = record {
   within = All-nil _;
   least = λ others c. omega arith;
   rest = λ h. absurd (omega arith);
-  count = refl;
+  count = count;
   placed = λ k h. absurd (omega arith);
 }
 
@@ -240,7 +240,7 @@ module _ (bytes lengths : List ℕ) (first limit n start stop : ℕ) (buffers vi
 
   -- the next value is placed in the open buffer
   pub places_more : (view : List ℕ) → n < length lengths → stop + get_or lengths n 0 ≤ start + limit → limit < 2 ^ 32 → first + length buffers < 2 ^ 32 → view ≡ view_of (value_in bytes lengths n) (first + length buffers) (stop - start)
-      → Places bytes lengths first limit (n + 1) start (stop + get_or lengths n 0) buffers (views ++ view ∷ [])
+      → Places bytes lengths first limit (n + 1) start (stop + get_or lengths n 0) buffers (set views n view)
   places_more view l fits small index made =
       let m = get_or lengths n 0 in
       record {
@@ -253,16 +253,11 @@ module _ (bytes lengths : List ℕ) (first limit n start stop : ℕ) (buffers vi
         within = p.within;
         least = p.least;
         rest = p.rest;
-        count = length-append views (view ∷ []) ∙ ap (λ (k : ℕ). k + 1) p.count;
-        placed = λ k h. elim (cases_lt k n) [
-          | inl before ↦
-              subst (λ (w : List ℕ). Stands (value_in bytes lengths k) first (buffers ++ part bytes start (stop + m) ∷ []) w) (sym (get_or_append_left views (view ∷ []) [] k (omega (arith, before, p.count))))
-              (subst (λ (b : List ℕ). Stands (value_in bytes lengths k) first (buffers ++ b ∷ []) (get_or views k [])) (grown l)
-              (stands_grown (value_in bytes lengths k) first buffers (part bytes start stop) (take m (drop stop bytes)) (get_or views k []) (p.placed k before)))
-          | inr g ↦
-              let e : n ≡ k = omega (arith, g, h) in
-              subst (λ (j : ℕ). Stands (value_in bytes lengths j) first (buffers ++ part bytes start (stop + m) ∷ []) (get_or (views ++ view ∷ []) j [])) e
-              (subst (λ (w : List ℕ). Stands (value_in bytes lengths n) first (buffers ++ part bytes start (stop + m) ∷ []) w) (sym (get_or_push views view [] n p.count))
+        count = length-set views n view ∙ p.count;
+        placed = λ k h. elim (cases_eq k n) [
+          | inl e ↦
+              subst (λ (j : ℕ). Stands (value_in bytes lengths j) first (buffers ++ part bytes start (stop + m) ∷ []) (get_or (set views n view) j [])) (sym e)
+              (subst (λ (w : List ℕ). Stands (value_in bytes lengths n) first (buffers ++ part bytes start (stop + m) ∷ []) w) (sym (get_or-set_same views n view [] (subst (λ i. n < i) (sym p.count) l)))
               (record {
                 index = length buffers;
                 offset = stop - start;
@@ -272,6 +267,11 @@ module _ (bytes lengths : List ℕ) (first limit n start stop : ℕ) (buffers vi
                 made = made;
                 lies = λ _. next_lies l;
               }))
+          | inr other ↦
+              let before : k < n = omega (arith, h, other) in
+              subst (λ (w : List ℕ). Stands (value_in bytes lengths k) first (buffers ++ part bytes start (stop + m) ∷ []) w) (sym (get_or-set_other views n k view [] other))
+              (subst (λ (b : List ℕ). Stands (value_in bytes lengths k) first (buffers ++ b ∷ []) (get_or views k [])) (grown l)
+              (stands_grown (value_in bytes lengths k) first buffers (part bytes start stop) (take m (drop stop bytes)) (get_or views k []) (p.placed k before)))
         ];
       }
 
@@ -298,7 +298,7 @@ module _ (bytes lengths : List ℕ) (first limit n start stop : ℕ) (buffers vi
         };
         indices = omega (arith, index, closed_length);
         viewed = record {
-          count = p.count ∙ sym e;
+          count = p.count;
           each = λ i h. view_stands (value_in bytes lengths i) first (buffers ++ part bytes start stop ∷ []) (get_or views i []) (p.placed i (omega (arith, e, h)));
         };
       }
@@ -323,7 +323,7 @@ module _ (bytes lengths : List ℕ) (first limit n start stop : ℕ) (buffers vi
         };
         indices = omega (arith, index, count);
         viewed = record {
-          count = p.count ∙ sym e;
+          count = p.count;
           each = λ i h. view_stands (value_in bytes lengths i) first buffers (get_or views i [])
               (short_stands (value_in bytes lengths i) first (buffers ++ part bytes start stop ∷ []) buffers (get_or views i [])
               (omega (arith, length-take (get_or lengths i 0) (drop (end_of lengths i) bytes), length-drop (end_of lengths i) bytes, empty)) (p.placed i (omega (arith, e, h))));
@@ -331,10 +331,9 @@ module _ (bytes lengths : List ℕ) (first limit n start stop : ℕ) (buffers vi
       }
 
 -- the next value is placed in the open buffer
-pub placed_next : (bytes lengths : List ℕ) (first limit n start stop index : ℕ) (buffers views : List (List ℕ)) → sum lengths ≡ length bytes → IsOpen bytes lengths first limit n start stop index buffers views → (view : List ℕ) (pushed : List (List ℕ)) → n < length lengths → limit < 2 ^ 32 → index < 2 ^ 32
-    → pushed ≡ views ++ view ∷ [] → view ≡ view_of (part bytes stop (stop + get_or lengths n 0)) index (stop - start) → Places bytes lengths first limit (n + 1) start (stop + get_or lengths n 0) buffers pushed
-placed_next bytes lengths first limit n start stop index buffers views whole o view pushed l small fits puts made =
+pub placed_next : (bytes lengths : List ℕ) (first limit n start stop index : ℕ) (buffers views : List (List ℕ)) → sum lengths ≡ length bytes → IsOpen bytes lengths first limit n start stop index buffers views → (view : List ℕ) → n < length lengths → limit < 2 ^ 32 → index < 2 ^ 32
+    → view ≡ view_of (part bytes stop (stop + get_or lengths n 0)) index (stop - start) → Places bytes lengths first limit (n + 1) start (stop + get_or lengths n 0) buffers (set views n view)
+placed_next bytes lengths first limit n start stop index buffers views whole o view l small fits made =
     let size : (stop + get_or lengths n 0) - stop ≡ get_or lengths n 0 = omega arith in
-    subst (λ (vs : List (List ℕ)). Places bytes lengths first limit (n + 1) start (stop + get_or lengths n 0) buffers vs) (sym puts)
-    (places_more bytes lengths first limit n start stop buffers views whole o.places view l o.fits small (omega (arith, fits, o.next))
-    (made ∙ ap (λ (k : ℕ). view_of (take k (drop stop bytes)) index (stop - start)) size ∙ ap (λ (k : ℕ). view_of (take (get_or lengths n 0) (drop k bytes)) index (stop - start)) o.places.stops ∙ ap (λ (k : ℕ). view_of (value_in bytes lengths n) k (stop - start)) o.next))
+    places_more bytes lengths first limit n start stop buffers views whole o.places view l o.fits small (omega (arith, fits, o.next))
+    (made ∙ ap (λ (k : ℕ). view_of (take k (drop stop bytes)) index (stop - start)) size ∙ ap (λ (k : ℕ). view_of (take (get_or lengths n 0) (drop k bytes)) index (stop - start)) o.places.stops ∙ ap (λ (k : ℕ). view_of (value_in bytes lengths n) k (stop - start)) o.next)

@@ -101,7 +101,7 @@ fn place_values(
 {
     let all = bytes.as_slice();
     let mut buffers = Vec::new(alloc);
-    let mut views = Vec::with_capacity(alloc, lengths.len())?;
+    let mut views = vec![in alloc; BinaryView::empty_view(); lengths.len()]?;
     let mut index = first;
     let mut start = 0;
     let mut stop = 0;
@@ -116,7 +116,7 @@ fn place_values(
             buffers.push(bytes.slice(start..stop)?)?;
             start = stop;
         }
-        views.push(BinaryView::make_view(value, index, (stop - start) as u32))?;
+        views[i] = BinaryView::make_view(value, index, (stop - start) as u32);
         stop = end;
     }
     if start < stop {

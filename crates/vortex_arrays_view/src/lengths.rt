@@ -23,12 +23,12 @@ pub fn offsets_to_lengths<P: NativePType>(
         (λ e. IsLengthsFault e P.kind (lengths_between (map P.integer offsets.now))) }
 {
     let count = offsets.len().saturating_sub(1);
-    let mut lengths = Vec::with_capacity(alloc, count)?;
+    let mut lengths = offsets[..count].to_vec(alloc)?;
     for i in 0..count {
         let Some(length) = P::of(difference(offsets[i + 1], offsets[i])) else {
             return Err(ArrayError::Total);
         };
-        lengths.push(length)?;
+        lengths[i] = length;
     }
     Ok(lengths)
 }
@@ -43,14 +43,14 @@ pub(crate) fn counts<P: NativePType>(
     ensures add_up { OnOk result (AddUp (map P.integer lengths.now) total) }
     ensures refused { IfErr result (λ e. IsCountFault e (map P.integer lengths.now) total) }
 {
-    let mut counts = Vec::with_capacity(alloc, lengths.len())?;
+    let mut counts = vec![in alloc; 0; lengths.len()]?;
     let mut left = total;
     for i in 0..lengths.len() {
         let Some(count) = count_within(lengths[i].get(), left) else {
             return Err(ArrayError::LengthMismatch);
         };
         left -= count;
-        counts.push(count)?;
+        counts[i] = count;
     }
     if left > 0 {
         return Err(ArrayError::LengthMismatch);
@@ -71,7 +71,7 @@ pub(crate) fn counts_between<P: NativePType>(
         (λ e. IsCountFault e (lengths_between (map P.integer offsets.now)) total) }
 {
     let steps = offsets.len().saturating_sub(1);
-    let mut counts = Vec::with_capacity(alloc, steps)?;
+    let mut counts = vec![in alloc; 0; steps]?;
     let mut left = total;
     for i in 0..steps {
         let length = difference(offsets[i + 1], offsets[i]);
@@ -79,7 +79,7 @@ pub(crate) fn counts_between<P: NativePType>(
             return Err(ArrayError::LengthMismatch);
         };
         left -= count;
-        counts.push(count)?;
+        counts[i] = count;
     }
     if left > 0 {
         return Err(ArrayError::LengthMismatch);

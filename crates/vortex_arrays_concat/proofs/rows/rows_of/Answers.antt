@@ -7,8 +7,8 @@ use Rattle.vortex_arrays_concat.proofs.rows.rows_of.Goals as goal
 pub loop-array-preserved : goal.loop-array-preserved
 loop-array-preserved c =
     let same = c.as_array.ensures in
-    let old = c.loop-array.rows.items in
-    let new = c.push_rows.new.rows.items in
-    gathered_more c.args.arrays.now c.loop-array.array-index c.array-item.result old new c.loop-array.invariant c.loop-array-test.true c.array-item.is
-    (subst (λ a. map content_in new ≡ map content_in old ++ rows_of a) same c.in_ok-push_rows.ensures.rows)
-    (subst (λ a. AreOf (array_type_of a) old → AreOf (array_type_of a) new) same c.in_ok-push_rows.ensures.valid)
+    let more = c.in_ok-more.more.items in
+    let puts : c.append.new.self.items ≡ c.loop-array.rows.items ++ more = c.in_ok-append.ensures.items in
+    rw puts (gathered_more c.args.arrays.now c.loop-array.array-index c.array-item.result c.loop-array.rows.items more c.loop-array.invariant c.loop-array-test.true c.array-item.is
+    (subst (λ a. map content_in more ≡ rows_of a) same c.in_ok-more.ensures.rows)
+    (subst (λ a. AreOf (array_type_of a) more) same c.in_ok-more.ensures.valid))

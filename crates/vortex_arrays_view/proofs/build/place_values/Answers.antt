@@ -3,7 +3,7 @@ use Rattle.std.proofs.lemmas.Bool.{cases_lt}
 use Rattle.vortex_arrays_view.specs.Made.{view_of}
 use Rattle.vortex_arrays_view.proofs.Cut.{part}
 use Rattle.vortex_arrays_view.proofs.Placed.{IsOpen, open_already, opened, next_within, placed_next, places_too_many, places_all, places_nothing}
-use Rattle.vortex_arrays_view.proofs.build.place_values.Goals.{then-end-start+in-Some+in_ok-slice+in_ok-push, else-end-start, then-start-stop+in_ok-slice-2+in_ok-push-3, else-start-stop}
+use Rattle.vortex_arrays_view.proofs.build.place_values.Goals.{then-end-start+in-Some+in_ok-slice+in_ok-push, else-end-start, then-start-stop+in_ok-slice-2+in_ok-push-2, else-start-stop}
 use Rattle.vortex_arrays_view.proofs.build.place_values.Goals as goal
 
 pub slice_bounds-value-end : goal.slice_bounds-value-end
@@ -38,7 +38,7 @@ loop-i-preserved c =
     let made : c.make_view.result ≡ view_of (take (c.loop-i.stop + get_or c.args.lengths.now c.loop-i.i 0 - c.loop-i.stop) (drop c.loop-i.stop c.args.bytes.now)) c.if-end-start.index (c.loop-i.stop - c.if-end-start.start) = c.make_view.ensures ∙ ap (λ (b : List ℕ). view_of (take (c.loop-i.stop + get_or c.args.lengths.now c.loop-i.i 0 - c.loop-i.stop) (drop c.loop-i.stop b)) c.if-end-start.index (c.loop-i.stop - c.if-end-start.start)) c.as_slice-all.ensures in
     record {
       places = placed_next c.args.bytes.now c.args.lengths.now c.args.first c.args.limit c.loop-i.i c.if-end-start.start c.loop-i.stop c.if-end-start.index c.if-end-start.buffers.items c.loop-i.views.items c.requires.whole next
-          c.make_view.result c.push-in-loop-i.new.self.items c.loop-i-test.true (omega (arith, c.requires.limit)) fits (search rules) made;
+          c.make_view.result c.loop-i-test.true (omega (arith, c.requires.limit)) fits made;
       fits = fits;
       next = next.next;
     }
@@ -47,7 +47,7 @@ pub returns-clause-built : goal.returns-clause-built
 returns-clause-built c =
     let done : length c.args.lengths.now ≡ c.loop-i.i = omega (arith, c.loop-i-test.false, c.loop-i.auto.i-end) in
     elim c.if-start-stop.branch [
-      | then-start-stop+in_ok-slice-2+in_ok-push-3 w ↦
+      | then-start-stop+in_ok-slice-2+in_ok-push-2 w ↦
           let puts : c.if-start-stop.buffers.items ≡ c.loop-i.buffers.items ++ part c.args.bytes.now c.loop-i.start c.loop-i.stop ∷ [] = search rules in
           rw puts (places_all c.args.bytes.now c.args.lengths.now c.args.first c.args.limit c.loop-i.i c.loop-i.start c.loop-i.stop c.loop-i.buffers.items c.loop-i.views.items c.requires.whole c.loop-i.invariant.places done w.if-start-stop.true (omega (arith, c.loop-i.invariant.fits, c.loop-i.invariant.next)))
       | else-start-stop w ↦

@@ -1,4 +1,4 @@
-use Rattle.std.proofs.Common.{rules, arith, ◌≡◌, ◌∙◌, subst, ℤ, ◌<◌, ◌++◌, [], ◌∷◌, length, map, FitsSigned}
+use Rattle.std.proofs.Common.{rules, arith, ◌∙◌, subst, ℤ, ◌<◌, length, map, FitsSigned}
 use Rattle.std.specs.Prelude.{unsigned_abs}
 use Rattle.std.specs.Int.{IsNonNegative, w128}
 use Rattle.std.proofs.lemmas.Int.{to_z-of_z}
@@ -17,7 +17,6 @@ returns-in_default-clause-refused g c =
 pub loop-i-preserved : goal.loop-i-preserved
 loop-i-preserved g c =
     let l : c.loop-i.i < length (map g.P.Sealed.integer c.args.lengths.now) = omega (arith, length-map c.args.lengths.now g.P.Sealed.integer, c.loop-i-test.true) in
-    let puts : c.push.new.self.items ≡ c.loop-i.counts.items ++ c.in-Some.count ∷ [] = search rules in
     let fits : FitsSigned w128 c.get.result = search rules in
-    rw puts (counted_more (map g.P.Sealed.integer c.args.lengths.now) c.loop-i.i c.loop-i.counts.items c.loop-i.left c.args.total c.get.result c.in-Some.count c.loop-i.invariant l
-    (at_place g.P.Sealed.integer c.args.lengths.now c.loop-i.i c.index-lengths-i.result c.get.result c.loop-i-test.true c.index-lengths-i.is c.get.ensures.number) (c.in-Some.ensures.count.0 ∙ to_z-of_z w128 c.get.result fits) c.in-Some.ensures.count.1)
+    counted_more (map g.P.Sealed.integer c.args.lengths.now) c.loop-i.i c.loop-i.counts.items c.loop-i.left c.args.total c.get.result c.in-Some.count c.loop-i.invariant l
+    (at_place g.P.Sealed.integer c.args.lengths.now c.loop-i.i c.index-lengths-i.result c.get.result c.loop-i-test.true c.index-lengths-i.is c.get.ensures.number) (c.in-Some.ensures.count.0 ∙ to_z-of_z w128 c.get.result fits) c.in-Some.ensures.count.1
