@@ -15,14 +15,17 @@ pub use vortex_arrays_buffer::primitive_buffer::PrimitiveBuffer;
 pub use vortex_arrays_builder::constant::build_constant;
 pub use vortex_arrays_builder::fits::{fits_constant, fits_dictionary};
 pub use vortex_arrays_builder::plain::build_plain;
-pub use vortex_arrays_bytes::primitive_array_bytes::PrimitiveArrayBytes;
+pub use vortex_arrays_builder::primitive_array_bytes::PrimitiveArrayBytes;
 pub use vortex_arrays_cast::cast::cast_array;
 pub use vortex_arrays_concat::struct_array_concat::StructArrayConcat;
 pub use vortex_arrays_concat::validity_concat::ValidityConcat;
 pub use vortex_arrays_core::array::{ArrayLayout, ArrayRef, StringKind, Validity};
+pub use vortex_arrays_dictionary::bool_array_ext::BoolArrayExt;
 pub use vortex_arrays_dictionary::build::build_dictionary;
 pub use vortex_arrays_dictionary::constant::is_constant;
 pub use vortex_arrays_dictionary::encode::dict_encode;
+pub use vortex_arrays_dictionary::native_buffer::NativeBuffer;
+pub use vortex_arrays_dictionary::primitive_array_ext::PrimitiveArrayExt;
 pub use vortex_arrays_leaf::bool_array::{BoolArray, BoolDataParts};
 pub use vortex_arrays_leaf::constant_array::ConstantArray;
 pub use vortex_arrays_leaf::primitive_array::{PrimitiveArray, PrimitiveDataParts};
@@ -32,9 +35,6 @@ pub use vortex_arrays_nested::fixed_size_list::{
     FixedSizeListArray, FixedSizeListDataParts, FixedSizeListSlots,
 };
 pub use vortex_arrays_nested::list_view::{ListViewArray, ListViewDataParts, ListViewSlots};
-pub use vortex_arrays_numbers::bool_array_ext::BoolArrayExt;
-pub use vortex_arrays_numbers::native_buffer::NativeBuffer;
-pub use vortex_arrays_numbers::primitive_array_ext::PrimitiveArrayExt;
 pub use vortex_arrays_parts::array_ref_ext::ArrayRefExt;
 pub use vortex_arrays_parts::constant_array_ext::{ConstantArrayExt, ConstantDataParts};
 pub use vortex_arrays_parts::data::{
@@ -50,9 +50,9 @@ pub use vortex_arrays_parts::slots::{
 };
 pub use vortex_arrays_parts::struct_array_ext::StructArrayExt;
 pub use vortex_arrays_parts::var_bin_view_array_ext::{VarBinViewArrayExt, VarBinViewDataParts};
+pub use vortex_arrays_parts::var_bin_view_array_iter::VarBinViewArrayIter;
 pub use vortex_arrays_rebuild::density::ListViewArrayExt;
 pub use vortex_arrays_rebuild::rebuild::{ListViewRebuild, ListViewRebuildMode};
-pub use vortex_arrays_strings::var_bin_view_array_iter::VarBinViewArrayIter;
 pub use vortex_arrays_struct::column::column_at;
 pub use vortex_arrays_struct::fields::StructDataParts;
 pub use vortex_arrays_struct::mask::mask;

@@ -8,3 +8,4 @@ pub mod PlainLemmas
 pub mod RecordLemmas
 pub mod StringLemmas
 pub mod TypeLemmas
+pub mod IntegerLemmas

@@ -4,3 +4,4 @@ pub mod Plain
 pub mod Strings
 pub mod TooLarge
 pub mod Types
+pub mod Integers

@@ -9,3 +9,7 @@ pub mod KeyedLemmas
 pub mod NumberLemmas
 pub mod NumberingLemmas
 pub mod ValueLemmas
+pub mod ExtremeLemmas
+pub mod MaskLemmas
+pub mod NarrowLemmas
+pub mod ReinterpretLemmas

@@ -5,3 +5,5 @@ pub mod Distinct
 pub mod Firsts
 pub mod Keyed
 pub mod Numbering
+pub mod Narrowed
+pub mod Reinterpreted

@@ -2,3 +2,8 @@ pub mod NullLemmas
 pub mod SlotLemmas
 pub mod TypeLemmas
 pub mod TypedLemmas
+pub mod FaultLemmas
+pub mod LentLemmas
+pub mod RowLemmas
+pub mod TextTypes
+pub mod ViewLemmas

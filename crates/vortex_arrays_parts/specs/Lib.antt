@@ -1,3 +1,4 @@
 pub mod Faults
 pub mod Nulls
 pub mod Typed
+pub mod Values

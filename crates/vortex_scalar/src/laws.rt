@@ -1,5 +1,9 @@
 //! Laws of values. Those over definitions are functions without arguments, whose clauses are the
 //! laws. The others make the calls that the law speaks of, and answer what each of them gave.
+pub use vortex_scalar_builders::laws::{
+    bounds_are_well_formed, bounds_fit, highs_are_of_the_function, highs_are_unique,
+    highs_stay_above, lows_are_of_the_function, lows_are_unique, lows_stay_below,
+};
 pub use vortex_scalar_convert::casts::{
     by_way_of, casts_of_both, equality_and_hashes, nullable_and_back, order_and_equality,
     there_and_back,
@@ -16,8 +20,4 @@ pub use vortex_scalar_ops::laws::{
     eq_values_compare_alike, eq_values_hash_alike, equality_is_an_equivalence, order_is_transitive,
     order_turns, plain_types_have_plain_values, values_of_a_type_compare,
     values_that_tie_are_equal,
-};
-pub use vortex_scalar_truncation::laws::{
-    bounds_are_well_formed, bounds_fit, highs_are_of_the_function, highs_are_unique,
-    highs_stay_above, lows_are_of_the_function, lows_are_unique, lows_stay_below,
 };

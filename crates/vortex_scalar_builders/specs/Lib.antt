@@ -1,1 +1,2 @@
 pub mod nested
+pub mod Laws

@@ -9,7 +9,7 @@ use Rattle.vortex_scalar_value.specs.View.{raw_of}
 use Rattle.vortex_scalar_value.specs.declared.scalar_value.ScalarValue as value
 use Rattle.vortex_scalar_value.proofs.Views.{raw_of-Utf8, raw_of-Binary}
 use Rattle.vortex_stats_array.specs.Zones.{high_by}
-use Rattle.vortex_scalar_truncation.proofs.Unique.{low_is, high_is}
+use Rattle.vortex_scalar_builders.proofs.Unique.{low_is, high_is}
 
 abbrev pub text_said : List ℕ → Content
 text_said t = content_of (raw_of (value.Utf8 t))

@@ -9,7 +9,7 @@ use vortex_dtype_ptype::ptype::PType;
 use vortex_scalar_value::pvalue::PValue;
 use vortex_scalar_value::scalar_value::ScalarValue;
 use vortex_stats_bound::precision::Precision;
-use vortex_stats_stat::stat::sum_dtype;
+use vortex_stats_expr::stat::sum_dtype;
 
 /// The statistics of the rows of an array, as a zone of Vortex's zone maps has them.
 #[derive(Drop)]

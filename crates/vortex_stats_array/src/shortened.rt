@@ -10,8 +10,8 @@ ghost use Rattle.vortex_stats_array.specs.Zones.{bound_content, high_by};
 use bytes::Bytes;
 use std::alloc::{AllocError, Global};
 use vortex_dtype_core::BufferString;
-use vortex_scalar_truncation::byte_bounds::{lower_bytes, upper_bytes};
-use vortex_scalar_truncation::text_bounds::{lower_text, upper_text};
+use vortex_scalar_builders::byte_bounds::{lower_bytes, upper_bytes};
+use vortex_scalar_builders::text_bounds::{lower_text, upper_text};
 use vortex_scalar_value::scalar_value::ScalarValue;
 use vortex_stats_bound::precision::Precision;
 

@@ -4,7 +4,7 @@ use Rattle.vortex_stats_bind.specs.declared.bound.BoundNode.{BoundNode}
 use Rattle.vortex_stats_bind.specs.declared.bound.BoundNode.TheVariants.{Literal, Column, Compare, And, Or, Not, IsNull, IsNotNull, Between, Like, RowCount, Stat}
 use Rattle.vortex_stats_bind.specs.Bound.{Bound, fixed, place, test, each, some, opposite, null_test, value_test, range_test, match_test, count_of_rows, placeholder}
 use Rattle.vortex_stats_expr.specs.Tree.{comparison_of, is_strict}
-use Rattle.vortex_stats_stat.specs.Aggregate.{aggregate_of}
+use Rattle.vortex_stats_expr.specs.Aggregate.{aggregate_of}
 
 abbrev pub bound_tree : BoundNode → Bound
 bound_tree (Literal v) = fixed (content_in v)

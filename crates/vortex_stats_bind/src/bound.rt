@@ -10,7 +10,7 @@ ghost use Rattle.vortex_scalar_value.specs.View.{raw_of, content_at, content_in}
 ghost use Rattle.vortex_stats_bind.specs.Bound.{Provided, fixed, place, test, each, some, opposite, null_test, value_test, range_test, match_test, count_of_rows, placeholder, place_of, evaluate_bound, bound_value};
 ghost use Rattle.vortex_stats_bind.specs.OperandValue.{operand_value};
 ghost use Rattle.vortex_stats_expr.specs.Tree.{comparison_of, is_strict};
-ghost use Rattle.vortex_stats_stat.specs.Aggregate.{aggregate_of};
+ghost use Rattle.vortex_stats_expr.specs.Aggregate.{aggregate_of};
 
 use crate::value::{
     Value, compare_values, is_between, is_null, kleene_and, kleene_not, kleene_or, like_values,
@@ -19,9 +19,9 @@ use crate::value::{
 use std::alloc::{AllocError, Global};
 use std::marker::Model;
 use vortex_scalar_value::scalar_value::ScalarValue;
+use vortex_stats_expr::aggregate::AggregateFn;
 use vortex_stats_expr::operator::Comparison;
 use vortex_stats_expr::options::BetweenOptions;
-use vortex_stats_stat::aggregate::AggregateFn;
 
 /// A predicate or a proof over rows of one type, the tree of what Vortex calls a bound expression.
 /// `bind` makes one of a predicate without a fault, and `bind_proof` of any proof. Contracts see it

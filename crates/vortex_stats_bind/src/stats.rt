@@ -7,7 +7,7 @@ ghost use Rattle.vortex_scalar_value.specs.View.{content_at};
 ghost use Rattle.vortex_stats_bind.specs.Bound.{Bound, fixed, place, range_test, placeholder};
 ghost use Rattle.vortex_stats_bind.specs.Stats.{IsAnswer, IsBinding};
 ghost use Rattle.vortex_stats_expr.specs.Tree.{is_strict};
-ghost use Rattle.vortex_stats_stat.specs.Aggregate.{aggregate_of};
+ghost use Rattle.vortex_stats_expr.specs.Aggregate.{aggregate_of};
 
 use crate::bound::{
     BoundNode, BoundTree, bound_and, bound_between, bound_compare, bound_is_not_null,
@@ -16,8 +16,8 @@ use crate::bound::{
 use std::alloc::{AllocError, Global};
 use vortex_scalar_value::clone::clone_value;
 use vortex_scalar_value::scalar_value::ScalarValue;
+use vortex_stats_expr::aggregate::AggregateFn;
 use vortex_stats_expr::options::BetweenOptions;
-use vortex_stats_stat::aggregate::AggregateFn;
 
 /// A source of statistics of some rows, as Vortex's `StatBinder`. Literals carry no type here, so
 /// it is told none.

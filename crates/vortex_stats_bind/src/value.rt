@@ -15,7 +15,7 @@ use vortex_scalar_value::pvalue::PValue;
 use vortex_scalar_value::scalar_value::ScalarValue;
 use vortex_stats_expr::operator::Comparison;
 use vortex_stats_expr::options::BetweenOptions;
-use vortex_stats_like::matching::{has_backslash, is_like};
+use vortex_stats_match::like::{has_backslash, is_like};
 
 /// The value of an operand: null, a truth value or a count that was computed, or a value that
 /// stands in a literal, a row or a statistic.

@@ -4,7 +4,7 @@ ghost use Rattle.vortex_model.specs.Valid.{valid};
 ghost use Rattle.vortex_dtype_core.specs.View.{type_of};
 ghost use Rattle.vortex_scalar_value.specs.View.{raw_of};
 ghost use Rattle.vortex_scalar_core.specs.Scalar.{scalar_type, scalar_raw};
-ghost use Rattle.vortex_stats_stat.specs.declared.error.StatsError.TheVariants.{Memory, InvalidStat};
+ghost use Rattle.vortex_stats_expr.specs.declared.error.StatsError.TheVariants.{Memory, InvalidStat};
 ghost use Rattle.vortex_stats_bound.specs.Precision.{precision_of, precision_map};
 ghost use Rattle.vortex_stats_bound.specs.Typed.{is_precision_of, AreOfType};
 
@@ -12,7 +12,7 @@ use crate::precision::Precision;
 use vortex_dtype_core::dtype::DType;
 use vortex_scalar_core::scalar::Scalar;
 use vortex_scalar_value::scalar_value::ScalarValue;
-use vortex_stats_stat::error::StatsError;
+use vortex_stats_expr::error::StatsError;
 
 fn typed(dtype: DType, value: ScalarValue) -> Result<Scalar, StatsError>
     ensures when { is_ok result ≡ valid (type_of dtype) (raw_of value) }

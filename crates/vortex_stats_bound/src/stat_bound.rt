@@ -2,7 +2,7 @@
 ghost use Rattle.std.specs.Prelude.{◌≡◌, option_map};
 ghost use Rattle.std.specs.Option.{option_copied};
 ghost use Rattle.vortex_model_table.specs.Statistics.{Precision as Known};
-ghost use Rattle.vortex_stats_stat.specs.declared.stat.Stat.{Stat};
+ghost use Rattle.vortex_stats_expr.specs.declared.stat.Stat.{Stat};
 ghost use Rattle.vortex_stats_bound.specs.Precision.{precision_of, exact_value, if_known};
 ghost use Rattle.vortex_stats_bound.specs.Bounds.{
   Union,
@@ -18,7 +18,7 @@ use crate::intersection::IntersectionResult;
 use crate::precision::Precision;
 use crate::union::Side;
 use std::cmp::Ordering;
-use vortex_stats_stat::stat::Stat;
+use vortex_stats_expr::stat::Stat;
 
 /// What is known of a statistic, read as a bound, as Vortex's `StatBound`.
 pub trait StatBound<T>: Sized {

@@ -6,9 +6,9 @@ use Rattle.vortex_model.specs.Path.{Names, Positions, positions, type_at, type_o
 use Rattle.vortex_model_table.specs.Expression.{column}
 use Rattle.vortex_model_rules.specs.Faults.{ProofFault, unless, unknown_column, unequal_types, not_boolean, unsupported_aggregate, not_evaluable, reads_a_column, binding_fault}
 use Rattle.vortex_stats_set.specs.Valid.{are_valid_for}
-use Rattle.vortex_stats_stat.specs.declared.error.StatsError.{StatsError}
-use Rattle.vortex_stats_stat.specs.declared.error.StatsError.TheVariants as error
-use Rattle.vortex_stats_typing.specs.Typed.{IsReason}
+use Rattle.vortex_stats_expr.specs.declared.error.StatsError.{StatsError}
+use Rattle.vortex_stats_expr.specs.declared.error.StatsError.TheVariants as error
+use Rattle.vortex_stats_rewrite.specs.Typed.{IsReason}
 use Rattle.vortex_stats_evaluate.specs.declared.column.ColumnStats.{ColumnStats}
 use Rattle.vortex_stats_evaluate.specs.Scopes.{Set, IsOf, IsAdded, IsScopeFault}
 

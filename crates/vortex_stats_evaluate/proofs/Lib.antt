@@ -3,3 +3,4 @@ mod Binding
 mod Found
 mod RowTruths
 mod Telling
+pub mod Told

@@ -12,17 +12,17 @@ use Rattle.vortex_model_table.specs.Typing.{type_of_aggregate}
 use Rattle.vortex_model_table.proofs.ContentOrder.{true_left, true_right}
 use Rattle.vortex_dtype_core.specs.View.{type_of}
 use Rattle.vortex_stats_bind.specs.Bound.{Bound, place, place_of}
-use Rattle.vortex_stats_stat.specs.declared.error.StatsError.{StatsError}
-use Rattle.vortex_stats_stat.specs.declared.error.StatsError.TheVariants as error
-use Rattle.vortex_stats_stat.specs.declared.stat.Stat.{Stat}
-use Rattle.vortex_stats_stat.specs.declared.stat.Stat.TheVariants as stat
-use Rattle.vortex_stats_stat.specs.Stats.{number_of_stat}
+use Rattle.vortex_stats_expr.specs.declared.error.StatsError.{StatsError}
+use Rattle.vortex_stats_expr.specs.declared.error.StatsError.TheVariants as error
+use Rattle.vortex_stats_expr.specs.declared.stat.Stat.{Stat}
+use Rattle.vortex_stats_expr.specs.declared.stat.Stat.TheVariants as stat
+use Rattle.vortex_stats_expr.specs.Stats.{number_of_stat}
 use Rattle.vortex_stats_set.specs.Known.{raw_pairs, raw_precision}
 use Rattle.vortex_stats_set.specs.Pairs.{known, or_nothing}
 use Rattle.vortex_stats_set.specs.Said.{statistics_in}
 use Rattle.vortex_stats_set.specs.Sets.{value_in}
 use Rattle.vortex_stats_set.specs.Valid.{is_known_of, are_valid_for}
-use Rattle.vortex_stats_provider.specs.Placeholders.{is_tellable, IsStatFault, told_by as told_by_stat}
+use Rattle.vortex_stats_evaluate.specs.Told.{is_tellable, IsStatFault, told_by as told_by_stat}
 use Rattle.vortex_stats_evaluate.specs.declared.column.ColumnStats.{ColumnStats}
 use Rattle.vortex_stats_evaluate.specs.Scopes.{Set, stats_at, told_by, told_in, told_of}
 

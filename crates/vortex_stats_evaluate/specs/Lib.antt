@@ -4,3 +4,6 @@ pub mod Refusals
 pub mod RowCounts
 pub mod Scopes
 pub mod Truths
+pub mod Names
+pub mod Told
+pub mod Reading

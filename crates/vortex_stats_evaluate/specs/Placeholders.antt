@@ -4,8 +4,8 @@ use Rattle.vortex_model_table.specs.Expression.{Aggregate}
 use Rattle.vortex_model_table.specs.Typing.{type_of_aggregate}
 use Rattle.vortex_dtype_core.specs.View.{type_of}
 use Rattle.vortex_stats_bind.specs.Bound.{placeholder}
-use Rattle.vortex_stats_stat.specs.declared.error.StatsError.{StatsError}
-use Rattle.vortex_stats_stat.specs.declared.error.StatsError.TheVariants as error
+use Rattle.vortex_stats_expr.specs.declared.error.StatsError.{StatsError}
+use Rattle.vortex_stats_expr.specs.declared.error.StatsError.TheVariants as error
 use Rattle.vortex_stats_evaluate.specs.declared.bind.BoundExpression.{BoundExpression}
 
 -- The placeholder for a statistic of the input's values. It has a truth where the input has one,

@@ -2,8 +2,8 @@
 use Rattle.std.specs.Prelude.{◌≡◌, true, false}
 use Rattle.vortex_dtype_core.specs.Parts.{is_boolean_type}
 use Rattle.vortex_dtype_core.specs.View.{type_of}
-use Rattle.vortex_stats_stat.specs.declared.error.StatsError.{StatsError}
-use Rattle.vortex_stats_stat.specs.declared.error.StatsError.TheVariants as error
+use Rattle.vortex_stats_expr.specs.declared.error.StatsError.{StatsError}
+use Rattle.vortex_stats_expr.specs.declared.error.StatsError.TheVariants as error
 use Rattle.vortex_stats_evaluate.specs.declared.bind.BoundExpression.{BoundExpression}
 
 -- its value is a truth value at each row

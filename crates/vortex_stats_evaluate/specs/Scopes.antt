@@ -14,9 +14,9 @@ use Rattle.vortex_stats_bound.specs.declared.precision.Precision as known
 use Rattle.vortex_stats_set.specs.Known.{raw_pairs}
 use Rattle.vortex_stats_set.specs.Said.{statistics_in}
 use Rattle.vortex_stats_set.specs.Valid.{are_valid_for}
-use Rattle.vortex_stats_stat.specs.declared.error.StatsError.{StatsError}
-use Rattle.vortex_stats_stat.specs.declared.error.StatsError.TheVariants as error
-use Rattle.vortex_stats_stat.specs.declared.stat.Stat.{Stat}
+use Rattle.vortex_stats_expr.specs.declared.error.StatsError.{StatsError}
+use Rattle.vortex_stats_expr.specs.declared.error.StatsError.TheVariants as error
+use Rattle.vortex_stats_expr.specs.declared.stat.Stat.{Stat}
 use Rattle.vortex_stats_evaluate.specs.declared.column.ColumnStats.{ColumnStats}
 
 -- ---- statistics by path

@@ -9,15 +9,15 @@ ghost use Rattle.vortex_dtype_core.specs.View.{type_of};
 ghost use Rattle.vortex_stats_bind.specs.Bound.{Provided, evaluate_bound, by_names};
 ghost use Rattle.vortex_stats_evaluate.specs.Scopes.{at_row, over_rows, given_at, given_over};
 ghost use Rattle.vortex_stats_evaluate.specs.declared.column.ColumnStats.{ColumnStats};
-ghost use Rattle.vortex_stats_typing.specs.Typed.{IsReason};
+ghost use Rattle.vortex_stats_rewrite.specs.Typed.{IsReason};
 
 use std::alloc::Global;
 use vortex_dtype_core::dtype::DType;
 use vortex_stats_bind::bind::bind_proof;
 use vortex_stats_bind::bound::BoundTree;
+use vortex_stats_expr::error::StatsError;
 use vortex_stats_expr::expression::Expression;
-use vortex_stats_stat::error::StatsError;
-use vortex_stats_typing::check::{reads_columns, type_expression};
+use vortex_stats_rewrite::check::{reads_columns, type_expression};
 
 /// An expression over rows of one type whose columns are resolved, as Vortex's `BoundExpression`,
 /// with what its typing found.

@@ -7,14 +7,14 @@
 ghost use Rattle.std.specs.Prelude.{IfOk, IfErr};
 ghost use Rattle.vortex_model_table.specs.Expression.{sum, null_count, nan_count, min_max, all_null, all_non_null, all_nan, all_non_nan};
 ghost use Rattle.vortex_stats_evaluate.specs.Placeholders.{IsPlaceholderOf, IsPlaceholderFault};
-ghost use Rattle.vortex_stats_stat.specs.Aggregate.{aggregate_of};
+ghost use Rattle.vortex_stats_expr.specs.Aggregate.{aggregate_of};
 
 use crate::bind::BoundExpression;
 use std::alloc::Global;
 use vortex_stats_bind::bound::{BoundNode, BoundTree};
-use vortex_stats_stat::aggregate::AggregateFn;
-use vortex_stats_stat::aggregate_dtype::aggregate_dtype;
-use vortex_stats_stat::error::StatsError;
+use vortex_stats_expr::aggregate::AggregateFn;
+use vortex_stats_expr::aggregate_dtype::aggregate_dtype;
+use vortex_stats_expr::error::StatsError;
 
 /// A placeholder, in a proof, for a statistic of the values of a bound expression. The input is
 /// moved into it, and no name is looked up.

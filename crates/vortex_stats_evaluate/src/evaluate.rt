@@ -12,8 +12,8 @@ use crate::rows::{truth_over, truths_of};
 use crate::scope::Scope;
 use std::alloc::Global;
 use vortex_stats_bind::stats::bind_stats;
+use vortex_stats_expr::error::StatsError;
 use vortex_stats_rules::meter::Meter;
-use vortex_stats_stat::error::StatsError;
 
 /// The truth of an expression at each row of the scope's array, in order, where `None` is null.
 /// Placeholders have the values that `stat_scalar` gives of the statistics at their column's path,

@@ -15,9 +15,9 @@ use vortex_arrays_core::array::ArrayRef;
 use vortex_scalar_value::scalar_value::ScalarValue;
 use vortex_stats_bind::bound::{BoundNode, BoundTree, Operands, part_at, value_of};
 use vortex_stats_bind::value::{Value, read, truth_of};
+use vortex_stats_expr::aggregate::AggregateFn;
 use vortex_stats_select::columns::ArrayColumns;
 use vortex_stats_select::select::select;
-use vortex_stats_stat::aggregate::AggregateFn;
 
 // A row among so many, where `None` is null, as the source of its columns.
 #[derive(Drop)]

@@ -6,10 +6,11 @@ ghost use Rattle.vortex_stats_evaluate.specs.Scopes.{IsOf, IsAdded, stats_at, Is
 ghost use Rattle.vortex_model.specs.Content.{null};
 ghost use Rattle.vortex_stats_bind.specs.Stats.{IsAnswer};
 ghost use Rattle.vortex_stats_evaluate.specs.Scopes.{told_of};
-ghost use Rattle.vortex_stats_stat.specs.Aggregate.{aggregate_of};
-ghost use Rattle.vortex_stats_stat.specs.declared.error.StatsError.TheVariants.{Memory};
+ghost use Rattle.vortex_stats_expr.specs.Aggregate.{aggregate_of};
+ghost use Rattle.vortex_stats_expr.specs.declared.error.StatsError.TheVariants.{Memory};
 
 use crate::column::ColumnStats;
+use crate::stat_scalar::stat_scalar;
 use std::alloc::{AllocError, Global};
 use vortex_arrays_core::array::ArrayRef;
 use vortex_dtype_core::dtype::DType;
@@ -17,12 +18,11 @@ use vortex_dtype_ptype::field_names::FieldNames;
 use vortex_stats_bind::bind::column_positions;
 use vortex_stats_bind::bound::{BoundTree, bound_literal};
 use vortex_stats_bind::stats::StatBinder;
+use vortex_stats_expr::aggregate::AggregateFn;
+use vortex_stats_expr::error::StatsError;
 use vortex_stats_expr::expression::col;
-use vortex_stats_provider::stat_scalar::stat_scalar;
+use vortex_stats_rewrite::check::type_expression;
 use vortex_stats_set::stats_set::StatsSet;
-use vortex_stats_stat::aggregate::AggregateFn;
-use vortex_stats_stat::error::StatsError;
-use vortex_stats_typing::check::type_expression;
 
 /// Rows with what is known of them: what a bound expression is evaluated over.
 #[derive(Drop)]

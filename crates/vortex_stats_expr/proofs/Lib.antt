@@ -1,1 +1,4 @@
 pub mod Classes
+pub mod BitLemmas
+mod Examples
+pub mod Written

@@ -5,3 +5,7 @@ pub mod TreeCode
 pub mod TreeFalls
 pub mod TreeOf
 pub mod Types
+pub mod Aggregate
+pub mod Bitsets
+pub mod Refusals
+pub mod Stats

@@ -4,7 +4,7 @@ use Rattle.vortex_scalar_core.specs.Scalar.{scalar_type, scalar_content}
 use Rattle.vortex_stats_expr.specs.declared.expression.Node.{Node}
 use Rattle.vortex_stats_expr.specs.declared.expression.Node.TheVariants.{Literal, Column, Compare, And, Or, Not, IsNull, IsNotNull, IsNan, Between, Like, RowCount, Stat}
 use Rattle.vortex_stats_expr.specs.Tree.{comparison_of, is_strict}
-use Rattle.vortex_stats_stat.specs.Aggregate.{aggregate_of}
+use Rattle.vortex_stats_expr.specs.Aggregate.{aggregate_of}
 
 abbrev pub tree_of : Node → Expression
 tree_of (Literal s) = literal (scalar_type s) (scalar_content s)

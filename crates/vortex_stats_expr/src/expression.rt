@@ -6,8 +6,9 @@ ghost use Rattle.std.specs.Prelude.{◌≡◌, IfOk, IfSome, IfNone, None, []};
 ghost use Rattle.vortex_model_table.specs.Expression.{literal, column, compare, both, either, negation, is_null, is_not_null, is_nan, between, like, row_count, equal, not_equal, greater, at_least, less, at_most, statistic};
 ghost use Rattle.vortex_scalar_core.specs.Scalar.{scalar_type, scalar_content};
 ghost use Rattle.vortex_stats_expr.specs.Tree.{combined, comparison_of, is_strict, path_of, scalar_fn_of};
-ghost use Rattle.vortex_stats_stat.specs.Aggregate.{aggregate_of};
+ghost use Rattle.vortex_stats_expr.specs.Aggregate.{aggregate_of};
 
+use crate::aggregate::AggregateFn;
 use crate::operator::{Comparison, Operator};
 use crate::options::{BetweenOptions, LikeOptions};
 use crate::scalar_fn::ScalarFnId;
@@ -15,7 +16,6 @@ use std::alloc::{AllocError, Global};
 use std::marker::Model;
 use vortex_dtype_ptype::field_names::FieldNames;
 use vortex_scalar_core::scalar::Scalar;
-use vortex_stats_stat::aggregate::AggregateFn;
 
 /// An expression over the rows of a table, as Vortex's `Expression`. It may be of any form and name
 /// any column: `bind` refuses what has no meaning. Contracts see it as a tree.

@@ -1,9 +1,17 @@
 //! Expressions over rows, and predicates among them.
+//!
+//! Statistics of columns: which there are, and how a set of them is written in bits.
 #![tactic(auto)]
 
+pub mod aggregate;
+pub mod aggregate_dtype;
+pub mod bitset;
+pub mod error;
 pub mod expression;
 pub mod operator;
 pub mod options;
 pub mod placeholders;
 pub mod scalar_fn;
+pub mod stat;
+pub mod stat_iter;
 pub mod types;

@@ -5,9 +5,9 @@
 ghost use Rattle.std.specs.Prelude.{◌≡◌, IfOk};
 ghost use Rattle.vortex_model_table.specs.Expression.{statistic, sum, null_count, nan_count, min_max, all_null, all_non_null, all_nan, all_non_nan};
 
+use crate::aggregate::AggregateFn;
 use crate::expression::{Expression, stat};
 use std::alloc::{AllocError, Global};
-use vortex_stats_stat::aggregate::AggregateFn;
 
 /// A record of the bounds `min` and `max`.
 pub fn min_max(alloc: Global, input: Expression) -> Result<Expression, AllocError>

@@ -6,7 +6,7 @@ use Rattle.vortex_model.specs.Content.{Content, Raw, raw_number}
 use Rattle.vortex_model.specs.Valid.{in_range, valid}
 use Rattle.vortex_model_table.specs.Statistics.{Precision, exact, inexact, absent, number_in, sum_of, IsHonestCount, IsHonestValue}
 use Rattle.vortex_stats_bound.specs.Typed.{is_precision_of}
-use Rattle.vortex_stats_stat.specs.Stats.{number_type}
+use Rattle.vortex_stats_expr.specs.Stats.{number_type}
 use Rattle.vortex_stats_set.specs.Merge.{within, added, merged_count, merged_sum}
 use Rattle.vortex_stats_set.specs.Pairs.{or_nothing}
 use Rattle.vortex_stats_set.specs.Said.{said_number, said_count}

@@ -3,7 +3,7 @@ use Rattle.std.proofs.Common.{◌≡◌, refl, pos, negsuc, [], ◌∷◌, true,
 use Rattle.vortex_model.specs.LogicalType.{i32, i64}
 use Rattle.vortex_model.specs.Content.{null, integer, raw_boolean, raw_number}
 use Rattle.vortex_model_table.specs.Statistics.{exact, absent, null_count_of, is_constant}
-use Rattle.vortex_stats_stat.specs.declared.stat.Stat.TheVariants as stat
+use Rattle.vortex_stats_expr.specs.declared.stat.Stat.TheVariants as stat
 use Rattle.vortex_stats_set.specs.Pairs.{Pairs}
 use Rattle.vortex_stats_set.specs.Merge.{merged_ordered}
 use Rattle.vortex_stats_set.specs.Combine.{combined_in_turn}

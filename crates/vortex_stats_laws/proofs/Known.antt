@@ -3,9 +3,9 @@ use Rattle.std.proofs.Common.{◌≡◌, ℕ, ◌==◌, ◌++◌, List, [], ◌�
 use Rattle.std.proofs.lemmas.Bool.{cases_eq, eq-eqb, ne_eqb}
 use Rattle.vortex_model.specs.Content.{Raw}
 use Rattle.vortex_model_table.specs.Statistics.{Precision}
-use Rattle.vortex_stats_stat.specs.declared.stat.Stat.{Stat}
-use Rattle.vortex_stats_stat.specs.declared.stat.Stat.TheVariants as stat
-use Rattle.vortex_stats_stat.specs.Stats.{number_of_stat}
+use Rattle.vortex_stats_expr.specs.declared.stat.Stat.{Stat}
+use Rattle.vortex_stats_expr.specs.declared.stat.Stat.TheVariants as stat
+use Rattle.vortex_stats_expr.specs.Stats.{number_of_stat}
 use Rattle.vortex_stats_set.specs.Sets.{is_of, has_stat, with_value, set_in, without, value_in}
 use Rattle.vortex_stats_set.specs.Pairs.{Pairs, known, put, or_nothing}
 

@@ -11,8 +11,8 @@ use Rattle.vortex_stats_bound.specs.Order.{Comparison}
 use Rattle.vortex_stats_bound.specs.declared.intersection.IntersectionResult.{IntersectionResult}
 use Rattle.vortex_stats_bound.specs.declared.intersection.IntersectionResult.TheVariants.{Value, Empty}
 use Rattle.vortex_stats_bound.specs.Bounds.{intersection_lower, intersection_upper, intersection_plain, common_value, first_unless_greater}
-use Rattle.vortex_stats_stat.specs.declared.stat.Stat.{Stat}
-use Rattle.vortex_stats_stat.specs.declared.stat.Stat.TheVariants as stat
+use Rattle.vortex_stats_expr.specs.declared.stat.Stat.{Stat}
+use Rattle.vortex_stats_expr.specs.declared.stat.Stat.TheVariants as stat
 use Rattle.vortex_stats_set.specs.Sets.{is_set}
 use Rattle.vortex_stats_set.specs.Pairs.{Pairs, known, put, or_nothing}
 use Rattle.vortex_stats_set.specs.Merge.{raw_order}

@@ -8,9 +8,9 @@ use Rattle.vortex_model.specs.Content.{Content, Raw, raw_boolean, content_of, is
 use Rattle.vortex_model_table.specs.Statistics.{Precision, inexact, absent, non_null, null_count_of, sum_of, is_constant, is_sorted, is_strictly_sorted, IsHonestValue}
 use Rattle.vortex_model_table.proofs.ContentOrder.{true_left, true_right}
 use Rattle.vortex_stats_bound.specs.Precision.{precision_map}
-use Rattle.vortex_stats_stat.specs.declared.stat.Stat.{Stat}
-use Rattle.vortex_stats_stat.specs.declared.stat.Stat.TheVariants as stat
-use Rattle.vortex_stats_stat.specs.Stats.{number_of_stat, is_commutative}
+use Rattle.vortex_stats_expr.specs.declared.stat.Stat.{Stat}
+use Rattle.vortex_stats_expr.specs.declared.stat.Stat.TheVariants as stat
+use Rattle.vortex_stats_expr.specs.Stats.{number_of_stat, is_commutative}
 use Rattle.vortex_stats_set.specs.Sets.{is_of, has_stat, is_set, value_in}
 use Rattle.vortex_stats_set.specs.Pairs.{Pairs, known, put, or_nothing}
 use Rattle.vortex_stats_set.specs.Said.{said_number, said_truth}

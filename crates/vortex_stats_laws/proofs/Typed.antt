@@ -7,9 +7,9 @@ use Rattle.vortex_model_table.proofs.ContentOrder.{true_left, true_right}
 use Rattle.vortex_scalar_value.specs.declared.scalar_value.ScalarValue.{ScalarValue}
 use Rattle.vortex_stats_bound.specs.Typed.{is_precision_of}
 use Rattle.vortex_stats_bound.specs.declared.precision.Precision as declared
-use Rattle.vortex_stats_stat.specs.declared.stat.Stat.{Stat}
-use Rattle.vortex_stats_stat.specs.declared.stat.Stat.TheVariants as stat
-use Rattle.vortex_stats_stat.specs.Stats.{number_of_stat, number_type}
+use Rattle.vortex_stats_expr.specs.declared.stat.Stat.{Stat}
+use Rattle.vortex_stats_expr.specs.declared.stat.Stat.TheVariants as stat
+use Rattle.vortex_stats_expr.specs.Stats.{number_of_stat, number_type}
 use Rattle.vortex_stats_set.specs.Sets.{value_in}
 use Rattle.vortex_stats_set.specs.Pairs.{or_nothing}
 use Rattle.vortex_stats_set.specs.Known.{raw_precision, raw_pairs}

@@ -11,9 +11,9 @@ use Rattle.vortex_model.specs.Content.{Content, content_of, is_null}
 use Rattle.vortex_model.specs.Order.{content_cmp, is_known}
 use Rattle.vortex_model_table.specs.Statistics.{non_null, null_count_of, sum_of, in_turn, is_at_most, is_below, IsHonestValue}
 use Rattle.vortex_stats_bound.specs.Precision.{precision_map}
-use Rattle.vortex_stats_stat.specs.declared.stat.Stat.{Stat}
-use Rattle.vortex_stats_stat.specs.declared.stat.Stat.TheVariants as stat
-use Rattle.vortex_stats_stat.specs.Stats.{number_of_stat, all_stats, is_commutative}
+use Rattle.vortex_stats_expr.specs.declared.stat.Stat.{Stat}
+use Rattle.vortex_stats_expr.specs.declared.stat.Stat.TheVariants as stat
+use Rattle.vortex_stats_expr.specs.Stats.{number_of_stat, all_stats, is_commutative}
 use Rattle.vortex_stats_set.specs.Pairs.{Pairs, known, put, or_nothing}
 use Rattle.vortex_stats_set.specs.Merge.{merged, merged_if, merged_in_turn, merged_ordered, merged_unordered, merged_sum, merged_count, sorted_across, sorted_if, stands_before}
 use Rattle.vortex_stats_set.specs.Said.{said_number, said_truth}

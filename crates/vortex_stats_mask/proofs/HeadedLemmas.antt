@@ -7,8 +7,8 @@ use Rattle.vortex_model.specs.Order.{bytes_cmp}
 use Rattle.vortex_model_table.specs.Expression.{Comparison}
 use Rattle.vortex_model_table.specs.Truth.{test_of}
 use Rattle.vortex_arrays_view.specs.Views.{value_of}
-use Rattle.vortex_stats_strings.specs.Heads.{HasHead, cmp_by_head}
-use Rattle.vortex_stats_strings.proofs.HeadLemmas.{cmp_is}
+use Rattle.vortex_stats_match.specs.Heads.{HasHead, cmp_by_head}
+use Rattle.vortex_stats_match.proofs.HeadLemmas.{cmp_is}
 use Rattle.vortex_stats_mask.specs.Columns.{kept, values_of}
 use Rattle.vortex_stats_mask.specs.Headed.{AllValid, rows_in, HaveHeads}
 use Rattle.vortex_stats_mask.specs.declared.column.Strings.{Strings}

@@ -1,7 +1,7 @@
 -- Columns of which the views of valid rows have the first bytes of their values.
 use Rattle.std.specs.Prelude.{◌≡◌, ℕ, List, [], ◌∷◌, Option, Some, None, Bool, true, All}
 use Rattle.std.specs.Borrow.{Bor}
-use Rattle.vortex_stats_strings.specs.Heads.{HasHead}
+use Rattle.vortex_stats_match.specs.Heads.{HasHead}
 use Rattle.vortex_stats_mask.specs.declared.column.Items.{Items}
 use Rattle.vortex_stats_mask.specs.declared.column.Items.TheVariants.{Texts, Binaries}
 use Rattle.vortex_stats_mask.specs.declared.column.Strings.{Strings}

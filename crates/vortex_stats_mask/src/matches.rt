@@ -3,12 +3,12 @@ ghost use Rattle.std.specs.Prelude.{◌≡◌, ◌≤◌, ◌&&◌, length, map}
 ghost use Rattle.vortex_arrays_view.specs.Views.{value_of};
 ghost use Rattle.vortex_stats_match.specs.Bytes.{byte_matches};
 ghost use Rattle.vortex_stats_mask.specs.Columns.{both_rows};
-ghost use Rattle.vortex_stats_strings.specs.Fronts.{match_by_head};
+ghost use Rattle.vortex_stats_match.specs.Fronts.{match_by_head};
 
 use crate::runs::retell_rows;
 use bytes::Bytes;
 use vortex_arrays_view::view::BinaryView;
-use vortex_stats_strings::front::{AnyFront, FirstByte, FirstFour, Front, begins_plain, is_match};
+use vortex_stats_match::front::{AnyFront, FirstByte, FirstFour, Front, begins_plain, is_match};
 
 // A row that the mask hasn't costs no more than its look.
 fn keep_by<F: Front>(

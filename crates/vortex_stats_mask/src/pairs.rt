@@ -21,7 +21,7 @@ use vortex_arrays_buffer::primitive_buffer::PrimitiveBuffer;
 use vortex_arrays_view::view::BinaryView;
 use vortex_dtype_native::native::NativePType;
 use vortex_stats_expr::operator::Comparison;
-use vortex_stats_strings::value::value_in;
+use vortex_stats_match::value::value_in;
 
 fn pair_bools(
     alloc: Global,

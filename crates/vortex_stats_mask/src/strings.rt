@@ -3,14 +3,14 @@ ghost use Rattle.std.specs.Prelude.{◌≡◌, map, IfOk};
 ghost use Rattle.vortex_model.specs.Order.{bytes_cmp};
 ghost use Rattle.vortex_model_table.specs.Truth.{test_of};
 ghost use Rattle.vortex_stats_expr.specs.Tree.{comparison_of};
-ghost use Rattle.vortex_stats_strings.specs.Heads.{cmp_by_head};
+ghost use Rattle.vortex_stats_match.specs.Heads.{cmp_by_head};
 
 use bytes::Bytes;
 use std::alloc::{AllocError, Global};
 use std::cmp::Ordering;
 use vortex_arrays_view::view::BinaryView;
 use vortex_stats_expr::operator::Comparison;
-use vortex_stats_strings::order::order_by_head;
+use vortex_stats_match::order::order_by_head;
 
 // The order of two values. Their first bytes mostly decide.
 pub(crate) fn order(value: &[u8], other: &[u8]) -> Ordering

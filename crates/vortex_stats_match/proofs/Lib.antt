@@ -1,3 +1,5 @@
 pub mod ByteLemmas
 pub mod PieceLemmas
 pub mod SignLemmas
+pub mod FrontLemmas
+pub mod HeadLemmas

@@ -1,3 +1,6 @@
 pub mod Bytes
 pub mod Laws
 pub mod Pieces
+pub mod Fronts
+pub mod Heads
+pub mod HeadLaws

@@ -4,7 +4,7 @@ use Rattle.vortex_model.specs.LogicalType.{LogicalType}
 use Rattle.vortex_model.specs.Content.{Content, boolean}
 use Rattle.vortex_model_table.specs.Expression.{Expression, literal, Comparison}
 use Rattle.vortex_model_table.specs.Rewrite.{as_list, is_comparable, is_float_placeholder, comparison_falsifier, comparison_falsifiers, falsifiers, satisfiers}
-use Rattle.vortex_stats_rewrite.specs.Literals.{literal_falsifier, literal_satisfier}
+use Rattle.vortex_stats_rewrite.specs.LiteralProofs.{literal_falsifier, literal_satisfier}
 use Rattle.vortex_stats_rewrite.specs.Guards.{kept_from_nan}
 
 if_both : (a b : Bool) (proofs : List Expression) → a ≡ true → b ≡ true → (if not (a && b) then [] else proofs) ≡ proofs

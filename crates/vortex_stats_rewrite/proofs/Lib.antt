@@ -5,3 +5,7 @@ pub mod Signs
 pub mod StatsOfLiterals
 pub mod TruthLiterals
 pub mod Views
+pub mod Columns
+pub mod Patterns
+pub mod Placeholders
+pub mod Typed

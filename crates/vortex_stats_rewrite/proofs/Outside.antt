@@ -5,7 +5,7 @@ use Rattle.vortex_model_table.specs.Bounds.{IsRaise, raise}
 use Rattle.vortex_model_table.specs.Expression.{Expression, greater, at_least}
 use Rattle.vortex_model_table.specs.Rewrite.{exact_text, beginning, shape_falsifier, outside}
 use Rattle.vortex_model_laws.proofs.BoundFunctions.{raise_by_function}
-use Rattle.vortex_scalar_truncation.proofs.Raised.{raise_same}
+use Rattle.vortex_scalar_builders.proofs.Raised.{raise_same}
 
 pub outside_text : (x : Expression) (t : List ℕ) → IsUtf8 t → Some (outside x t t greater) ≡ shape_falsifier x (exact_text (chars t))
 outside_text x t u = ap (λ v. Some (outside x v v greater)) (sym (encodes-chars t u))

@@ -4,7 +4,7 @@ use Rattle.std.specs.Char.{encode_utf8}
 use Rattle.std.specs.Str.{encode_utf8_all}
 use Rattle.std.proofs.lemmas.Str.{chars-nil, encodes-chars}
 use Rattle.vortex_model_table.specs.Rewrite.{Sign, letter, wildcard, sign_of, signs_of, Shape, exact_text, beginning, no_shape, shape_of_signs, shape_of, onto_shape}
-use Rattle.vortex_scalar_truncation.proofs.Beginnings.{chars_none, chars_last}
+use Rattle.vortex_scalar_builders.proofs.Beginnings.{chars_none, chars_last}
 use Rattle.vortex_stats_rewrite.specs.Patterns.{IsUnsigned, AreNoLetter, StartsWithoutLetter}
 
 other_by : (c : ℕ) (b : Bool) → (c == 92) ≡ b → (c ≡ 92 → ⊥) → b ≡ false

@@ -5,7 +5,7 @@ use Rattle.vortex_model.specs.LogicalType.{LogicalType}
 use Rattle.vortex_model_table.specs.Expression.{Expression, literal, statistic, Aggregate, null_count, nan_count}
 use Rattle.vortex_model_table.specs.Typing.{expression_type, has_bounds, is_of_floats}
 use Rattle.vortex_model_table.specs.Rewrite.{bound_expression, null_count_expression, nan_count_expression, is_comparable, is_float_placeholder}
-use Rattle.vortex_stats_typing.specs.Literals.{is_literal}
+use Rattle.vortex_stats_rewrite.specs.Literals.{is_literal}
 
 pub bound_of_other : (a : Aggregate) (e : Expression) → is_literal e ≡ false → bound_expression a e ≡ statistic e a
 bound_of_other a (literal k c) h = cc (h)

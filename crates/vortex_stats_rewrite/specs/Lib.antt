@@ -1,3 +1,6 @@
 pub mod Guards
-pub mod Literals
+pub mod LiteralProofs
 pub mod Patterns
+pub mod Classes
+pub mod Literals
+pub mod Typed

@@ -1,13 +1,13 @@
--- The proofs from literals, by what they say.
-use Rattle.std.specs.Prelude.{Option, Some, None, not}
-use Rattle.vortex_model.specs.Content.{Content, boolean}
-use Rattle.vortex_model_table.specs.Expression.{Expression}
-use Rattle.vortex_model_table.specs.Rewrite.{boolean_literal}
+-- Literals: what they are.
+use Rattle.std.specs.Prelude.{ℕ, List, Option, Some, None, Bool, true, false}
+use Rattle.vortex_model.specs.Content.{text}
+use Rattle.vortex_model_table.specs.Expression.{Expression, literal}
 
-abbrev pub literal_falsifier : Content → Option Expression
-literal_falsifier (boolean b) = Some (boolean_literal (not b))
-literal_falsifier c = None
+abbrev pub is_literal : Expression → Bool
+is_literal (literal k c) = true
+is_literal e = false
 
-abbrev pub literal_satisfier : Content → Option Expression
-literal_satisfier (boolean b) = Some (boolean_literal b)
-literal_satisfier c = None
+-- the text that a literal is
+abbrev pub text_of_literal : Expression → Option (List ℕ)
+text_of_literal (literal k (text t)) = Some t
+text_of_literal e = None

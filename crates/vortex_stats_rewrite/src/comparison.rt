@@ -11,19 +11,19 @@ ghost use Rattle.vortex_model_table.specs.Typing.{expression_type, has_bounds, i
 ghost use Rattle.vortex_model_table.specs.Rewrite.{bound_expression, is_comparable, is_float_placeholder, comparison_falsifier, comparison_falsifiers, guarded, no_nan_by_count, no_nan_by_flag, joined_proofs, falsifier};
 ghost use Rattle.vortex_dtype_core.specs.View.{type_of};
 ghost use Rattle.vortex_stats_expr.specs.Tree.{comparison_of, is_strict};
-ghost use Rattle.vortex_stats_stat.specs.Aggregate.{aggregate_of};
+ghost use Rattle.vortex_stats_expr.specs.Aggregate.{aggregate_of};
 ghost use Rattle.vortex_stats_rewrite.specs.Guards.{guard_of, kept_from_nan};
 
+use crate::classes::{has_bounds, is_of_floats};
 use crate::joined::{either_proof, join_proofs, one, two};
+use crate::literal::as_literal;
 use crate::stats::{bound, count, placeholder};
 use std::alloc::{AllocError, Global};
 use vortex_dtype_core::dtype::DType;
+use vortex_stats_expr::aggregate::AggregateFn;
 use vortex_stats_expr::expression::{Expression, and, compare, eq, or};
 use vortex_stats_expr::operator::Comparison;
 use vortex_stats_expr::options::BetweenOptions;
-use vortex_stats_stat::aggregate::AggregateFn;
-use vortex_stats_typing::classes::{has_bounds, is_of_floats};
-use vortex_stats_typing::literal::as_literal;
 
 /// The proof of BETWEEN is that of AND of its comparisons with the lower and the upper end, as
 /// Vortex's `BetweenStatsRewrite`.

@@ -5,16 +5,16 @@ ghost use Rattle.vortex_model_table.specs.Rewrite.{exact_text, beginning, shape_
 ghost use Rattle.vortex_stats_expr.specs.Tree.{comparison_of};
 
 use crate::like_variant::{LikeVariant, like_variant};
+use crate::literal::literal_text;
 use crate::stats::{bound, text};
 use std::alloc::{AllocError, Global};
 use std::string::String;
 use vortex_dtype_core::BufferString;
-use vortex_scalar_truncation::raising::raise;
+use vortex_scalar_builders::raising::raise;
+use vortex_stats_expr::aggregate::AggregateFn;
 use vortex_stats_expr::expression::{Expression, compare, lt, or};
 use vortex_stats_expr::operator::Comparison;
 use vortex_stats_expr::options::LikeOptions;
-use vortex_stats_stat::aggregate::AggregateFn;
-use vortex_stats_typing::literal::literal_text;
 
 /// Vortex's `LikeStatsRewrite`. `None` where the LIKE is negated or ignores case, where its pattern
 /// is no literal text or ends in a lone backslash, and where it begins with a wildcard or with a

@@ -5,13 +5,13 @@ ghost use Rattle.vortex_model_table.specs.Expression.{compare, equal, is_nan, ro
 ghost use Rattle.vortex_model_table.specs.Rewrite.{count_literal, null_count_expression, nan_count_expression, no_nulls_proofs, only_nulls_proofs, falsifiers, satisfiers};
 ghost use Rattle.vortex_dtype_core.specs.View.{type_of};
 
+use crate::classes::is_of_floats;
 use crate::joined::two;
 use crate::stats::{count, nan_count, null_count, placeholder};
 use std::alloc::{AllocError, Global};
 use vortex_dtype_core::dtype::DType;
+use vortex_stats_expr::aggregate::AggregateFn;
 use vortex_stats_expr::expression::{Expression, eq, row_count};
-use vortex_stats_stat::aggregate::AggregateFn;
-use vortex_stats_typing::classes::is_of_floats;
 
 /// No value is null. This falsifies IS NULL, by Vortex's `IsNullNullCountStatsRewrite` and
 /// `IsNullAllNonNullStatsRewrite`, and satisfies IS NOT NULL, by `IsNotNullNullCountStatsRewrite`

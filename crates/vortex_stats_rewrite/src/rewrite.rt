@@ -31,7 +31,7 @@ ghost use Rattle.std.specs.Prelude.{◌≡◌, IfOk};
 ghost use Rattle.vortex_model_table.specs.Rewrite.{falsifier, satisfier, falsifiers, satisfiers, joined_proofs};
 ghost use Rattle.vortex_dtype_core.specs.View.{type_of};
 ghost use Rattle.vortex_scalar_core.specs.Scalar.{scalar_content};
-ghost use Rattle.vortex_stats_rewrite.specs.Literals.{literal_falsifier, literal_satisfier};
+ghost use Rattle.vortex_stats_rewrite.specs.LiteralProofs.{literal_falsifier, literal_satisfier};
 
 use crate::comparison::{comparison_falsifiers, falsify_between};
 use crate::joined::{as_list, both_proofs, either_proof, join_proofs};

@@ -3,8 +3,9 @@
 ghost use Rattle.std.specs.Prelude.{◌≡◌, IfOk};
 ghost use Rattle.vortex_model_table.specs.Expression.{statistic};
 ghost use Rattle.vortex_model_table.specs.Rewrite.{boolean_literal, count_literal, text_literal, bound_expression, null_count_expression, nan_count_expression};
-ghost use Rattle.vortex_stats_stat.specs.Aggregate.{aggregate_of};
+ghost use Rattle.vortex_stats_expr.specs.Aggregate.{aggregate_of};
 
+use crate::literal::as_literal;
 use std::alloc::{AllocError, Global};
 use vortex_dtype_core::BufferString;
 use vortex_dtype_core::dtype::DType;
@@ -14,9 +15,8 @@ use vortex_scalar_builders::constructors::ScalarConstructors;
 use vortex_scalar_core::scalar::Scalar;
 use vortex_scalar_value::pvalue::PValue;
 use vortex_scalar_value::scalar_value::ScalarValue;
+use vortex_stats_expr::aggregate::AggregateFn;
 use vortex_stats_expr::expression::{Expression, lit, stat};
-use vortex_stats_stat::aggregate::AggregateFn;
-use vortex_stats_typing::literal::as_literal;
 
 /// The least or the greatest value. Each of a literal is the literal itself.
 #[tactic(auto, using(crate::proofs::StatsOfLiterals::bounds))]

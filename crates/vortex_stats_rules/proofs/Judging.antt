@@ -4,9 +4,9 @@ use Rattle.vortex_model.specs.LogicalType.{LogicalType}
 use Rattle.vortex_model_table.specs.Expression.{Expression}
 use Rattle.vortex_model_rules.specs.Faults.{ProofFault, proof_fault}
 use Rattle.vortex_model_rules.specs.Rules.{Answer, proof, fault, judged}
-use Rattle.vortex_stats_stat.specs.declared.error.StatsError.{StatsError}
-use Rattle.vortex_stats_stat.specs.declared.error.StatsError.TheVariants as error
-use Rattle.vortex_stats_typing.specs.Typed.{IsReason}
+use Rattle.vortex_stats_expr.specs.declared.error.StatsError.{StatsError}
+use Rattle.vortex_stats_expr.specs.declared.error.StatsError.TheVariants as error
+use Rattle.vortex_stats_rewrite.specs.Typed.{IsReason}
 use Rattle.vortex_stats_rules.specs.Meanings.{IsAnswer}
 
 abbrev judged_by : Expression → Option ProofFault → Answer

@@ -7,8 +7,8 @@ use Rattle.vortex_model_table.specs.Truth.{end_of}
 use Rattle.vortex_model_table.specs.Rewrite.{falsifiers, satisfiers, either_there, both_there}
 use Rattle.vortex_model_table.specs.Scan.{saturated}
 use Rattle.vortex_model_rules.specs.Rules.{Rule, Answer, no_proof, proof, fault, answer_of, joined_answers, either_answer, both_answers, falsifier_alone, falsifier_of_and, fals, sat, handed_over}
-use Rattle.vortex_stats_stat.specs.declared.error.StatsError.{StatsError}
-use Rattle.vortex_stats_stat.specs.declared.error.StatsError.TheVariants as error
+use Rattle.vortex_stats_expr.specs.declared.error.StatsError.{StatsError}
+use Rattle.vortex_stats_expr.specs.declared.error.StatsError.TheVariants as error
 use Rattle.vortex_stats_rules.specs.declared.answers.Claim.TheVariants as claim
 use Rattle.vortex_stats_rules.specs.declared.meter.Meter.{Meter}
 use Rattle.vortex_stats_rules.specs.Meanings.{IsFault, IsJudged, answers_to}

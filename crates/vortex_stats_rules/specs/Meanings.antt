@@ -6,8 +6,8 @@ use Rattle.vortex_model_rules.specs.Rules.{Rule, Root, of_literal, of_column, of
 use Rattle.vortex_model_rules.specs.Laws.{KeepsItsLaw}
 use Rattle.vortex_stats_expr.specs.declared.scalar_fn.ScalarFnId.{ScalarFnId}
 use Rattle.vortex_stats_expr.specs.declared.scalar_fn.ScalarFnId.TheVariants as function
-use Rattle.vortex_stats_stat.specs.declared.error.StatsError.{StatsError}
-use Rattle.vortex_stats_stat.specs.declared.error.StatsError.TheVariants as error
+use Rattle.vortex_stats_expr.specs.declared.error.StatsError.{StatsError}
+use Rattle.vortex_stats_expr.specs.declared.error.StatsError.TheVariants as error
 use Rattle.vortex_stats_rules.specs.declared.answers.Claim.{Claim}
 use Rattle.vortex_stats_rules.specs.declared.answers.Claim.TheVariants as claim
 

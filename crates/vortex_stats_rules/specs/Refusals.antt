@@ -5,8 +5,8 @@ use Rattle.vortex_model_table.specs.Expression.{Expression}
 use Rattle.vortex_model_table.specs.Typing.{expression_type}
 use Rattle.vortex_model_table.specs.Command.{is_boolean}
 use Rattle.vortex_model_rules.specs.Rules.{Answer, fault}
-use Rattle.vortex_stats_stat.specs.declared.error.StatsError.{StatsError}
-use Rattle.vortex_stats_stat.specs.declared.error.StatsError.TheVariants as error
+use Rattle.vortex_stats_expr.specs.declared.error.StatsError.{StatsError}
+use Rattle.vortex_stats_expr.specs.declared.error.StatsError.TheVariants as error
 
 -- the values are truth values
 abbrev pub IsPredicate : LogicalType → Expression → Type 0

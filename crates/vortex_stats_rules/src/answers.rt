@@ -10,10 +10,10 @@ use crate::meter::Meter;
 use crate::rule::StatsRewriteRuleRef;
 use std::alloc::Global;
 use vortex_dtype_core::dtype::DType;
+use vortex_stats_expr::error::StatsError;
 use vortex_stats_expr::expression::Expression;
+use vortex_stats_rewrite::check::check_proof;
 use vortex_stats_rewrite::joined::{as_list, join_proofs};
-use vortex_stats_stat::error::StatsError;
-use vortex_stats_typing::check::check_proof;
 
 /// What a proof says of rows: that none satisfies a predicate, or that each does.
 #[derive(Clone, Copy)]

@@ -10,9 +10,9 @@ use vortex_dtype_core::dtype::DType;
 use vortex_dtype_ptype::nullability::Nullability;
 use vortex_scalar_core::scalar::Scalar;
 use vortex_scalar_value::scalar_value::ScalarValue;
+use vortex_stats_expr::error::StatsError;
 use vortex_stats_expr::expression::{Expression, Node, lit};
 use vortex_stats_expr::scalar_fn::ScalarFnId;
-use vortex_stats_stat::error::StatsError;
 
 /// Answers the literal false at each NOT: proofs that are never true.
 #[derive(Drop)]

@@ -20,12 +20,12 @@ use crate::meter::Meter;
 use crate::rule::StatsRewriteRuleRef;
 use std::alloc::{AllocError, Global};
 use vortex_dtype_core::dtype::DType;
+use vortex_stats_expr::error::StatsError;
 use vortex_stats_expr::expression::{Expression, Node, and, compare};
 use vortex_stats_expr::options::BetweenOptions;
+use vortex_stats_rewrite::classes::is_truth;
 use vortex_stats_rewrite::joined::{both_proofs, either_proof};
 use vortex_stats_rewrite::rewrite::{falsifiers, satisfiers};
-use vortex_stats_stat::error::StatsError;
-use vortex_stats_typing::classes::is_truth;
 
 /// The proof that no row satisfies a predicate over rows of this type, as Vortex's `falsify`, and
 /// `None` where no rule gives one. `NotBoolean` where the expression is no predicate; `RuleFault`

@@ -5,9 +5,9 @@ ghost use Rattle.vortex_stats_rules.specs.Meanings.{SoundRule, root_in, IsAnswer
 
 use std::alloc::Global;
 use vortex_dtype_core::dtype::DType;
+use vortex_stats_expr::error::StatsError;
 use vortex_stats_expr::expression::Expression;
 use vortex_stats_expr::scalar_fn::ScalarFnId;
-use vortex_stats_stat::error::StatsError;
 
 /// A rule that makes proofs over statistics of predicates with one function at their root.
 ///

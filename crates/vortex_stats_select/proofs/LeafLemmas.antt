@@ -11,8 +11,8 @@ use Rattle.vortex_arrays_model.specs.Layout.{Valid, Strings, bools, numbers, str
 use Rattle.vortex_arrays_view.specs.Views.{value_of}
 use Rattle.vortex_stats_mask.specs.Columns.{shown_at}
 use Rattle.vortex_stats_mask.specs.Headed.{AllValid, ViewsHaveHeads}
-use Rattle.vortex_stats_strings.specs.Heads.{HasHead}
-use Rattle.vortex_stats_strings.proofs.HeadLemmas.{has_head}
+use Rattle.vortex_stats_match.specs.Heads.{HasHead}
+use Rattle.vortex_stats_match.proofs.HeadLemmas.{has_head}
 use Rattle.vortex_stats_select.specs.Leaves.{shown_by}
 use Rattle.vortex_stats_select.proofs.PairLemmas.{paired, through}
 

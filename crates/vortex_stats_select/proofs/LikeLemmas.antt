@@ -14,9 +14,9 @@ use Rattle.vortex_stats_mask.specs.Columns.{shown_at}
 use Rattle.vortex_stats_mask.specs.Headed.{AllValid}
 use Rattle.vortex_stats_mask.specs.Wanted.{is_wanted}
 use Rattle.vortex_stats_match.proofs.ByteLemmas.{bytes_like}
-use Rattle.vortex_stats_strings.specs.Fronts.{match_by_head}
-use Rattle.vortex_stats_strings.proofs.FrontLemmas.{match_is}
-use Rattle.vortex_stats_strings.proofs.HeadLemmas.{has_head}
+use Rattle.vortex_stats_match.specs.Fronts.{match_by_head}
+use Rattle.vortex_stats_match.proofs.FrontLemmas.{match_is}
+use Rattle.vortex_stats_match.proofs.HeadLemmas.{has_head}
 use Rattle.vortex_stats_select.specs.Wants.{wanted_match}
 use Rattle.vortex_stats_select.proofs.LeafLemmas.{strings_shown, told_where_valid}
 use Rattle.vortex_stats_select.proofs.PairLemmas.{through}

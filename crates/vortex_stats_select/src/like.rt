@@ -24,8 +24,8 @@ use vortex_arrays_core::array::{ArrayLayout, ArrayRef, StringKind, Validity};
 use vortex_arrays_view::view::BinaryView;
 use vortex_scalar_value::scalar_value::ScalarValue;
 use vortex_stats_bind::bound::{BoundNode, BoundTree};
-use vortex_stats_like::matching::has_backslash;
 use vortex_stats_mask::masks::{keep_valid, opposite};
+use vortex_stats_match::like::has_backslash;
 
 // Of the texts that match: for which of them LIKE has the wanted truth.
 #[tactic(auto, using(crate::proofs::LikeLemmas::unturned))]

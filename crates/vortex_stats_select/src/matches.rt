@@ -1,7 +1,7 @@
 //! Which values of views match a LIKE pattern, of those that are asked about.
 ghost use Rattle.std.specs.Prelude.{◌≡◌, map, replicate, true, IfOk};
 ghost use Rattle.std.specs.List.{zip};
-ghost use Rattle.vortex_stats_strings.specs.Fronts.{match_by_head};
+ghost use Rattle.vortex_stats_match.specs.Fronts.{match_by_head};
 ghost use Rattle.vortex_stats_select.specs.Asked.{leaves_open, open_rows, seen};
 
 use crate::asked::{Asked, is_open};

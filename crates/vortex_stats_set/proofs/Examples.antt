@@ -1,7 +1,7 @@
 -- Rows of statistics: what is set in turn, taken out, kept and looked up.
 use Rattle.std.proofs.Common.{◌≡◌, ℕ, List, [], ◌∷◌, Some, None, true, false, refl}
-use Rattle.vortex_stats_stat.specs.declared.stat.Stat.{Stat}
-use Rattle.vortex_stats_stat.specs.declared.stat.Stat.TheVariants as stat
+use Rattle.vortex_stats_expr.specs.declared.stat.Stat.{Stat}
+use Rattle.vortex_stats_expr.specs.declared.stat.Stat.TheVariants as stat
 use Rattle.vortex_stats_set.specs.Sets.{is_set, set_in_turn, without, only, value_in}
 
 -- the maximum is set twice, with the minimum between

@@ -1,6 +1,6 @@
 -- Lists of statistics whose values are seen through a function: what is looked up, set and cleared is seen so too.
 use Rattle.std.proofs.Common.{◌≡◌, ◌++◌, ◌||◌, ◌&&◌, List, [], ◌∷◌, Some, option_map, Bool, true, false, not, cond, if◌then◌else◌, map, refl, sym, ap, ◌∙◌}
-use Rattle.vortex_stats_stat.specs.declared.stat.Stat.{Stat}
+use Rattle.vortex_stats_expr.specs.declared.stat.Stat.{Stat}
 use Rattle.vortex_stats_set.specs.Sets.{is_of, has_stat, is_set, with_value, set_in, without, value_in}
 
 -- the pairs with their values seen so

@@ -2,7 +2,7 @@
 use Rattle.std.proofs.Common.{◌≡◌, List, [], ◌∷◌, ◌++◌, Option, Some, None, Bool, refl, sym, ap, ◌∙◌, option_map, ℕ, get_or, IsTrue}
 use Rattle.vortex_scalar_value.specs.declared.scalar_value.ScalarValue.{ScalarValue}
 use Rattle.vortex_stats_bound.specs.declared.precision.Precision.{Precision}
-use Rattle.vortex_stats_stat.specs.declared.stat.Stat.{Stat}
+use Rattle.vortex_stats_expr.specs.declared.stat.Stat.{Stat}
 use Rattle.std.specs.List.{position}
 use Rattle.vortex_model_table.specs.Statistics.{absent}
 use Rattle.vortex_stats_set.specs.Sets.{is_of, is_set, value_in, set_in, without}

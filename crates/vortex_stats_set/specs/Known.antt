@@ -7,7 +7,7 @@ use Rattle.vortex_scalar_value.specs.View.{raw_of}
 use Rattle.vortex_scalar_value.specs.declared.scalar_value.ScalarValue.{ScalarValue}
 use Rattle.vortex_stats_bound.specs.Precision.{precision_of, precision_map}
 use Rattle.vortex_stats_bound.specs.declared.precision.Precision as known
-use Rattle.vortex_stats_stat.specs.declared.stat.Stat.{Stat}
+use Rattle.vortex_stats_expr.specs.declared.stat.Stat.{Stat}
 use Rattle.vortex_stats_set.specs.Sets.{value_in}
 
 -- the raw value, as precise

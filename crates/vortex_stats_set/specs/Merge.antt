@@ -14,9 +14,9 @@ use Rattle.vortex_scalar_ops.specs.Equality.{eq_content}
 use Rattle.vortex_stats_bound.specs.Order.{Comparison}
 use Rattle.vortex_stats_bound.specs.Precision.{exact_value, known_value}
 use Rattle.vortex_stats_bound.specs.Bounds.{union_lower, union_upper}
-use Rattle.vortex_stats_stat.specs.declared.stat.Stat.{Stat}
-use Rattle.vortex_stats_stat.specs.declared.stat.Stat.TheVariants as stat
-use Rattle.vortex_stats_stat.specs.Stats.{all_stats, is_commutative}
+use Rattle.vortex_stats_expr.specs.declared.stat.Stat.{Stat}
+use Rattle.vortex_stats_expr.specs.declared.stat.Stat.TheVariants as stat
+use Rattle.vortex_stats_expr.specs.Stats.{all_stats, is_commutative}
 use Rattle.vortex_stats_set.specs.Pairs.{Pairs, known, put}
 
 -- how two values of one type stand

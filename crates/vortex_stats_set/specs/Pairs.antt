@@ -2,7 +2,7 @@
 use Rattle.std.specs.Prelude.{List, Option, Some, None}
 use Rattle.vortex_model.specs.Content.{Raw}
 use Rattle.vortex_model_table.specs.Statistics.{Precision, absent}
-use Rattle.vortex_stats_stat.specs.declared.stat.Stat.{Stat}
+use Rattle.vortex_stats_expr.specs.declared.stat.Stat.{Stat}
 use Rattle.vortex_stats_set.specs.Sets.{value_in, set_in, without}
 
 abbrev pub Pairs : Type 0

@@ -3,7 +3,7 @@ use Rattle.std.specs.Prelude.{ℕ, ℤ, pos, Bool}
 use Rattle.vortex_model.specs.Content.{Raw, raw_boolean, raw_number, content_of}
 use Rattle.vortex_model_table.specs.Statistics.{Precision, exact, inexact, absent, Statistics}
 use Rattle.vortex_stats_bound.specs.Precision.{precision_map}
-use Rattle.vortex_stats_stat.specs.declared.stat.Stat.TheVariants as stat
+use Rattle.vortex_stats_expr.specs.declared.stat.Stat.TheVariants as stat
 use Rattle.vortex_stats_set.specs.Pairs.{Pairs, known}
 
 -- What a raw value says as a number, a count or a truth; one of another form says nothing.

@@ -1,9 +1,9 @@
 -- Lists of statistics with what is known of each: what stands there, and how it changes.
 use Rattle.std.specs.Prelude.{List, [], ◌∷◌, ◌++◌, map, filter, Option, Some, None, Bool, true, not, ◌&&◌, ◌==◌, if◌then◌else◌}
 use Rattle.std.specs.List.{list_any}
-use Rattle.vortex_stats_stat.specs.declared.stat.Stat.{Stat}
-use Rattle.vortex_stats_stat.specs.Stats.{number_of_stat}
-use Rattle.vortex_stats_stat.specs.Bitsets.{has_number}
+use Rattle.vortex_stats_expr.specs.declared.stat.Stat.{Stat}
+use Rattle.vortex_stats_expr.specs.Stats.{number_of_stat}
+use Rattle.vortex_stats_expr.specs.Bitsets.{has_number}
 
 -- the pair is of the statistic
 abbrev pub is_of : {A : Type 0} → Stat → Stat × A → Bool

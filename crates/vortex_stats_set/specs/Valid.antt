@@ -9,8 +9,8 @@ use Rattle.vortex_model_table.specs.Statistics.{Precision, exact, inexact, absen
 use Rattle.vortex_scalar_value.specs.declared.scalar_value.ScalarValue.{ScalarValue}
 use Rattle.vortex_stats_bound.specs.declared.precision.Precision as known
 use Rattle.vortex_stats_set.specs.Known.{raw_precision}
-use Rattle.vortex_stats_stat.specs.declared.stat.Stat.{Stat}
-use Rattle.vortex_stats_stat.specs.Stats.{stat_type}
+use Rattle.vortex_stats_expr.specs.declared.stat.Stat.{Stat}
+use Rattle.vortex_stats_expr.specs.Stats.{stat_type}
 
 -- the statistic of a column of this type has a type, and the value is one of it
 abbrev pub is_value_of : LogicalType → Stat → Raw → Bool

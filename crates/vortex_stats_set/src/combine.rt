@@ -6,7 +6,7 @@ ghost use Rattle.vortex_stats_bound.specs.Bounds.{
   intersection_upper,
   intersection_plain,
 };
-ghost use Rattle.vortex_stats_stat.specs.declared.error.StatsError.TheVariants.{Memory, NoOverlap};
+ghost use Rattle.vortex_stats_expr.specs.declared.error.StatsError.TheVariants.{Memory, NoOverlap};
 ghost use Rattle.vortex_stats_set.specs.Known.{raw_precision, raw_pairs};
 ghost use Rattle.vortex_stats_set.specs.Pairs.{known, put};
 ghost use Rattle.vortex_stats_set.specs.Merge.{raw_order};
@@ -20,8 +20,8 @@ use vortex_stats_bound::bound::{LowerBound, UpperBound};
 use vortex_stats_bound::intersection::IntersectionResult;
 use vortex_stats_bound::precision::Precision;
 use vortex_stats_bound::stat_bound::StatBound;
-use vortex_stats_stat::error::StatsError;
-use vortex_stats_stat::stat::Stat;
+use vortex_stats_expr::error::StatsError;
+use vortex_stats_expr::stat::Stat;
 
 impl StatsSet {
     /// Makes of this set what it and another one of the same rows, of the type, say together, as

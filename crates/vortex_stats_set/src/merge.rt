@@ -6,8 +6,8 @@ ghost use Rattle.vortex_scalar_value.specs.Numbers.{raw_of_number};
 ghost use Rattle.vortex_scalar_value.specs.View.{raw_of};
 ghost use Rattle.vortex_stats_bound.specs.Bounds.{union_lower, union_upper};
 ghost use Rattle.vortex_stats_bound.specs.Precision.{exact_value, known_value};
-ghost use Rattle.vortex_stats_stat.specs.declared.error.StatsError.TheVariants.{Memory};
-ghost use Rattle.vortex_stats_stat.specs.Stats.{all_stats};
+ghost use Rattle.vortex_stats_expr.specs.declared.error.StatsError.TheVariants.{Memory};
+ghost use Rattle.vortex_stats_expr.specs.Stats.{all_stats};
 ghost use Rattle.vortex_stats_set.specs.Known.{raw_precision, raw_precision_at, raw_pairs};
 ghost use Rattle.vortex_stats_set.specs.Pairs.{known};
 ghost use Rattle.vortex_stats_set.specs.Merge.{
@@ -45,8 +45,8 @@ use vortex_stats_bound::bound::{LowerBound, UpperBound};
 use vortex_stats_bound::bound_ord::BoundOrd;
 use vortex_stats_bound::precision::Precision;
 use vortex_stats_bound::stat_bound::StatBound;
-use vortex_stats_stat::error::StatsError;
-use vortex_stats_stat::stat::Stat;
+use vortex_stats_expr::error::StatsError;
+use vortex_stats_expr::stat::Stat;
 
 impl StatsSet {
     /// What is known of the rows of two columns of the type set end to end, this set's first, as

@@ -1,8 +1,8 @@
 //! What is known of a column: statistics, each with its value.
 ghost use Rattle.std.specs.Prelude.{◌≡◌, ◌++◌, [], ◌∷◌, List, IsTrue, IfOk, IfErr, OnOk, OnErr, IsOk, length, position, true, ◌↔◌, option_map};
-ghost use Rattle.vortex_stats_stat.specs.declared.error.StatsError.TheVariants.{Memory};
-ghost use Rattle.vortex_stats_stat.specs.Stats.{number_of_stat};
-ghost use Rattle.vortex_stats_stat.specs.Bitsets.{has_number};
+ghost use Rattle.vortex_stats_expr.specs.declared.error.StatsError.TheVariants.{Memory};
+ghost use Rattle.vortex_stats_expr.specs.Stats.{number_of_stat};
+ghost use Rattle.vortex_stats_expr.specs.Bitsets.{has_number};
 ghost use Rattle.vortex_stats_set.specs.Sets.{is_of, has_stat, is_set, set_in, set_in_turn, without, only};
 ghost use Rattle.std.specs.Iterator.{YieldsFirst, item_count};
 ghost use Rattle.std.specs.Slice.Iter.{iter_rest};
@@ -15,8 +15,8 @@ use std::slice::Iter;
 use std::vec;
 use vortex_scalar_value::scalar_value::ScalarValue;
 use vortex_stats_bound::precision::Precision;
-use vortex_stats_stat::error::StatsError;
-use vortex_stats_stat::stat::Stat;
+use vortex_stats_expr::error::StatsError;
+use vortex_stats_expr::stat::Stat;
 
 /// What a `StatsSet` keeps its pairs in. Vortex's keeps four of them inline.
 pub type StatsArray = Vec<(Stat, Precision<ScalarValue>)>;
@@ -35,7 +35,7 @@ impl Model for StatsSet {
     ghost use Rattle.vortex_stats_set.specs.Sets.{is_set};
     ghost use Rattle.vortex_scalar_value.specs.declared.scalar_value.ScalarValue.{ScalarValue};
     ghost use Rattle.vortex_stats_bound.specs.declared.precision.Precision.{Precision};
-    ghost use Rattle.vortex_stats_stat.specs.declared.stat.Stat.{Stat};
+    ghost use Rattle.vortex_stats_expr.specs.declared.stat.Stat.{Stat};
 
     ghost Value = { List (Stat × Precision ScalarValue) };
 
@@ -226,7 +226,7 @@ impl StatsSet {
     ghost use Rattle.std.specs.Iterator.{IsFinite, Drains, Yields};
     ghost use Rattle.vortex_scalar_value.specs.declared.scalar_value.ScalarValue.{ScalarValue};
     ghost use Rattle.vortex_stats_bound.specs.declared.precision.Precision as known;
-    ghost use Rattle.vortex_stats_stat.specs.declared.stat.Stat.{Stat};
+    ghost use Rattle.vortex_stats_expr.specs.declared.stat.Stat.{Stat};
 
     /// Sets these in turn. Without memory those stay that were set before.
     #[tactic(auto, using(crate::proofs::Lists::in_turn))]
@@ -293,7 +293,7 @@ impl Model for StatsSetIntoIter {
     ghost use Rattle.std.specs.Vec.Iter.{into_iter_items};
     ghost use Rattle.vortex_scalar_value.specs.declared.scalar_value.ScalarValue.{ScalarValue};
     ghost use Rattle.vortex_stats_bound.specs.declared.precision.Precision.{Precision};
-    ghost use Rattle.vortex_stats_stat.specs.declared.stat.Stat.{Stat};
+    ghost use Rattle.vortex_stats_expr.specs.declared.stat.Stat.{Stat};
 
     ghost Value = { List (Stat × Precision ScalarValue) };
 

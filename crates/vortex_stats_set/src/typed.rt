@@ -1,7 +1,7 @@
 //! Sets of statistics beside the type of their column.
 ghost use Rattle.std.specs.Prelude.{◌≡◌, ◌≢◌, IfOk, IfErr, OnOk, OnErr, IsOk, true, false};
 ghost use Rattle.vortex_dtype_core.specs.View.{type_of};
-ghost use Rattle.vortex_stats_stat.specs.declared.error.StatsError.TheVariants.{Memory, NoOverlap};
+ghost use Rattle.vortex_stats_expr.specs.declared.error.StatsError.TheVariants.{Memory, NoOverlap};
 ghost use Rattle.vortex_model.specs.LogicalType.{equal_ignoring_nullability};
 ghost use Rattle.vortex_stats_set.specs.Sets.{has_stat, set_in, without};
 ghost use Rattle.vortex_stats_set.specs.Known.{raw_pairs};
@@ -12,8 +12,8 @@ use crate::stats_set::StatsSet;
 use vortex_dtype_core::dtype::DType;
 use vortex_scalar_value::scalar_value::ScalarValue;
 use vortex_stats_bound::precision::Precision;
-use vortex_stats_stat::error::StatsError;
-use vortex_stats_stat::stat::Stat;
+use vortex_stats_expr::error::StatsError;
+use vortex_stats_expr::stat::Stat;
 
 /// A set and the type of its column, as Vortex's `TypedStatsSetRef`.
 #[derive(Drop)]

@@ -2,7 +2,7 @@
 ghost use Rattle.std.specs.Prelude.{◌≡◌, false};
 ghost use Rattle.std.specs.Option.{option_map_or};
 ghost use Rattle.vortex_model.specs.Valid.{valid};
-ghost use Rattle.vortex_stats_stat.specs.Stats.{bound_type};
+ghost use Rattle.vortex_stats_expr.specs.Stats.{bound_type};
 ghost use Rattle.vortex_dtype_core.specs.View.{type_of};
 ghost use Rattle.vortex_scalar_value.specs.View.{raw_of};
 ghost use Rattle.vortex_stats_set.specs.Known.{raw_precision};
@@ -14,7 +14,7 @@ use vortex_dtype_ptype::nullability::Nullability;
 use vortex_scalar_ops::validate::validate;
 use vortex_scalar_value::scalar_value::ScalarValue;
 use vortex_stats_bound::precision::Precision;
-use vortex_stats_stat::stat::{Stat, count_dtype, sum_dtype};
+use vortex_stats_expr::stat::{Stat, count_dtype, sum_dtype};
 
 impl StatsSet {
     /// Whether each value is one of the type that its statistic has for a column of the type. It

@@ -61,6 +61,9 @@ pub mod dtype {
 pub mod scalar {
     pub use vortex_scalar_builders::constructors::ScalarConstructors;
     pub use vortex_scalar_builders::nested::constructors::NestedScalarConstructors;
+    pub use vortex_scalar_builders::private::Sealed;
+    pub use vortex_scalar_builders::string_like::StringLike;
+    pub use vortex_scalar_builders::truncation::{ScalarTruncation, lower_bound, upper_bound};
     pub use vortex_scalar_convert::defaults::defaults::ScalarDefaults;
     pub use vortex_scalar_convert::ext_dtype_scalar_ext::ExtDTypeScalarExt;
     pub use vortex_scalar_convert::from_scalar::FromScalar;
@@ -79,9 +82,6 @@ pub mod scalar {
     pub use vortex_scalar_nested::map_scalar::MapScalar;
     pub use vortex_scalar_nested::nested_views::NestedScalarViews;
     pub use vortex_scalar_nested::struct_scalar::StructScalar;
-    pub use vortex_scalar_truncation::private::Sealed;
-    pub use vortex_scalar_truncation::string_like::StringLike;
-    pub use vortex_scalar_truncation::truncation::{ScalarTruncation, lower_bound, upper_bound};
     pub use vortex_scalar_value::error::ScalarError;
     pub use vortex_scalar_value::match_each_pvalue;
     pub use vortex_scalar_value::natives::CoercePValue;
@@ -122,8 +122,22 @@ pub mod expr {
     pub use vortex_stats_bound::stat_bound::{StatBound, StatType};
     pub use vortex_stats_evaluate::bind::{BoundExpression, bind};
     pub use vortex_stats_evaluate::evaluate::{evaluate, prove};
+    pub use vortex_stats_evaluate::markers::{
+        IsConstant, IsSorted, IsStrictSorted, Max, Min, NaNCount, NullCount, Sum,
+        UncompressedSizeInBytes,
+    };
+    pub use vortex_stats_evaluate::provider::StatsProvider;
+    pub use vortex_stats_evaluate::provider_ext::StatsProviderExt;
     pub use vortex_stats_evaluate::scope::Scope;
+    pub use vortex_stats_evaluate::stat_fn::{StatFn, StatOptions};
+    pub use vortex_stats_evaluate::stat_scalar::stat_scalar;
     pub use vortex_stats_evaluate::stats::bind_stats;
+    pub use vortex_stats_evaluate::stats_set_ext::StatsSetExt;
+    pub use vortex_stats_expr::aggregate::AggregateFn;
+    pub use vortex_stats_expr::bitset::{
+        PRUNING_STATS, as_stat_bitset_bytes, stats_from_bitset_bytes, written_statistics_are_read,
+    };
+    pub use vortex_stats_expr::error::StatsError;
     pub use vortex_stats_expr::expression::{
         Expression, and, between, binary, col, eq, gt, gt_eq, is_nan, is_not_null, is_null, like,
         lit, lt, lt_eq, not, not_eq, or, root, row_count, stat,
@@ -134,19 +148,12 @@ pub mod expr {
         all_nan, all_non_nan, all_non_null, all_null, min_max, nan_count, null_count, sum,
     };
     pub use vortex_stats_expr::scalar_fn::ScalarFnId;
-    pub use vortex_stats_like::matching::{has_backslash, is_like};
+    pub use vortex_stats_expr::stat::Stat;
+    pub use vortex_stats_expr::stat_iter::StatIter;
     pub use vortex_stats_mask::column::{Column, Items, Strings};
     pub use vortex_stats_mask::compare::compare_literal;
     pub use vortex_stats_mask::pairs::compare_columns;
-    pub use vortex_stats_provider::markers::{
-        IsConstant, IsSorted, IsStrictSorted, Max, Min, NaNCount, NullCount, Sum,
-        UncompressedSizeInBytes,
-    };
-    pub use vortex_stats_provider::provider::StatsProvider;
-    pub use vortex_stats_provider::provider_ext::StatsProviderExt;
-    pub use vortex_stats_provider::stat_fn::{StatFn, StatOptions};
-    pub use vortex_stats_provider::stat_scalar::stat_scalar;
-    pub use vortex_stats_provider::stats_set_ext::StatsSetExt;
+    pub use vortex_stats_match::like::{has_backslash, is_like};
     pub use vortex_stats_rules::laws::{
         comparisons_are_visited_once, falsifiers_are_sound, satisfiers_are_sound,
     };
@@ -156,22 +163,15 @@ pub mod expr {
     pub use vortex_stats_rules::rule::{StatsRewriteRule, StatsRewriteRuleRef};
     pub use vortex_stats_set::stats_set::{StatsArray, StatsSet, StatsSetIntoIter};
     pub use vortex_stats_set::typed::{MutTypedStatsSetRef, TypedStatsSetRef};
-    pub use vortex_stats_stat::aggregate::AggregateFn;
-    pub use vortex_stats_stat::bitset::{
-        PRUNING_STATS, as_stat_bitset_bytes, stats_from_bitset_bytes, written_statistics_are_read,
-    };
-    pub use vortex_stats_stat::error::StatsError;
-    pub use vortex_stats_stat::stat::Stat;
-    pub use vortex_stats_stat::stat_iter::StatIter;
 }
 
 /// The table of chunks, its refusals, what a scan finds, and what is known of a column.
 pub mod table {
     pub use vortex_stats_bound::precision::Precision;
-    pub use vortex_table_check::error::TableError;
     pub use vortex_table_run::Table;
     pub use vortex_table_schema::answer::ScanAnswer;
     pub use vortex_table_schema::description::Description;
+    pub use vortex_table_schema::error::TableError;
     pub use vortex_table_schema::layout::Layout;
 }
 

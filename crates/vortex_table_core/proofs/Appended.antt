@@ -13,10 +13,10 @@ use Rattle.vortex_model_table.specs.Table as model
 use Rattle.vortex_model_table.specs.Command.{append, append_array, refusal, after, appended, first_invalid, first_unconvertible}
 use Rattle.vortex_arrays_model.specs.Layout.{Layout, len_of, rows_of}
 use Rattle.vortex_arrays_model.proofs.RowsLemmas.{row_count}
-use Rattle.vortex_table_check.specs.Error.{Explains}
-use Rattle.vortex_table_check.specs.declared.error.TableError.{TableError}
-use Rattle.vortex_table_check.specs.declared.error.TableError.TheVariants as error
-use Rattle.vortex_table_check.proofs.Explained.{explained_first, explained_second, explained_two, none_both}
+use Rattle.vortex_table_schema.specs.Error.{Explains}
+use Rattle.vortex_table_schema.specs.declared.error.TableError.{TableError}
+use Rattle.vortex_table_schema.specs.declared.error.TableError.TheVariants as error
+use Rattle.vortex_table_schema.proofs.Explained.{explained_first, explained_second, explained_two, none_both}
 use Rattle.vortex_table_layout.specs.TooLarge.{AreTooLarge}
 use Rattle.vortex_table_layout.proofs.HintLemmas.{unhinted}
 use Rattle.vortex_table_core.specs.Arrays.{AddsArray, IsTakenAs, IsTakenBy}

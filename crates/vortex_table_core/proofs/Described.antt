@@ -36,7 +36,7 @@ use Rattle.vortex_table_core.specs.declared.group.Group.{Group}
 use Rattle.vortex_table_core.specs.declared.table.Table.{Table}
 use Rattle.vortex_table_core.proofs.Groups.{take_said, drop_said, drop_on, formed_in}
 use Rattle.vortex_table_core.proofs.JoinedGroups.{group_at}
-use Rattle.vortex_table_check.specs.Lengths.{length_in}
+use Rattle.vortex_table_schema.specs.Lengths.{length_in}
 use Rattle.vortex_table_chunk.proofs.TypedRows.{all_said}
 
 -- ---- one description of what is only known to be there

@@ -27,7 +27,7 @@ use Rattle.vortex_table_chunk.specs.Formed.{is_formed}
 use Rattle.vortex_table_chunk.specs.declared.chunk.Chunk.{Chunk}
 use Rattle.vortex_table_core.specs.declared.plan.Scan.{Scan}
 use Rattle.vortex_table_schema.proofs.Cuts.{cut_is_valid, cut_is_kept}
-use Rattle.vortex_table_check.proofs.Explained.{none_so}
+use Rattle.vortex_table_schema.proofs.Explained.{none_so}
 use Rattle.vortex_table_chunk.proofs.Formed.{of_type}
 use Rattle.vortex_table_core.proofs.Rows.{IsCut, kept_each, kept_all}
 

@@ -12,13 +12,13 @@ use Rattle.vortex_model_table.proofs.ContentOrder.{true_left, true_right}
 use Rattle.vortex_arrays_model.specs.Layout.{Layout, len_of, array_type_of, content_at, rows_of}
 use Rattle.vortex_arrays_core.specs.RawRows.{raw_row}
 use Rattle.vortex_arrays_core.proofs.RawRowsLemmas.{says}
-use Rattle.vortex_table_check.proofs.OwnType.{part_converts, kept_part}
+use Rattle.vortex_table_schema.proofs.OwnType.{part_converts, kept_part}
 use Rattle.vortex_table_chunk.specs.Chunk.{chunk_rows}
 use Rattle.vortex_table_chunk.specs.Rows.{are_rows_valid}
 use Rattle.vortex_table_chunk.specs.Formed.{is_formed}
 use Rattle.vortex_table_chunk.specs.declared.chunk.Chunk.{Chunk}
 use Rattle.vortex_table_chunk.proofs.Formed.{of_type}
-use Rattle.vortex_table_retype.proofs.ConvertedRows.{all_rows, unconvertible_on}
+use Rattle.vortex_table_layout.proofs.ConvertedRows.{all_rows, unconvertible_on}
 
 -- the rows of an array of the type that are values of it
 module _ (k : LogicalType) (a : Layout) (kept : type_fault k ≡ None) (same : array_type_of a ≡ k) where

@@ -8,9 +8,9 @@ use Rattle.vortex_model.specs.Path.{Positions}
 use Rattle.vortex_arrays_model.specs.Layout.{Layout, len_of, array_type_of, rows_of}
 use Rattle.vortex_arrays_model.proofs.RowsLemmas.{row_count}
 use Rattle.vortex_table_schema.specs.Leaves.{leaf_positions}
-use Rattle.vortex_table_check.specs.Error.{Explains}
-use Rattle.vortex_table_check.specs.declared.error.TableError.{TableError}
-use Rattle.vortex_table_check.specs.declared.error.TableError.TheVariants as error
+use Rattle.vortex_table_schema.specs.Error.{Explains}
+use Rattle.vortex_table_schema.specs.declared.error.TableError.{TableError}
+use Rattle.vortex_table_schema.specs.declared.error.TableError.TheVariants as error
 use Rattle.vortex_table_chunk.specs.Bounds.{are_sums_of}
 use Rattle.vortex_table_chunk.specs.Chunk.{chunk_rows}
 use Rattle.vortex_table_chunk.specs.Formed.{is_formed, eq_leaves, are_lengths_of}

@@ -7,7 +7,7 @@ use Rattle.vortex_model.specs.Path.{Positions}
 use Rattle.vortex_model_table.specs.Table.{IsTable, bound_length}
 use Rattle.vortex_model_table.proofs.ContentOrder.{true_left, true_right}
 use Rattle.vortex_dtype_core.specs.View.{type_of}
-use Rattle.vortex_table_check.proofs.Explained.{none_so}
+use Rattle.vortex_table_schema.proofs.Explained.{none_so}
 use Rattle.vortex_table_chunk.specs.Chunk.{chunk_rows}
 use Rattle.vortex_table_chunk.specs.Formed.{is_formed}
 use Rattle.vortex_table_chunk.specs.declared.chunk.Chunk.{Chunk}

@@ -6,9 +6,9 @@ use Rattle.vortex_model_table.specs.Table.{Table}
 use Rattle.vortex_model_table.specs.Command.{append, append_array, refusal, after}
 use Rattle.vortex_scalar_value.specs.View.{raw_in}
 use Rattle.vortex_scalar_value.specs.declared.scalar_value.ScalarValue.{ScalarValue}
-use Rattle.vortex_table_check.specs.Error.{Explains}
-use Rattle.vortex_table_check.specs.declared.error.TableError.{TableError}
-use Rattle.vortex_table_check.specs.declared.error.TableError.TheVariants as error
+use Rattle.vortex_table_schema.specs.Error.{Explains}
+use Rattle.vortex_table_schema.specs.declared.error.TableError.{TableError}
+use Rattle.vortex_table_schema.specs.declared.error.TableError.TheVariants as error
 use Rattle.vortex_table_core.specs.Totals.{PassesTotal}
 
 -- An append to the old table of these values, each of this type or null, ended with this result

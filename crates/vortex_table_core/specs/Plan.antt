@@ -10,7 +10,7 @@ use Rattle.vortex_table_select.specs.Selected.{answer_cut}
 use Rattle.vortex_table_select.specs.declared.selection.ScanSelection.{ScanSelection}
 use Rattle.vortex_table_zonemaps.specs.Stretch.{proved_at}
 use Rattle.vortex_table_zonemaps.specs.Zones.{zone_of}
-use Rattle.vortex_table_zones.specs.Zone.{IsResolved}
+use Rattle.vortex_table_zonemaps.specs.Zone.{IsResolved}
 use Rattle.vortex_table_core.specs.Progress.{Question}
 use Rattle.vortex_table_core.specs.TableView.{table_of}
 use Rattle.vortex_table_core.specs.declared.plan.Scan.{Scan}

@@ -8,7 +8,7 @@ use Rattle.vortex_table_chunk.specs.Chunk.{chunk_rows}
 use Rattle.vortex_table_chunk.specs.Joined.{rows_in}
 use Rattle.vortex_table_chunk.specs.declared.chunk.Chunk.{Chunk}
 use Rattle.vortex_table_chunk.specs.declared.zones.bounds.ColumnBounds.{ColumnBounds}
-use Rattle.vortex_table_retype.specs.InOrder.{AreJoinedInOrder}
+use Rattle.vortex_table_layout.specs.InOrder.{AreJoinedInOrder}
 use Rattle.vortex_table_core.specs.Group.{chunks_of}
 use Rattle.vortex_table_core.specs.declared.group.Group.{Group}
 

@@ -6,7 +6,7 @@ use Rattle.vortex_model_table.specs.Reply.{Totals, RowsPass}
 use Rattle.vortex_arrays_model.specs.Layout.{Layout, rows_of}
 use Rattle.vortex_table_layout.specs.Compacted.{HasTooManyItems}
 use Rattle.vortex_table_layout.specs.TooLarge.{AreTooLarge}
-use Rattle.vortex_table_retype.specs.TooLarge.{AnyTooLarge}
+use Rattle.vortex_table_layout.specs.AnyTooLarge.{AnyTooLarge}
 
 -- an array of these rows has lists with more items together than can be counted
 pub record MayHaveTooManyItems (rows : List Content) : Type 0 where

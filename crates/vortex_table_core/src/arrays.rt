@@ -1,7 +1,7 @@
 //! Tables from arrays, and the arrays of their chunks.
 ghost use Rattle.std.specs.Prelude.{◌≡◌, None, map, IfOk, IfErr};
 ghost use Rattle.vortex_arrays_model.specs.Layout.{array_type_of, rows_of};
-ghost use Rattle.vortex_table_check.specs.Error.{Explains};
+ghost use Rattle.vortex_table_schema.specs.Error.{Explains};
 ghost use Rattle.vortex_table_chunk.specs.Chunk.{chunk_rows};
 ghost use Rattle.vortex_table_layout.specs.Compacted.{IsCompacted, HasTooManyItems};
 ghost use Rattle.vortex_table_core.specs.WithArrays.{IsWithArray, AreWithArrays};
@@ -12,14 +12,14 @@ use std::borrow::CowSlice;
 use vortex_arrays_core::array::ArrayRef;
 use vortex_arrays_view::error::ArrayError;
 use vortex_model::laws::tests_of_validity_are_right;
-use vortex_table_check::append::convert_rows;
-use vortex_table_check::check::check_type;
-use vortex_table_check::error::TableError;
 use vortex_table_chunk::chunk::Chunk;
 use vortex_table_layout::compact::compact_array;
 use vortex_table_layout::hint::hint_array;
 use vortex_table_layout::keep::keeps_layout;
 use vortex_table_layout::rows::row_values;
+use vortex_table_schema::append::convert_rows;
+use vortex_table_schema::check::check_type;
+use vortex_table_schema::error::TableError;
 use vortex_table_schema::layout::Layout;
 
 impl Table {
@@ -28,8 +28,8 @@ impl Table {
     ghost use Rattle.vortex_dtype_core.specs.View.{type_of};
     ghost use Rattle.vortex_arrays_model.specs.Layout.{array_type_of, rows_of};
     ghost use Rattle.vortex_table_layout.specs.TooLarge.{AreTooLarge};
-    ghost use Rattle.vortex_table_check.specs.Error.{Explains};
-    ghost use Rattle.vortex_table_check.specs.declared.error.TableError.TheVariants.{Total};
+    ghost use Rattle.vortex_table_schema.specs.Error.{Explains};
+    ghost use Rattle.vortex_table_schema.specs.declared.error.TableError.TheVariants.{Total};
     ghost use Rattle.vortex_table_core.specs.Append.{AppendsArray};
     ghost use Rattle.vortex_table_core.specs.Arrays.{arrays_of, AddsArray, IsTakenAs, IsTakenBy, AreAllCompacted, AnyHasTooManyItems};
     ghost use Rattle.vortex_table_core.specs.TableView.{table_of};

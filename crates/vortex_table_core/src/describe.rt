@@ -4,12 +4,12 @@ use crate::table::Table;
 use std::alloc::Global;
 use vortex_dtype_path::path::FieldPath;
 use vortex_dtype_ptype::nullability::Nullability;
-use vortex_table_check::error::TableError;
-use vortex_table_check::leaf::leaf_at;
 use vortex_table_chunk::chunk::bounds_at;
 use vortex_table_chunk::zones::bounds::ColumnBounds;
-use vortex_table_description::describe::description_of;
+use vortex_table_plan::describe::description_of;
 use vortex_table_schema::description::Description;
+use vortex_table_schema::error::TableError;
+use vortex_table_schema::leaf::leaf_at;
 
 impl Table {
     ghost use Rattle.std.specs.Prelude.{◌≡◌, ◌<◌, None, true, length, map, slice_index_or, IfOk, OnOk, IfErr};
@@ -21,8 +21,8 @@ impl Table {
     ghost use Rattle.vortex_dtype_core.specs.View.{type_of};
     ghost use Rattle.vortex_table_chunk.specs.Chunk.{chunk_rows};
     ghost use Rattle.vortex_table_chunk.specs.Joined.{IsJoined};
-    ghost use Rattle.vortex_table_check.specs.Error.{Explains};
-    ghost use Rattle.vortex_table_check.specs.Lengths.{length_in};
+    ghost use Rattle.vortex_table_schema.specs.Error.{Explains};
+    ghost use Rattle.vortex_table_schema.specs.Lengths.{length_in};
     ghost use Rattle.vortex_table_core.specs.Group.{chunks_of};
     ghost use Rattle.vortex_table_core.specs.declared.group.Group.{Group};
     ghost use Rattle.vortex_table_core.specs.TableView.{table_of};

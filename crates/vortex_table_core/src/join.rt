@@ -3,9 +3,9 @@
 use crate::group::Group;
 use crate::table::Table;
 use std::alloc::{AllocError, Global};
-use vortex_table_check::error::TableError;
 use vortex_table_chunk::bounds::join_bounds;
 use vortex_table_chunk::zones::bounds::ColumnBounds;
+use vortex_table_schema::error::TableError;
 
 impl Table {
     ghost use Rattle.std.specs.Prelude.{◌≡◌, ◌<◌, ◌+◌, None, length, map, slice_index_or, IfOk, OnOk, IfErr, OnErr};
@@ -14,8 +14,8 @@ impl Table {
     ghost use Rattle.vortex_table_chunk.specs.Chunk.{chunk_rows};
     ghost use Rattle.vortex_table_chunk.specs.Joined.{AreJoined};
     ghost use Rattle.vortex_table_schema.specs.Leaves.{leaf_positions};
-    ghost use Rattle.vortex_table_check.specs.Error.{Explains};
-    ghost use Rattle.vortex_table_check.specs.Lengths.{length_in};
+    ghost use Rattle.vortex_table_schema.specs.Error.{Explains};
+    ghost use Rattle.vortex_table_schema.specs.Lengths.{length_in};
     ghost use Rattle.vortex_table_core.specs.Group.{IsGroup, IsOneGroup, chunks_of};
     ghost use Rattle.vortex_table_core.specs.TableView.{table_of};
 

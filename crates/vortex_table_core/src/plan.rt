@@ -13,8 +13,8 @@ use vortex_table_chunk::zones::bounds::ColumnBounds;
 use vortex_table_plan::plan::ScanPlan;
 use vortex_table_select::select::{select_rows, take_rows};
 use vortex_table_select::selection::{ScanSelection, Selection};
-use vortex_table_zones::operands::ZoneOperands;
-use vortex_table_zones::proof::{ZoneProof, is_proved};
+use vortex_table_zonemaps::operands::ZoneOperands;
+use vortex_table_zonemaps::proof::{ZoneProof, is_proved};
 
 /// The way a scan treats a chunk.
 #[derive(Clone, Copy)]
@@ -44,7 +44,7 @@ impl Scan<'_> {
     ghost use Rattle.vortex_table_schema.specs.Leaves.{leaf_positions};
     ghost use Rattle.vortex_table_chunk.specs.Chunk.{chunk_rows};
     ghost use Rattle.vortex_table_select.specs.Selected.{rows_in, cut_rows, AreOfType};
-    ghost use Rattle.vortex_table_zones.specs.Zone.{zone_proved};
+    ghost use Rattle.vortex_table_zonemaps.specs.Zone.{zone_proved};
     ghost use Rattle.vortex_table_core.specs.Outcome.{outcome_of};
     ghost use Rattle.vortex_table_core.specs.Plan.{IsPlan, table_in, question_in, answer_by, falsified_by};
     ghost use Rattle.vortex_table_core.specs.Progress.{outcome_to, with_chunk, found_rows, proofs_at};

@@ -3,7 +3,7 @@ ghost use Rattle.std.specs.Prelude.{◌<◌, ◌^◌, map, option_map, IfOk, IsT
 ghost use Rattle.std.specs.List.{list_all};
 ghost use Rattle.vortex_table_chunk.specs.Chunk.{chunk_rows, row_count};
 ghost use Rattle.vortex_table_chunk.specs.Formed.{is_formed};
-ghost use Rattle.vortex_table_retype.specs.Retyping.{target_of, lengths_of};
+ghost use Rattle.vortex_table_layout.specs.Retyping.{target_of, lengths_of};
 ghost use Rattle.vortex_table_core.specs.Group.{chunks_of};
 ghost use Rattle.vortex_table_core.specs.Retyped.{IsSizeOf, HasOrdered, IsRegrouped};
 
@@ -12,12 +12,12 @@ use crate::table::Table;
 use std::alloc::{AllocError, Global};
 use std::rc::Rc;
 use vortex_dtype_core::dtype::DType;
-use vortex_table_blocks::block_list::BlockList;
-use vortex_table_check::check::check_type;
-use vortex_table_check::error::TableError;
 use vortex_table_chunk::chunk::Chunk;
 use vortex_table_chunk::zones::bounds::ColumnBounds;
-use vortex_table_retype::retyping::Retyping;
+use vortex_table_io::block_list::BlockList;
+use vortex_table_layout::retyping::Retyping;
+use vortex_table_schema::check::check_type;
+use vortex_table_schema::error::TableError;
 use vortex_table_schema::leaves::{LeafPath, leaf_positions};
 use vortex_table_zonemaps::zone_maps::ZoneMaps;
 
@@ -91,14 +91,14 @@ impl Table {
     ghost use Rattle.vortex_model_table.specs.Command.{retype, refusal, after, first_unconvertible};
     ghost use Rattle.vortex_dtype_core.specs.View.{type_of};
     ghost use Rattle.vortex_table_schema.specs.Leaves.{leaf_positions};
-    ghost use Rattle.vortex_table_check.specs.Error.{Explains};
-    ghost use Rattle.vortex_table_check.specs.Lengths.{length_in};
-    ghost use Rattle.vortex_table_check.specs.declared.error.TableError.TheVariants.{Total};
+    ghost use Rattle.vortex_table_schema.specs.Error.{Explains};
+    ghost use Rattle.vortex_table_schema.specs.Lengths.{length_in};
+    ghost use Rattle.vortex_table_schema.specs.declared.error.TableError.TheVariants.{Total};
     ghost use Rattle.vortex_table_chunk.specs.Chunk.{chunk_rows};
     ghost use Rattle.vortex_table_chunk.specs.Formed.{is_formed};
-    ghost use Rattle.vortex_table_retype.specs.Retyping.{target_of, lengths_of};
+    ghost use Rattle.vortex_table_layout.specs.Retyping.{target_of, lengths_of};
     ghost use Rattle.vortex_table_core.specs.Retyped.{AreRegrouped};
-    ghost use Rattle.vortex_table_retype.specs.TooLarge.{AnyTooLarge};
+    ghost use Rattle.vortex_table_layout.specs.AnyTooLarge.{AnyTooLarge};
     ghost use Rattle.vortex_table_core.specs.TableView.{table_of};
     ghost use Rattle.vortex_table_core.specs.Totals.{PassesTotal};
 

@@ -8,15 +8,15 @@ use vortex_dtype_path::path::FieldPath;
 use vortex_model_rules::laws::scans_with_rules_lose_none;
 use vortex_stats_expr::expression::Expression;
 use vortex_stats_rules::rule::StatsRewriteRuleRef;
-use vortex_table_check::error::TableError;
 use vortex_table_plan::make::prepare;
 use vortex_table_plan::plan::ScanPlan;
 use vortex_table_plan::rules::prepare_with;
 use vortex_table_schema::answer::ScanAnswer;
 use vortex_table_schema::cut::RowProjection;
+use vortex_table_schema::error::TableError;
 use vortex_table_select::read::read_answer;
 use vortex_table_select::selection::{LazyAnswer, ScanSelection};
-use vortex_table_zones::proof::resolve;
+use vortex_table_zonemaps::proof::resolve;
 
 // The cut of what is prepared. As a function of its own it lets go of the trees beside it.
 fn cut_of(prepared: ScanPlan) -> RowProjection
@@ -34,7 +34,7 @@ impl Table {
     ghost use Rattle.vortex_dtype_path.specs.View.{steps_of};
     ghost use Rattle.vortex_dtype_core.specs.View.{type_of};
     ghost use Rattle.vortex_stats_rules.specs.Meanings.{rules_of};
-    ghost use Rattle.vortex_table_check.specs.Error.{Explains};
+    ghost use Rattle.vortex_table_schema.specs.Error.{Explains};
     ghost use Rattle.vortex_table_plan.specs.Prepared.{IsPreparedFor};
     ghost use Rattle.vortex_table_plan.specs.Rules.{have_fault, ExplainsWith};
     ghost use Rattle.vortex_table_core.specs.TableView.{table_of};

@@ -7,7 +7,7 @@ ghost use Rattle.vortex_table_chunk.specs.Chunk.{row_count};
 ghost use Rattle.vortex_table_schema.specs.Leaves.{leaf_positions};
 ghost use Rattle.vortex_table_core.specs.Group.{AreGroups, AreGroups-prop};
 ghost use Rattle.vortex_table_chunk.specs.Formed.{is_formed, eq_leaves, are_lengths_of};
-ghost use Rattle.vortex_table_check.specs.Lengths.{length_in};
+ghost use Rattle.vortex_table_schema.specs.Lengths.{length_in};
 ghost use Rattle.vortex_table_zonemaps.specs.Zones.{zone_of, AreZoneMaps, AreZoneMaps-prop};
 
 use crate::group::Group;
@@ -19,15 +19,15 @@ use vortex_arrays_view::error::ArrayError;
 use vortex_dtype_core::dtype::DType;
 use vortex_dtype_path::path::FieldPath;
 use vortex_scalar_value::scalar_value::ScalarValue;
-use vortex_table_blocks::block_list::BlockList;
-use vortex_table_check::append::{check_batch, convert_rows};
-use vortex_table_check::check::check_type;
-use vortex_table_check::error::TableError;
-use vortex_table_check::lengths::{BoundLengths, check_lengths};
 use vortex_table_chunk::chunk::{Chunk, new_chunk};
+use vortex_table_io::block_list::BlockList;
 use vortex_table_layout::lay_out::lay_out;
+use vortex_table_schema::append::{check_batch, convert_rows};
+use vortex_table_schema::check::check_type;
+use vortex_table_schema::error::TableError;
 use vortex_table_schema::layout::Layout;
 use vortex_table_schema::leaves::{LeafPath, leaf_positions};
+use vortex_table_schema::lengths::{BoundLengths, check_lengths};
 use vortex_table_zonemaps::zone_maps::ZoneMaps;
 
 /// A table: rows of one type in chunks, each the rows of one append, and the chunks in groups of
@@ -72,8 +72,8 @@ impl Table {
     ghost use Rattle.vortex_table_core.specs.Arrays.{arrays_of, AddsArray};
     ghost use Rattle.vortex_table_layout.specs.Hinted.{HasHintedColumns};
     ghost use Rattle.vortex_table_layout.specs.TooLarge.{AreTooLarge};
-    ghost use Rattle.vortex_table_check.specs.Error.{Explains};
-    ghost use Rattle.vortex_table_check.specs.Lengths.{entries_in};
+    ghost use Rattle.vortex_table_schema.specs.Error.{Explains};
+    ghost use Rattle.vortex_table_schema.specs.Lengths.{entries_in};
     ghost use Rattle.vortex_table_core.specs.TableView.{table_of};
 
     /// A table without rows. A bound of a leaf column that is a text or bytes of more bytes than

@@ -2,3 +2,4 @@ pub mod Fronts
 pub mod LineLemmas
 pub mod ReplyLemmas
 pub mod Walks
+pub mod Places

@@ -4,3 +4,4 @@ pub mod Replies
 pub mod Responses
 pub mod Streams
 pub mod Tap
+pub mod Blocks

@@ -3,8 +3,11 @@
 //! [`Source`] and [`Sink`] are a reader and a writer whose clauses name every byte that was read
 //! and written so far; [`Tap`] makes one of any reader or writer. A [`LineHandler`] answers a line,
 //! and [`run_lines`] runs one over a source and a sink.
+//!
+//! Lists that are held in blocks, so that one item is taken out without moving all behind it.
 #![tactic(auto)]
 
+pub mod block_list;
 mod line_buffer;
 mod line_handler;
 mod log;
@@ -13,6 +16,7 @@ mod run;
 mod short_text;
 mod tap;
 mod traits;
+pub mod walk;
 
 pub use line_handler::{LineHandler, Response};
 pub use log::{Log, Piece};

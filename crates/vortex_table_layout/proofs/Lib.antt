@@ -6,3 +6,7 @@ pub mod HintLemmas
 mod KeepLemmas
 mod LaidLemmas
 mod RowLemmas
+pub mod ConvertedRows
+pub mod InOrder
+pub mod LaidOut
+pub mod RangeLemmas

@@ -3,3 +3,6 @@ pub mod Hinted
 pub mod HintedAnew
 pub mod Kept
 pub mod TooLarge
+pub mod InOrder
+pub mod Retyping
+pub mod AnyTooLarge

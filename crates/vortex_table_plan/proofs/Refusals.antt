@@ -7,11 +7,11 @@ use Rattle.vortex_model.specs.Refusal.{Refusal, not_boolean, or_else}
 use Rattle.vortex_model_table.specs.Command.{expression_fault, predicate_fault, unless, is_boolean}
 use Rattle.vortex_model_rules.specs.Rules.{Answer, is_fault}
 use Rattle.vortex_stats_rules.specs.Refusals.{IsPredicate, IsRefusal}
-use Rattle.vortex_stats_stat.specs.declared.error.StatsError.{StatsError}
-use Rattle.vortex_stats_stat.specs.declared.error.StatsError.TheVariants as stats
-use Rattle.vortex_table_check.specs.Error.{Explains}
-use Rattle.vortex_table_check.specs.declared.error.TableError.{TableError}
-use Rattle.vortex_table_check.specs.declared.error.TableError.TheVariants as error
+use Rattle.vortex_stats_expr.specs.declared.error.StatsError.{StatsError}
+use Rattle.vortex_stats_expr.specs.declared.error.StatsError.TheVariants as stats
+use Rattle.vortex_table_schema.specs.Error.{Explains}
+use Rattle.vortex_table_schema.specs.declared.error.TableError.{TableError}
+use Rattle.vortex_table_schema.specs.declared.error.TableError.TheVariants as error
 use Rattle.vortex_table_plan.specs.Rules.{ExplainsWith, IsOfRules, IsRuleError}
 
 of_predicate : (p : Option Refusal) (b : Bool) → or_else p (unless b not_boolean) ≡ None → b ≡ true

@@ -2,3 +2,5 @@ pub mod Prepared
 pub mod Rules
 pub mod Sides
 pub mod Trees
+pub mod Faults
+pub mod Described

@@ -4,11 +4,11 @@ use Rattle.vortex_model.specs.LogicalType.{LogicalType}
 use Rattle.vortex_model_table.specs.Expression.{Expression}
 use Rattle.vortex_model.specs.Refusal.{Refusal}
 use Rattle.vortex_model_rules.specs.Rules.{Rule, is_fault, fals, sat}
-use Rattle.vortex_stats_stat.specs.declared.error.StatsError.{StatsError}
-use Rattle.vortex_stats_stat.specs.declared.error.StatsError.TheVariants as stats
-use Rattle.vortex_table_check.specs.Error.{Explains}
-use Rattle.vortex_table_check.specs.declared.error.TableError.{TableError}
-use Rattle.vortex_table_check.specs.declared.error.TableError.TheVariants as error
+use Rattle.vortex_stats_expr.specs.declared.error.StatsError.{StatsError}
+use Rattle.vortex_stats_expr.specs.declared.error.StatsError.TheVariants as stats
+use Rattle.vortex_table_schema.specs.Error.{Explains}
+use Rattle.vortex_table_schema.specs.declared.error.TableError.{TableError}
+use Rattle.vortex_table_schema.specs.declared.error.TableError.TheVariants as error
 
 -- a rule makes one of the two proofs of the predicate a fault
 abbrev pub have_fault : LogicalType → List Rule → Expression → Bool

@@ -11,9 +11,10 @@ ghost use Rattle.vortex_dtype_core.specs.View.{type_of};
 ghost use Rattle.vortex_dtype_path.specs.View.{steps_of};
 ghost use Rattle.vortex_table_schema.specs.Cut.{paths_of};
 ghost use Rattle.vortex_table_chunk.specs.Proved.{IsBoundProof};
-ghost use Rattle.vortex_table_check.specs.Error.{Explains};
+ghost use Rattle.vortex_table_schema.specs.Error.{Explains};
 ghost use Rattle.vortex_table_plan.specs.Prepared.{IsPreparedFor, IsPreparedBy};
 
+use crate::bind::bind;
 use crate::falsifier::{bind_falsifier, bind_satisfier};
 use crate::plan::{ProofTrees, Proofs, ScanPlan};
 use std::alloc::{AllocError, Global};
@@ -21,10 +22,9 @@ use vortex_dtype_core::dtype::DType;
 use vortex_dtype_path::path::FieldPath;
 use vortex_stats_bind::bound::BoundTree;
 use vortex_stats_expr::expression::Expression;
-use vortex_table_check::check::check_paths;
-use vortex_table_check::error::TableError;
-use vortex_table_predicate::bind::bind;
+use vortex_table_schema::check::check_paths;
 use vortex_table_schema::cut::make_cut;
+use vortex_table_schema::error::TableError;
 
 // The two proofs of the built-in rules.
 fn bind_built_in(alloc: Global, dtype: &DType, predicate: &Expression) -> Result<Proofs, AllocError>

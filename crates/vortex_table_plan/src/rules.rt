@@ -18,12 +18,12 @@ use crate::plan::{ProofTrees, Proofs, ScanPlan};
 use std::alloc::{AllocError, Global};
 use vortex_dtype_core::dtype::DType;
 use vortex_dtype_path::path::FieldPath;
+use vortex_stats_expr::error::StatsError;
 use vortex_stats_expr::expression::Expression;
 use vortex_stats_rules::meter::Meter;
 use vortex_stats_rules::rewrite::{falsify, satisfy};
 use vortex_stats_rules::rule::StatsRewriteRuleRef;
-use vortex_stats_stat::error::StatsError;
-use vortex_table_check::error::TableError;
+use vortex_table_schema::error::TableError;
 
 // A rewrite of a predicate fails for want of memory, or since a rule is at fault.
 fn rule_error(error: StatsError) -> TableError

@@ -6,7 +6,7 @@ ghost use Rattle.vortex_model_table.specs.Rewrite.{bound_expression, comparison_
 ghost use Rattle.vortex_dtype_core.specs.View.{type_of};
 ghost use Rattle.vortex_stats_bind.specs.Bound.{bound_of};
 ghost use Rattle.vortex_stats_expr.specs.Tree.{comparison_of};
-ghost use Rattle.vortex_stats_stat.specs.Aggregate.{aggregate_of};
+ghost use Rattle.vortex_stats_expr.specs.Aggregate.{aggregate_of};
 ghost use Rattle.vortex_table_plan.specs.Sides.{side_expression, IsSideOf};
 
 use std::alloc::{AllocError, Global};
@@ -16,10 +16,10 @@ use vortex_scalar_core::scalar::Scalar;
 use vortex_scalar_value::clone::clone_value;
 use vortex_stats_bind::bind::resolve_column;
 use vortex_stats_bind::bound::{BoundNode, BoundTree, bound_and, bound_literal, bound_or};
+use vortex_stats_expr::aggregate::AggregateFn;
 use vortex_stats_expr::expression::{Expression, Node};
 use vortex_stats_expr::operator::Comparison;
-use vortex_stats_stat::aggregate::AggregateFn;
-use vortex_stats_typing::classes::{has_bounds, is_of_floats};
+use vortex_stats_rewrite::classes::{has_bounds, is_of_floats};
 
 /// A side of a comparison whose values have a least and a greatest one, and are never NaN.
 #[derive(Clone, Copy, Drop)]

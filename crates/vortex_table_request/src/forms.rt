@@ -1,14 +1,14 @@
 //! The forms of predicates in a line: what the first item of an array names.
 ghost use Rattle.std.specs.Prelude.{◌≡◌, option_map};
 ghost use Rattle.serde_json.specs.View.{view};
-ghost use Rattle.vortex_stats_stat.specs.Aggregate.{aggregate_of};
+ghost use Rattle.vortex_stats_expr.specs.Aggregate.{aggregate_of};
 ghost use Rattle.vortex_table_request.specs.Parsed.{Gives};
 ghost use Rattle.vortex_table_request.specs.FormNames.{operator_named, form_named, aggregate_named, has_size, form_in};
 
 use crate::{ParseError, length};
 use serde_json::Value;
+use vortex_stats_expr::aggregate::AggregateFn;
 use vortex_stats_expr::operator::Operator;
-use vortex_stats_stat::aggregate::AggregateFn;
 
 /// Which predicate an array is, by how many of its items are predicates themselves.
 #[derive(Clone, Copy, Debug, PartialEq, Eq)]

@@ -10,7 +10,7 @@ use Rattle.vortex_model_table.specs.Scan.{ScanAnswer}
 use Rattle.vortex_model_table.specs.Statistics.{Precision, exact, inexact, absent}
 use Rattle.vortex_model_table.specs.ZoneMap.{ZoneMap}
 use Rattle.vortex_stats_bound.specs.Precision.{precision_map}
-use Rattle.vortex_table_check.specs.Error.{name_of}
+use Rattle.vortex_table_schema.specs.Error.{name_of}
 use Rattle.vortex_table_response.specs.type_texts.Text.{flag_text, comma, type_text}
 
 -- ---- contents

@@ -6,9 +6,9 @@ use Rattle.vortex_model_table.specs.Command.{Command, refusal_in}
 use Rattle.vortex_model.specs.Refusal.{Refusal, number_of, index_of}
 use Rattle.vortex_model_table.specs.Reply.{RespondsTo}
 use Rattle.vortex_table_core.specs.Totals.{PassesTotal}
-use Rattle.vortex_table_check.specs.Error.{refusal_of, error_name, Explains}
-use Rattle.vortex_table_check.specs.declared.error.TableError.{TableError}
-use Rattle.vortex_table_check.specs.declared.error.TableError.TheVariants as error
+use Rattle.vortex_table_schema.specs.Error.{refusal_of, error_name, Explains}
+use Rattle.vortex_table_schema.specs.declared.error.TableError.{TableError}
+use Rattle.vortex_table_schema.specs.declared.error.TableError.TheVariants as error
 use Rattle.vortex_table_response.specs.Text.{refusal_parts}
 use Rattle.vortex_table_response.specs.Answers.{text_of}
 use Rattle.vortex_table_run.specs.CommandAnswers.{error_answer}

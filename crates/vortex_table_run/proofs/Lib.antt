@@ -3,3 +3,6 @@ mod Exact
 mod Responding
 mod WellFormed
 mod ArrayRows
+mod Contents
+mod Cuts
+mod Written

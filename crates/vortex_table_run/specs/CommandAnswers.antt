@@ -4,9 +4,9 @@ use Rattle.vortex_model_table.specs.Table.{Table}
 use Rattle.vortex_model_table.specs.Command.{Command}
 use Rattle.vortex_model.specs.Refusal.{total_passed}
 use Rattle.vortex_model_table.specs.Reply.{Answer, accepted, out_of_memory, refused, RespondsTo}
-use Rattle.vortex_table_check.specs.Error.{refusal_of}
-use Rattle.vortex_table_check.specs.declared.error.TableError.{TableError}
-use Rattle.vortex_table_check.specs.declared.error.TableError.TheVariants as error
+use Rattle.vortex_table_schema.specs.Error.{refusal_of}
+use Rattle.vortex_table_schema.specs.declared.error.TableError.{TableError}
+use Rattle.vortex_table_schema.specs.declared.error.TableError.TheVariants as error
 use Rattle.vortex_table_response.specs.Answers.{text_of}
 use Rattle.vortex_table_core.specs.Totals.{PassesTotal}
 use Rattle.vortex_table_io.specs.Lines.{with_lf}

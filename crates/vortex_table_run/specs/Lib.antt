@@ -2,3 +2,4 @@ pub mod LineAnswers
 pub mod CommandAnswers
 pub mod Exact
 pub mod State
+pub mod Order

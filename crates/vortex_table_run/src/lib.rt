@@ -1,10 +1,19 @@
 //! Serves a table line by line: [`commands::run`] reads commands from a source and writes their
 //! answers into a sink, and [`session::Session`] is the table that they change.
+//!
+//! The answers of scans as text, written straight from the arrays that the rows stand in: no value
+//! is made of what is written.
 #![tactic(auto)]
 
 pub mod commands;
+mod content;
+mod cut;
 mod groups;
+mod leaves;
+mod native;
 mod refused;
+mod rows;
+pub mod scan;
 pub mod session;
 
 // The table of a session, for the door to name.

@@ -1,11 +1,11 @@
 //! Refusals as texts that take no memory.
 ghost use Rattle.std.specs.Prelude.{◌≢◌, ℕ, List};
-ghost use Rattle.vortex_table_check.specs.declared.error.TableError.TheVariants.{RuleFault};
+ghost use Rattle.vortex_table_schema.specs.declared.error.TableError.TheVariants.{RuleFault};
 ghost use Rattle.vortex_table_run.specs.CommandAnswers.{IsWrittenAs, error_answer};
 
-use vortex_table_check::error::TableError;
 use vortex_table_io::Response;
 use vortex_table_response::refusal;
+use vortex_table_schema::error::TableError;
 
 /// What is said of an error. No line hands in a rule that could be at fault.
 pub(crate) fn fault(error: TableError) -> Response

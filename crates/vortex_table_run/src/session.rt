@@ -13,6 +13,7 @@ ghost use Rattle.vortex_table_request.specs.View.{entry_of, raw_rows, shown};
 ghost use Rattle.vortex_table_run.specs.CommandAnswers.{Responds};
 
 use crate::refused::fault;
+use crate::scan::push_scan;
 use json::Scratch;
 use std::alloc::{AllocError, Global};
 use vortex_arrays_core::array::ArrayRef;
@@ -27,7 +28,6 @@ use vortex_table_request::{Command, ParseError};
 use vortex_table_response::{bad_line, without_table};
 use vortex_table_schema::layout::Layout;
 use vortex_table_select::selection::LazyAnswer;
-use vortex_table_text::scan::push_scan;
 use vortex_table_tokens::read_command;
 
 /// Writes the line of a scan's answer in place of what the buffer holds.

@@ -4,3 +4,7 @@ pub mod Description
 pub mod Fault
 pub mod Leaves
 pub mod Rows
+pub mod Error
+pub mod Lengths
+pub mod LeafPlace
+pub mod PartIndex

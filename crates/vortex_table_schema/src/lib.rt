@@ -1,11 +1,20 @@
 //! Types of tables: which a table can hold, where their leaves stand, and what paths ask for of a
 //! type and of its values.
+//!
+//! What a table tests before a command changes anything: types, paths, rows, leaf columns, bound
+//! lengths.
 #![tactic(auto)]
 
 pub mod answer;
+pub mod append;
+pub mod check;
 pub mod cut;
 pub mod description;
+pub mod error;
 pub mod layout;
+pub mod leaf;
 pub mod leaves;
+pub mod lengths;
+mod part_index;
 pub mod projection;
 pub mod type_fault;

@@ -1,2 +1,4 @@
 pub mod Places
 pub mod Taken
+pub mod CutRows
+pub mod Lists

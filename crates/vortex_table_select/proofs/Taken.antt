@@ -28,7 +28,7 @@ use Rattle.vortex_table_schema.specs.Rows.{row_content}
 use Rattle.vortex_table_schema.specs.Cut.{Tree, tree_of, content_cut, raw_cut}
 use Rattle.vortex_table_schema.proofs.Cuts.{cut_content_of}
 use Rattle.vortex_table_schema.specs.declared.cut.RowProjection.{RowProjection}
-use Rattle.vortex_table_rows.specs.Lists.{cut_values}
+use Rattle.vortex_table_select.specs.Lists.{cut_values}
 use Rattle.vortex_table_select.specs.Selected.{is_selected, selected_rows, rows_at, rows_in, AreOfType, cut_rows, CanBeCut}
 use Rattle.vortex_table_select.specs.declared.selection.Selection.{Selection}
 

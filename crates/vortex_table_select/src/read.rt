@@ -8,6 +8,7 @@ ghost use Rattle.vortex_arrays_model.specs.Layout.{len_of, array_type_of, conten
 ghost use Rattle.vortex_table_schema.specs.Answer.{answer_of, IsTyped};
 ghost use Rattle.vortex_table_select.specs.Selected.{rows_in, answer_cut, cut_rows, CanBeCut};
 
+use crate::rows::read_rows;
 use crate::selection::{ScanSelection, Selection};
 use std::alloc::{AllocError, Global};
 use vortex_arrays_core::array::ArrayRef;
@@ -15,7 +16,6 @@ use vortex_dtype_core::dtype::DType;
 use vortex_model::laws::tests_of_validity_are_right;
 use vortex_scalar_core::scalar::Scalar;
 use vortex_scalar_value::scalar_value::ScalarValue;
-use vortex_table_rows::rows::read_rows;
 use vortex_table_schema::answer::ScanAnswer;
 use vortex_table_schema::cut::RowProjection;
 

@@ -1,3 +1,4 @@
 pub mod Columns
 pub mod Compared
 pub mod Held
+pub mod Truths

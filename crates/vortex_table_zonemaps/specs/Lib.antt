@@ -2,3 +2,4 @@ pub mod Column
 pub mod Side
 pub mod Stretch
 pub mod Zones
+pub mod Zone

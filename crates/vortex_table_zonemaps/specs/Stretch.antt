@@ -3,9 +3,9 @@ use Rattle.std.specs.Prelude.{◌≤◌, ◌+◌, List, length, map, take, drop,
 use Rattle.vortex_model.specs.Content.{Content}
 use Rattle.vortex_model.specs.Path.{Positions}
 use Rattle.vortex_table_chunk.specs.declared.chunk.Chunk.{Chunk}
-use Rattle.vortex_table_zones.specs.Zone.{operand_content, proof_truth, zone_proved}
-use Rattle.vortex_table_zones.specs.declared.proof.Operand.{Operand}
-use Rattle.vortex_table_zones.specs.declared.proof.ZoneProof.{ZoneProof}
+use Rattle.vortex_table_zonemaps.specs.Zone.{operand_content, proof_truth, zone_proved}
+use Rattle.vortex_table_zonemaps.specs.declared.proof.Operand.{Operand}
+use Rattle.vortex_table_zonemaps.specs.declared.proof.ZoneProof.{ZoneProof}
 use Rattle.vortex_table_zonemaps.specs.Zones.{Zone, zone_of, AreZoneMaps}
 use Rattle.vortex_table_zonemaps.specs.declared.proved.Stretch.{Stretch}
 

@@ -3,17 +3,17 @@ ghost use Rattle.std.specs.Prelude.{pos, option_map};
 ghost use Rattle.vortex_model.specs.Content.{integer};
 ghost use Rattle.vortex_scalar_value.specs.Numbers.{integer_of};
 ghost use Rattle.vortex_stats_bind.specs.OperandValue.{operand_value};
-ghost use Rattle.vortex_stats_stat.specs.Aggregate.{aggregate_of};
+ghost use Rattle.vortex_stats_expr.specs.Aggregate.{aggregate_of};
 ghost use Rattle.vortex_table_chunk.specs.BoundStat.{stat_value_or_null};
 ghost use Rattle.vortex_table_zonemaps.specs.Column.{IsEntryOf};
 
 use crate::column::{Entry, StatColumn};
+use crate::operands::statistic;
 use std::alloc::{AllocError, Global};
 use vortex_scalar_value::pvalue::PValue;
 use vortex_stats_bind::value::Value;
-use vortex_stats_stat::aggregate::AggregateFn;
+use vortex_stats_expr::aggregate::AggregateFn;
 use vortex_table_chunk::zones::bounds::ColumnBounds;
-use vortex_table_zones::operands::statistic;
 
 /// The statistics of a leaf column that predicates are compared with, a zone after the other.
 #[derive(Drop)]
@@ -70,7 +70,7 @@ fn entry_in(bounds: Option<&ColumnBounds>, rows: usize, aggregate: AggregateFn) 
 
 impl LeafZones {
     ghost use Rattle.std.specs.Prelude.{◌≡◌, ◌∷◌, ◌++◌, [], ℕ, List, length, map, slice_get, option_map, IfOk, OnOk, IfSome};
-    ghost use Rattle.vortex_stats_stat.specs.Aggregate.{aggregate_of};
+    ghost use Rattle.vortex_stats_expr.specs.Aggregate.{aggregate_of};
     ghost use Rattle.vortex_table_zonemaps.specs.Column.{IsColumnOf};
     ghost use Rattle.vortex_table_zonemaps.specs.Zones.{Zone, leaf_stat, IsLeaf};
 

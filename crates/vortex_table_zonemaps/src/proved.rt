@@ -3,22 +3,22 @@ ghost use Rattle.std.specs.Prelude.{◌≡◌, map, IfOk, IfSome};
 ghost use Rattle.vortex_model.specs.Content.{integer};
 ghost use Rattle.vortex_scalar_value.specs.View.{content_at};
 ghost use Rattle.vortex_arrays_model.specs.Layout.{len_of};
-ghost use Rattle.vortex_table_zones.specs.Zone.{proof_truth};
+ghost use Rattle.vortex_table_zonemaps.specs.Zone.{proof_truth};
 ghost use Rattle.vortex_table_zonemaps.specs.Stretch.{IsStretch, zones_in, truth_at, proved_at};
 
 use crate::column::NumberSlice;
 use crate::compare::{Side, compare_sides};
+use crate::operands::ZoneOperands;
+use crate::proof::{Operand, ZoneProof, number_of};
 use crate::zone_maps::ZoneMaps;
 use std::alloc::{AllocError, Global};
 use vortex_scalar_value::scalar_value::ScalarValue;
 use vortex_stats_bind::value::read;
+use vortex_stats_expr::aggregate::AggregateFn;
 use vortex_stats_expr::operator::Comparison;
 use vortex_stats_mask::masks::{both_into, either_into, no_rows};
-use vortex_stats_stat::aggregate::AggregateFn;
 use vortex_table_chunk::chunk::Chunk;
 use vortex_table_schema::leaves::LeafPath;
-use vortex_table_zones::operands::ZoneOperands;
-use vortex_table_zones::proof::{Operand, ZoneProof, number_of};
 
 /// Neighbouring chunks of a table.
 #[derive(Clone, Copy)]
@@ -76,7 +76,7 @@ impl Stretch<'_> {
     ghost use Rattle.std.specs.Prelude.{◌≡◌, map, IfOk, IfSome};
     ghost use Rattle.vortex_model_table.specs.Truth.{compared, is_true};
     ghost use Rattle.vortex_stats_expr.specs.Tree.{comparison_of};
-    ghost use Rattle.vortex_stats_stat.specs.Aggregate.{aggregate_of};
+    ghost use Rattle.vortex_stats_expr.specs.Aggregate.{aggregate_of};
     ghost use Rattle.vortex_table_zonemaps.specs.Column.{AreNumbers};
     ghost use Rattle.vortex_table_zonemaps.specs.Side.{IsSideOf};
     ghost use Rattle.vortex_table_zonemaps.specs.Stretch.{IsStretch, zones_in, operand_at, truth_at};
@@ -150,7 +150,7 @@ impl Stretch<'_> {
     }
 }
 
-#[tactic(auto, using(vortex_table_zones::proofs::Truths::one_level))]
+#[tactic(auto, using(crate::proofs::Truths::one_level))]
 fn proof_mask(alloc: Global, proof: &ZoneProof, stretch: &Stretch) -> Result<Vec<bool>, AllocError>
     requires { IsStretch stretch.now }
     ensures { IfOk result (λ mask. mask.items

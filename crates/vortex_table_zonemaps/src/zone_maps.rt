@@ -6,7 +6,7 @@ ghost use Rattle.vortex_table_zonemaps.specs.Zones.{Zone, AreLeaves};
 use crate::column::StatColumn;
 use crate::leaf::{LeafZones, count_entry};
 use std::alloc::{AllocError, Global};
-use vortex_stats_stat::aggregate::AggregateFn;
+use vortex_stats_expr::aggregate::AggregateFn;
 use vortex_table_chunk::chunk::Chunk;
 use vortex_table_chunk::zones::bounds::ColumnBounds;
 
@@ -40,7 +40,7 @@ fn put_leaves(
 
 impl ZoneMaps {
     ghost use Rattle.std.specs.Prelude.{◌≡◌, ◌∷◌, ◌++◌, [], List, length, map, IfOk, OnOk, IfSome};
-    ghost use Rattle.vortex_stats_stat.specs.Aggregate.{aggregate_of};
+    ghost use Rattle.vortex_stats_expr.specs.Aggregate.{aggregate_of};
     ghost use Rattle.vortex_table_zonemaps.specs.Column.{IsColumnOf};
     ghost use Rattle.vortex_table_zonemaps.specs.Zones.{Zone, zone_of, leaf_stat, AreZoneMaps};
 

@@ -4,7 +4,7 @@ use crate::checks::Checks;
 use crate::values::Done;
 use std::alloc::Global;
 use vortex_dtype::ByteBuffer;
-use vortex_scalar_truncation::byte_bounds::{lower_bytes, upper_bytes};
+use vortex_scalar_builders::byte_bounds::{lower_bytes, upper_bytes};
 
 pub fn run(alloc: Global, checks: &mut Checks<'_>) -> Done {
     // Each string of up to four bytes that are 0 or 255, and of up to two of 127 too.

@@ -6,8 +6,8 @@ use crate::values::Done;
 use std::alloc::Global;
 use vortex_dtype::BufferString;
 use vortex_scalar::StringLike;
-use vortex_scalar_truncation::characters::next_character;
-use vortex_scalar_truncation::text_bounds::{lower_text, upper_text};
+use vortex_scalar_builders::characters::next_character;
+use vortex_scalar_builders::text_bounds::{lower_text, upper_text};
 
 pub fn run(alloc: Global, checks: &mut Checks<'_>) -> Done {
     edges(checks);

@@ -3,7 +3,7 @@ use Rattle.std.specs.Prelude.{MatchOption}
 use Rattle.std.specs.List.{range_with_len, zip}
 use Rattle.vortex_arrays_core.specs.LayoutOf.{valid_of}
 use Rattle.vortex_arrays_model.specs.Layout.{is_valid}
-use Rattle.vortex_stats_strings.specs.Fronts.{match_by_head}
+use Rattle.vortex_stats_match.specs.Fronts.{match_by_head}
 use Rattle.vortex_stats_select.specs.Asked.{seen}
 use Rattle.vortex_stats_select.specs.Wants.{wanted_match}
 use Rattle.vortex_stats_select.proofs.AskedLemmas.{seen_mapped, seen_valid}

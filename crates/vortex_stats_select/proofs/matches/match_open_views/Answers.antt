@@ -1,6 +1,6 @@
 use Rattle.std.proofs.Common.{◌∙◌, ap, map, ℕ, List}
 use Rattle.vortex_stats_mask.specs.Columns.{both_rows}
-use Rattle.vortex_stats_strings.specs.Fronts.{match_by_head}
+use Rattle.vortex_stats_match.specs.Fronts.{match_by_head}
 use Rattle.vortex_stats_select.proofs.AskedLemmas.{tested_open}
 use Rattle.vortex_stats_select.proofs.matches.match_open_views.Goals as goal
 

@@ -4,8 +4,8 @@ use Rattle.std.specs.List.{list_all}
 use Rattle.vortex_table_schema.specs.Leaves.{leaf_positions}
 use Rattle.vortex_table_chunk.specs.Chunk.{chunk_rows}
 use Rattle.vortex_table_chunk.specs.Formed.{is_formed}
-use Rattle.vortex_table_retype.specs.InOrder.{AreJoinedInOrder}
-use Rattle.vortex_table_retype.specs.Retyping.{target_of, lengths_of}
+use Rattle.vortex_table_layout.specs.InOrder.{AreJoinedInOrder}
+use Rattle.vortex_table_layout.specs.Retyping.{target_of, lengths_of}
 use Rattle.vortex_table_core.proofs.Groups.{formed_in}
 use Rattle.vortex_table_core.proofs.Regrouped.{sliced, own_many, few_within}
 use Rattle.vortex_table_core.proofs.retype.joined_again.Goals as goal

@@ -1,6 +1,6 @@
 use Rattle.std.proofs.Common.{◌≡◌, sym, ap, ◌∙◌, ◌&&◌, ◌||◌, Bool, List, map}
 use Rattle.std.specs.List.{zip}
-use Rattle.vortex_table_zones.proofs.Truths.{truth-And, truth-Or}
+use Rattle.vortex_table_zonemaps.proofs.Truths.{truth-And, truth-Or}
 use Rattle.vortex_table_zonemaps.specs.Stretch.{zones_in, truth_at}
 use Rattle.vortex_table_zonemaps.proofs.Compared.{joined_and, joined_or}
 use Rattle.vortex_table_zonemaps.proofs.proved.+proof_mask.Goals as goal

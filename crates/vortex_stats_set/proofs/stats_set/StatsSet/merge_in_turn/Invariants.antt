@@ -1,5 +1,5 @@
 use Rattle.std.proofs.Common.{◌≡◌}
-use Rattle.vortex_stats_stat.specs.Stats.{all_stats}
+use Rattle.vortex_stats_expr.specs.Stats.{all_stats}
 use Rattle.vortex_stats_set.specs.Known.{raw_pairs}
 use Rattle.vortex_stats_set.specs.Merge.{merged_in_turn}
 use Rattle.vortex_stats_set.proofs.stats_set.StatsSet.merge_in_turn.Given as goal

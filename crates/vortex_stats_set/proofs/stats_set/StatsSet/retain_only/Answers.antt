@@ -1,7 +1,7 @@
 use Rattle.std.proofs.Common.{rules, ◌∙◌, ap}
 use Rattle.std.proofs.lemmas.Fn.{filter_same}
-use Rattle.vortex_stats_stat.specs.Stats.{number_of_stat}
-use Rattle.vortex_stats_stat.specs.Bitsets.{has_number}
+use Rattle.vortex_stats_expr.specs.Stats.{number_of_stat}
+use Rattle.vortex_stats_expr.specs.Bitsets.{has_number}
 use Rattle.vortex_stats_set.specs.Sets.{only}
 use Rattle.vortex_stats_set.proofs.Lists.{kept_is_set}
 use Rattle.vortex_stats_set.proofs.stats_set.StatsSet.retain_only.Goals as goal

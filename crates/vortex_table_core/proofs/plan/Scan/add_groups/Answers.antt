@@ -1,5 +1,5 @@
 use Rattle.std.proofs.Common.{◌≡◌, sym, subst, ◌∙◌, ◌+◌, ◌∷◌, drop}
-use Rattle.vortex_table_blocks.specs.Blocks.{left_in}
+use Rattle.vortex_table_io.specs.Blocks.{left_in}
 use Rattle.vortex_table_core.specs.Plan.{answer_by, stretch_of}
 use Rattle.vortex_table_core.specs.Progress.{IsCounted}
 use Rattle.vortex_table_core.proofs.Skipped.{ahead_counted}

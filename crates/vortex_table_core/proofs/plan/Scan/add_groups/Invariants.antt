@@ -1,5 +1,5 @@
 use Rattle.std.proofs.Common.{◌≡◌, ℕ, drop, length}
-use Rattle.vortex_table_blocks.specs.Blocks.{left_in}
+use Rattle.vortex_table_io.specs.Blocks.{left_in}
 use Rattle.vortex_table_select.specs.Selected.{AreOfType}
 use Rattle.vortex_table_core.specs.Plan.{table_in, answer_by}
 use Rattle.vortex_table_core.proofs.Stretches.{Waiting}

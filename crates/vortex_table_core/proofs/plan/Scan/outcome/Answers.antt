@@ -1,6 +1,6 @@
 use Rattle.std.proofs.Common.{◌∙◌}
 use Rattle.vortex_arrays_model.specs.Layout.{len_of}
-use Rattle.vortex_table_zones.specs.Zone.{zone_proved}
+use Rattle.vortex_table_zonemaps.specs.Zone.{zone_proved}
 use Rattle.vortex_table_schema.specs.Leaves.{leaf_positions}
 use Rattle.vortex_table_core.specs.Plan.{table_in}
 use Rattle.vortex_table_core.proofs.Proven.{outcome_skipped, outcome_whole, outcome_tested}

@@ -1,6 +1,6 @@
 use Rattle.std.proofs.Common.{ap, ◌∙◌}
 use Rattle.vortex_dtype_core.specs.View.{type_of}
-use Rattle.vortex_table_zones.specs.Zone.{zone_proved}
+use Rattle.vortex_table_zonemaps.specs.Zone.{zone_proved}
 use Rattle.vortex_table_schema.specs.Leaves.{leaf_positions}
 use Rattle.vortex_table_chunk.proofs.EqualLeaves.{leaves_so}
 use Rattle.vortex_table_core.proofs.plan.Scan.proves.Goals as goal

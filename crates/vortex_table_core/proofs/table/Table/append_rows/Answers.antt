@@ -9,9 +9,9 @@ use Rattle.vortex_dtype_core.specs.View.{type_of}
 use Rattle.vortex_scalar_value.specs.View.{raw_in}
 use Rattle.vortex_arrays_model.specs.Layout.{rows_of}
 use Rattle.vortex_table_schema.specs.Rows.{row_content}
-use Rattle.vortex_table_check.specs.Error.{Explains}
+use Rattle.vortex_table_schema.specs.Error.{Explains}
 use Rattle.vortex_table_core.specs.TableView.{table_of}
-use Rattle.vortex_table_check.proofs.Explained.{none_so}
+use Rattle.vortex_table_schema.proofs.Explained.{none_so}
 use Rattle.vortex_table_core.proofs.Appended.{batch_refused, push_refused, all_accepted, why}
 use Rattle.vortex_table_core.proofs.table.Table.append_rows.Goals as goal
 

@@ -3,7 +3,7 @@ use Rattle.std.specs.List.{list_all}
 use Rattle.vortex_dtype_core.specs.View.{type_of}
 use Rattle.vortex_table_chunk.specs.Chunk.{row_count}
 use Rattle.vortex_table_schema.specs.Leaves.{leaf_positions}
-use Rattle.vortex_table_check.specs.Lengths.{length_in}
+use Rattle.vortex_table_schema.specs.Lengths.{length_in}
 use Rattle.vortex_table_zonemaps.specs.Zones.{zone_of, AreZoneMaps}
 use Rattle.vortex_table_core.specs.Group.{AreGroups}
 use Rattle.vortex_table_chunk.specs.Formed.{is_formed}

@@ -8,10 +8,10 @@ use Rattle.vortex_table_chunk.specs.zones.Join.{zone_in}
 use Rattle.vortex_table_core.specs.Group.{chunks_of}
 use Rattle.vortex_table_core.specs.TableView.{table_of}
 use Rattle.vortex_table_core.proofs.Described.{chunks_typed, column_described}
-use Rattle.vortex_table_description.proofs.DescribedBounds.{leaf_bounds}
+use Rattle.vortex_table_plan.proofs.DescribedBounds.{leaf_bounds}
 use Rattle.vortex_table_core.proofs.JoinedGroups.{same_at}
-use Rattle.vortex_table_check.proofs.LeafPlaces.{leaf_part, one_of}
-use Rattle.vortex_table_check.specs.Lengths.{length_in}
+use Rattle.vortex_table_schema.proofs.LeafPlaces.{leaf_part, one_of}
+use Rattle.vortex_table_schema.specs.Lengths.{length_in}
 use Rattle.vortex_table_core.proofs.table.Table.describe.Goals as goal
 
 pub returns-clause-described : goal.returns-clause-described

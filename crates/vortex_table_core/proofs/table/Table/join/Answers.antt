@@ -7,7 +7,7 @@ use Rattle.vortex_table_core.specs.TableView.{table_of}
 use Rattle.vortex_table_core.specs.declared.group.Group.{Group}
 use Rattle.vortex_table_core.specs.declared.table.Table.{Table}
 use Rattle.vortex_table_core.proofs.JoinedGroups.{with_one, edited, sizes_joined, groups_replaced}
-use Rattle.vortex_table_check.specs.Lengths.{length_in}
+use Rattle.vortex_table_schema.specs.Lengths.{length_in}
 use Rattle.vortex_table_core.proofs.table.Table.join.Goals as goal
 
 -- the groups with one in place of two

@@ -8,7 +8,7 @@ use Rattle.vortex_table_core.specs.declared.group.Group.{Group}
 use Rattle.vortex_table_core.specs.declared.table.Table.{Table}
 use Rattle.vortex_table_core.proofs.JoinedGroups.{group_at, group_within, next_first, few_rows, one_group, same_at}
 use Rattle.vortex_table_core.proofs.Walked.{few_groups}
-use Rattle.vortex_table_check.specs.Lengths.{length_in}
+use Rattle.vortex_table_schema.specs.Lengths.{length_in}
 use Rattle.vortex_table_core.proofs.table.Table.joined_group.Goals as goal
 
 -- two neighbouring groups of a table

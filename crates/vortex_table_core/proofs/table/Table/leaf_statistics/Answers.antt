@@ -9,8 +9,8 @@ use Rattle.vortex_table_core.specs.Group.{chunks_of}
 use Rattle.vortex_table_core.proofs.Described.{leaf_has_bounds, leaf_joined}
 use Rattle.vortex_table_chunk.proofs.EqualLeaves.{leaves_so}
 use Rattle.vortex_table_core.proofs.JoinedGroups.{group_at, group_within, same_at}
-use Rattle.vortex_table_check.proofs.LeafPlaces.{leaf_part}
-use Rattle.vortex_table_check.specs.Lengths.{length_in}
+use Rattle.vortex_table_schema.proofs.LeafPlaces.{leaf_part}
+use Rattle.vortex_table_schema.specs.Lengths.{length_in}
 use Rattle.vortex_table_core.proofs.table.Table.leaf_statistics.Goals as goal
 
 pub statistics-requires-clause-inside : goal.statistics-requires-clause-inside

@@ -1,8 +1,8 @@
 use Rattle.std.proofs.Common.{◌≡◌, ◌∙◌, ◌+◌, ◌∷◌, sym, drop, arith}
 use Rattle.vortex_dtype_core.specs.View.{type_of}
-use Rattle.vortex_table_blocks.specs.Blocks.{left_in}
-use Rattle.vortex_table_check.specs.Lengths.{length_in}
-use Rattle.vortex_table_retype.specs.Retyping.{target_of, lengths_of}
+use Rattle.vortex_table_io.specs.Blocks.{left_in}
+use Rattle.vortex_table_schema.specs.Lengths.{length_in}
+use Rattle.vortex_table_layout.specs.Retyping.{target_of, lengths_of}
 use Rattle.vortex_table_core.proofs.Counts.{all_rows}
 use Rattle.vortex_table_core.proofs.JoinedGroups.{group_at}
 use Rattle.vortex_table_core.proofs.Regrouped.{size_of, counted_again, next_regrouped}

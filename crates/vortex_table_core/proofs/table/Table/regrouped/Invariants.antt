@@ -1,6 +1,6 @@
 use Rattle.std.proofs.Common.{◌≡◌, ℕ, take, drop, length}
-use Rattle.vortex_table_blocks.specs.Blocks.{left_in}
-use Rattle.vortex_table_retype.specs.Retyping.{target_of, lengths_of}
+use Rattle.vortex_table_io.specs.Blocks.{left_in}
+use Rattle.vortex_table_layout.specs.Retyping.{target_of, lengths_of}
 use Rattle.vortex_table_core.specs.Retyped.{AreRegrouped}
 use Rattle.vortex_table_core.proofs.table.Table.regrouped.Given as goal
 

@@ -6,8 +6,8 @@ use Rattle.vortex_dtype_core.specs.View.{type_of}
 use Rattle.vortex_table_schema.specs.Leaves.{leaf_positions}
 use Rattle.vortex_table_chunk.proofs.EqualLeaves.{leaves_same}
 use Rattle.vortex_table_chunk.proofs.Formed.{lengths_same}
-use Rattle.vortex_table_check.specs.Lengths.{length_in}
-use Rattle.vortex_table_check.proofs.Explained.{none_so, none_both}
+use Rattle.vortex_table_schema.specs.Lengths.{length_in}
+use Rattle.vortex_table_schema.proofs.Explained.{none_so, none_both}
 use Rattle.vortex_table_zonemaps.specs.Zones.{zone_of, AreZoneMaps}
 use Rattle.vortex_table_core.specs.TableView.{table_of}
 use Rattle.vortex_table_core.proofs.OwnType.{chunks_convert}

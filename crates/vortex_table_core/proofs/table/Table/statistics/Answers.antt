@@ -6,7 +6,7 @@ use Rattle.vortex_table_chunk.specs.Joined.{AreJoined}
 use Rattle.vortex_table_schema.specs.Leaves.{leaf_positions}
 use Rattle.vortex_table_core.specs.Group.{chunks_of}
 use Rattle.vortex_table_core.proofs.JoinedGroups.{one_has}
-use Rattle.vortex_table_check.specs.Lengths.{length_in}
+use Rattle.vortex_table_schema.specs.Lengths.{length_in}
 use Rattle.vortex_table_core.proofs.table.Table.statistics.Goals as goal
 
 pub returns-in-None : goal.returns-in-None

@@ -7,8 +7,8 @@ use Rattle.vortex_dtype_core.specs.View.{type_of}
 use Rattle.vortex_scalar_value.specs.View.{raw_in}
 use Rattle.vortex_arrays_model.specs.Layout.{array_type_of, rows_of}
 use Rattle.vortex_table_schema.specs.Rows.{row_content}
-use Rattle.vortex_table_check.specs.Error.{Explains}
-use Rattle.vortex_table_check.proofs.Explained.{none_so}
+use Rattle.vortex_table_schema.specs.Error.{Explains}
+use Rattle.vortex_table_schema.proofs.Explained.{none_so}
 use Rattle.vortex_table_chunk.proofs.TypedRows.{rows_pass}
 use Rattle.vortex_table_layout.specs.TooLarge.{AreTooLarge}
 use Rattle.vortex_table_core.proofs.Appended.{none_invalid, contents_in, explains_widely, explains_more}

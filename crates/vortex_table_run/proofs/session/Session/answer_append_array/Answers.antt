@@ -4,7 +4,7 @@ use Rattle.vortex_model_table.specs.Command.{append, append_array}
 use Rattle.vortex_model.specs.Refusal.{no_table}
 use Rattle.vortex_model_table.specs.Reply.{refused, accepted, RespondsTo}
 use Rattle.vortex_arrays_model.specs.Layout.{array_type_of, rows_of}
-use Rattle.vortex_table_check.specs.Error.{Explains}
+use Rattle.vortex_table_schema.specs.Error.{Explains}
 use Rattle.vortex_table_core.specs.TableView.{table_of}
 use Rattle.vortex_table_core.specs.Totals.{PassesTotal}
 use Rattle.vortex_table_request.specs.View.{raw_rows}

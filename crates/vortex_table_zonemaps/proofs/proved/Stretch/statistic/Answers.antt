@@ -1,5 +1,5 @@
 use Rattle.std.proofs.Common.{map}
-use Rattle.vortex_stats_stat.specs.Aggregate.{aggregate_of}
+use Rattle.vortex_stats_expr.specs.Aggregate.{aggregate_of}
 use Rattle.vortex_table_zonemaps.specs.Zones.{leaf_stat, zone_of}
 use Rattle.vortex_table_zonemaps.proofs.Held.{long_enough, of_part, some_weaker}
 use Rattle.vortex_table_zonemaps.proofs.proved.Stretch.statistic.Goals as goal

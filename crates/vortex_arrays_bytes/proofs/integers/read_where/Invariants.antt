@@ -1,6 +1,0 @@
-use Rattle.vortex_arrays_model.specs.Layout.{bools, required, by_array}
-use Rattle.vortex_arrays_bytes.proofs.IntegerLemmas.{PlacesAreRead}
-use Rattle.vortex_arrays_bytes.proofs.integers.read_where.Given as goal
-
-abbrev pub invariant-loop-i : goal.invariant-loop-i
-invariant-loop-i g l = PlacesAreRead g.T.Sealed.kind g.T.Sealed.integer l.width (by_array (bools l.bits required)) l.bytes l.items.items l.rows l.i l.start

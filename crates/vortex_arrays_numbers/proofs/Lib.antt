@@ -1,4 +1,0 @@
-pub mod ExtremeLemmas
-pub mod MaskLemmas
-pub mod NarrowLemmas
-pub mod ReinterpretLemmas

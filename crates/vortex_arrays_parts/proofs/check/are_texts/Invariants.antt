@@ -1,0 +1,8 @@
+use Rattle.std.proofs.Common.{map, take}
+use Rattle.std.specs.List.{All}
+use Rattle.vortex_arrays_model.specs.Layout.{texts}
+use Rattle.vortex_arrays_parts.specs.Values.{lent, IsHeld}
+use Rattle.vortex_arrays_parts.proofs.check.are_texts.Given as goal
+
+abbrev pub invariant-loop-value : goal.invariant-loop-value
+invariant-loop-value l = All (IsHeld texts) (map lent (take l.value-index l.values))

@@ -1,5 +1,0 @@
-pub mod FaultLemmas
-pub mod LentLemmas
-pub mod RowLemmas
-pub mod TypeLemmas
-pub mod ViewLemmas

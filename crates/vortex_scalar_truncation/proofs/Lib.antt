@@ -1,5 +1,0 @@
-pub mod Beginnings
-pub mod CountedUp
-pub mod Covered
-pub mod Raised
-pub mod Unique

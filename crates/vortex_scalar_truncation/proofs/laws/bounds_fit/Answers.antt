@@ -1,5 +1,0 @@
-use Rattle.vortex_scalar_truncation.proofs.Covered.{low_fits, high_fits}
-use Rattle.vortex_scalar_truncation.proofs.laws.bounds_fit.Goals as goal
-
-pub returns : goal.returns
-returns c = λ v L. (λ l h. low_fits v l L h, λ h p. high_fits v h L p)

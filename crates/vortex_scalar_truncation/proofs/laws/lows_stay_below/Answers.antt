@@ -1,5 +1,0 @@
-use Rattle.vortex_model_laws.proofs.Bounded.{covered_low}
-use Rattle.vortex_scalar_truncation.proofs.laws.lows_stay_below.Goals as goal
-
-pub returns : goal.returns
-returns c = covered_low

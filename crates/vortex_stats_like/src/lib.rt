@@ -1,4 +1,0 @@
-//! Which texts a LIKE pattern matches.
-#![tactic(auto)]
-
-pub mod matching;

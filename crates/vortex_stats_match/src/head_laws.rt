@@ -1,0 +1,17 @@
+//! Laws of what the first bytes of views tell. Each function's clause is a law.
+ghost use Rattle.vortex_stats_match.specs.HeadLaws.{HeadsMissNoMatch, HeadsTellOrder, ViewsHaveHeads};
+
+/// A view that has its value has the first bytes of it.
+pub fn views_have_heads()
+    ensures { ViewsHaveHeads }
+{}
+
+/// By those the order of a value and a text is told as by all of its bytes.
+pub fn heads_tell_the_order()
+    ensures { HeadsTellOrder }
+{}
+
+/// By those no value is taken for a match of a pattern or missed.
+pub fn heads_miss_no_match()
+    ensures { HeadsMissNoMatch }
+{}

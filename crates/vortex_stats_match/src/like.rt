@@ -1,0 +1,23 @@
+//! LIKE patterns and texts.
+//!
+//! `%` stands for any run of characters, the empty one too, `_` for any one character, and each
+//! other character for itself, so letters keep their case. Nothing is allocated or decoded.
+ghost use Rattle.std.specs.Prelude.{◌≡◌};
+ghost use Rattle.vortex_model_table.specs.Like.{is_like, has_backslash};
+
+use crate::matching::are_like;
+
+/// Whether the whole text matches the LIKE pattern. A backslash stands for itself here; SQL engines
+/// take it as an escape, so ask [`has_backslash`] first.
+pub fn is_like(pattern: &str, text: &str) -> bool
+    ensures { result ≡ is_like pattern.now text.now }
+{
+    are_like(pattern.as_bytes(), text.as_bytes())
+}
+
+/// Whether a backslash, the escape of many SQL dialects, stands in the pattern.
+pub fn has_backslash(pattern: &str) -> bool
+    ensures { result ≡ has_backslash pattern.now }
+{
+    pattern.as_bytes().contains(&b'\\')
+}

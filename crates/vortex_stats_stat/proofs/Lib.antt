@@ -1,3 +1,0 @@
-pub mod BitLemmas
-mod Examples
-pub mod Written

@@ -1,4 +1,0 @@
-pub mod Aggregate
-pub mod Bitsets
-pub mod Refusals
-pub mod Stats

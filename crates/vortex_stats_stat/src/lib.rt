@@ -1,9 +1,0 @@
-//! Statistics of columns: which there are, and how a set of them is written in bits.
-#![tactic(auto)]
-
-pub mod aggregate;
-pub mod aggregate_dtype;
-pub mod bitset;
-pub mod error;
-pub mod stat;
-pub mod stat_iter;

@@ -1,5 +1,0 @@
-use Rattle.vortex_stats_strings.proofs.HeadLemmas.{cmp_is}
-use Rattle.vortex_stats_strings.proofs.laws.heads_tell_the_order.Goals as goal
-
-pub returns : goal.returns
-returns c = cmp_is

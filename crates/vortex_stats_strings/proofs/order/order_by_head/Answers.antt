@@ -1,6 +1,0 @@
-use Rattle.std.proofs.Common.{arith}
-use Rattle.std.proofs.lemmas.Grind.{common_steps}
-use Rattle.vortex_stats_strings.proofs.order.order_by_head.Goals as goal
-
-pub returns-in-Equal : goal.returns-in-Equal
-returns-in-Equal c = grind (arith, common_steps)

@@ -1,4 +1,0 @@
-pub mod Columns
-pub mod Patterns
-pub mod Placeholders
-pub mod Typed

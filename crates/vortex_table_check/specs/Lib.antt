@@ -1,4 +1,0 @@
-pub mod Error
-pub mod Lengths
-pub mod LeafPlace
-pub mod PartIndex

@@ -1,3 +1,0 @@
-mod BoundValues
-pub mod Checks
-mod FormedLiterals

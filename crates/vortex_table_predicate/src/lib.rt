@@ -1,4 +1,0 @@
-//! Predicates of scans, judged against the type of a table.
-#![tactic(auto)]
-
-pub mod bind;

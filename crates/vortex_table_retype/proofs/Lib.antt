@@ -1,4 +1,0 @@
-pub mod ConvertedRows
-pub mod InOrder
-pub mod LaidOut
-pub mod RangeLemmas

@@ -1,2 +1,0 @@
-pub mod CutRows
-pub mod Lists
