@@ -6,16 +6,27 @@ out_of_memory.py [PROGRAM]    PROGRAM is crates/colscan/out/colscan, which `rt c
 leave there
 
 For each session of tests/lines and some random ones the Nth request for memory is refused, for N =
-1, 2, .. until a run meets none. In each run every line is to be answered as `reference.py` answers
-it, but at most one, which is answered by error 1 and leaves the table as it was: behind each line
-stands a scan of all rows, so the answers that follow show the table. The last line is 'N passed, M
-failed', counted in sessions.
+1, 2, .. as long as a run that is refused none makes such a request. In each run every line is to be
+answered as `reference.py` answers it, but at most one, which is answered by error 1 and leaves the
+table as it was: behind each line stands a scan of all rows, so the answers that follow show the
+table. The run that is refused none has no such line.
+
+A library stands before the C library's functions that ask for memory. At each request it forks: the
+child is refused this one and no other, and goes on to the session's end. The parent waits for it
+and goes on with the memory, so it is the run that is refused none, and what a child shares with it
+is done once. Runs that are started one by one would do it again for each request, and take longer
+to start than for what they do. A thousand requests are refused in one run of the program, and the
+next thousand in another, so that what the children write is never much. The last line is 'N passed,
+M failed', counted in sessions.
 """
+import collections
+import copy
 import functools
 import glob
 import os
 import random
 import shutil
+import struct
 import subprocess
 import sys
 import tempfile
@@ -25,40 +36,82 @@ import reference
 
 HERE = os.path.dirname(os.path.abspath(__file__))
 PROGRAM = os.path.join(HERE, "..", "crates", "colscan", "out", "colscan")
-MEMORY = '{"error":1,"name":"Memory"}'
+MEMORY = b'{"error":1,"name":"Memory"}'
 ALL_ROWS = (
     b'{"cmd":"scan","paths":[[]],"where":["=",["lit",{"kind":"u8"},1],["lit",{"kind":"u8"},1]]}'
 )
+# How many requests are refused in one run of the program.
+AT_ONCE = 1000
+# Longer than such a run may take.
+SECONDS = 600
 
-# Stands before the C library's functions, refuses the request that the variable REFUSED counts, and
-# says so on standard error. It needs no header and no
-# library to compile.
-SHIM = r"""
+# Of the run that is refused no request: how many were refused to it for all that, and how many it
+# made; and the first request for which it forks, and for how many it does.
+Plain = collections.namedtuple("Plain", "refused requests first many")
+# Of a child: how many requests were refused to it, how it ended as the system says it, and where in
+# the output what it wrote begins and ends.
+Child = collections.namedtuple("Child", "refused status begin end")
+RECORD = struct.Struct("4q")
+# What a run of the program leaves: of the run that is refused none its status and what is known of
+# it; what is known of the children; what all said on standard error; and what each of them wrote.
+Ended = collections.namedtuple("Ended", "status said plain children outputs")
+NOT_RUN = -1
+
+# It needs no header and no library to compile. All runs write into one file, one behind the other,
+# since a parent waits for its child; it also puts the input back to where it stood. A refusal is
+# counted where the program gets no memory, and not where it is decided. A child that hangs ends by
+# a signal. Behind a child that ends badly no other is tried.
+LIBRARY = r"""
 typedef unsigned long size;
-extern void *__libc_malloc(size), *__libc_calloc(size, size), *__libc_realloc(void *, size),
-*__libc_memalign(size, size);
+extern void *__libc_malloc(size), *__libc_calloc(size, size), *__libc_realloc(void *, size);
+extern void *__libc_memalign(size, size), *mmap(void *, size, int, int, int, long), _exit(int);
+extern int open(const char *, int, ...), _Fork(void), waitpid(int, int *, int);
+extern long lseek(int, long, int);
+extern unsigned alarm(unsigned);
 extern char *getenv(const char *);
-extern long atol(const char *), write(int, const void *, size);
-static long left = -1;
-static int refuses(void) {
-    if (left < 0) left = getenv("REFUSED") ? atol(getenv("REFUSED")) : 0;
-    return left && --left == 0 && write(2, "!", 1);
+static struct { long refused, requests, first, many; } *plain = 0;
+static struct child { long refused, status, begin, end; } *now = 0;
+static void begin(void) {
+    int file = open(getenv("RUNS"), 2);
+    plain = mmap(0, lseek(file, 0, 2), 3, 1, file, 0);
 }
-void *malloc(size n) { return refuses() ? 0 : __libc_malloc(n); }
-void *calloc(size m, size n) { return refuses() ? 0 : __libc_calloc(m, n); }
-void *realloc(void *p, size n) { return refuses() ? 0 : __libc_realloc(p, n); }
-void *aligned_alloc(size a, size n) { return refuses() ? 0 : __libc_memalign(a, n); }
-int posix_memalign(void **p, size a, size n) { return refuses() || !(*p = __libc_memalign(a, n)) ?
-12 : 0; }
+static int refuses(void) {
+    if (now) return 0;
+    if (!plain) begin();
+    long number = ++plain->requests - plain->first;
+    if (number < 0 || number >= plain->many) return 0;
+    struct child *child = (struct child *)(plain + 1) + number;
+    long input = lseek(0, 0, 1);
+    int status, id;
+    child->begin = lseek(1, 0, 1);
+    id = _Fork();
+    if (id == 0) { alarm(20); now = child; return 1; }
+    if (id < 0 || waitpid(id, &status, 0) != id || lseek(0, input, 0) != input) _exit(99);
+    child->end = lseek(1, 0, 1);
+    child->status = status;
+    if (status) _exit(99);
+    return 0;
+}
+static void *nothing(void) {
+    if (now) now->refused++; else plain->refused++;
+    return 0;
+}
+void *malloc(size n) { return refuses() ? nothing() : __libc_malloc(n); }
+void *calloc(size m, size n) { return refuses() ? nothing() : __libc_calloc(m, n); }
+void *realloc(void *p, size n) { return refuses() ? nothing() : __libc_realloc(p, n); }
+void *aligned_alloc(size a, size n) { return refuses() ? nothing() : __libc_memalign(a, n); }
+int posix_memalign(void **p, size a, size n) {
+    void *at = refuses() ? nothing() : __libc_memalign(a, n);
+    return at ? *p = at, 0 : 12;
+}
 """
 
 
-def make_shim(folder):
-    """The shim as a library, or None where there is no compiler: the kit's own, which lies beside
-    the page that `rt doc` names, or the system's."""
-    source, shim = os.path.join(folder, "refuse.c"), os.path.join(folder, "refuse.so")
-    with open(source, "w") as file:
-        file.write(SHIM)
+def make_library(folder):
+    """The library, or None where there is no compiler: the kit's own, which lies beside the page
+    that `rt doc` names, or the system's."""
+    source, made = os.path.join(folder, "refuse.c"), os.path.join(folder, "refuse.so")
+    write_file(source, LIBRARY.encode())
     kit = (
         os.path.dirname(subprocess.run(["rt", "doc"], capture_output=True, text=True).stdout)
         if shutil.which("rt")
@@ -66,30 +119,31 @@ def make_shim(folder):
     )
     for compiler in ([os.path.join(kit, "toolchain", "bin", "clang"), "-fuse-ld=lld"], ["cc"]):
         if shutil.which(compiler[0]):
-            subprocess.run(
-                [
-                    *compiler,
-                    "-shared",
-                    "-fPIC",
-                    "-O1",
-                    "-fno-builtin",
-                    "-nostdlib",
-                    "-o",
-                    shim,
-                    source,
-                ],
-                check=True,
-            )
-            return shim
+            words = [*compiler, "-shared", "-fPIC", "-O1", "-fno-builtin", "-nostdlib"]
+            subprocess.run([*words, "-o", made, source], check=True)
+            return made
     return None
+
+
+def write_file(path, data):
+    with open(path, "wb") as file:
+        file.write(data)
+
+
+def read_file(path):
+    with open(path, "rb") as file:
+        return file.read()
+
+
+def with_lf(lines):
+    return b"".join(line + b"\n" for line in lines)
 
 
 def sessions():
     """Lists of lines, by name."""
     found = {}
     for path in sorted(glob.glob(os.path.join(HERE, "lines", "*.in"))):
-        with open(path, "rb") as file:
-            found[os.path.basename(path)[:-3]] = file.read()
+        found[os.path.basename(path)[:-3]] = read_file(path)
     for number in range(3):
         found["random%03d" % number] = reference.random_session(random.Random(number))
     lines = {
@@ -100,47 +154,119 @@ def sessions():
     return {name: [line for own in lines[name] for line in (own, ALL_ROWS)] for name in lines}
 
 
-def answers(lines, refused):
-    """What the lines are answered where memory is refused to this one."""
-    table = reference.Session()
-    return [MEMORY if at == refused else table.answer(line) for at, line in enumerate(lines)]
+def answers(lines):
+    """What the lines are answered where memory is refused to one of them: a function of its place,
+    which is None where it is refused to none."""
+    session, before, plain = reference.Session(), [], []
+    for line in lines:
+        before.append(copy.deepcopy(session))
+        plain.append(session.answer(line).encode())
+    states = [repr(vars(session)) for session in before]
+
+    @functools.lru_cache(None)
+    def wanted(refused):
+        if refused is None:
+            return with_lf(plain)
+        session, found = copy.deepcopy(before[refused]), [*plain[:refused], MEMORY]
+        # From where the table is as if nothing was refused, the answers are so too.
+        while len(found) < len(lines) and repr(vars(session)) != states[len(found)]:
+            found.append(session.answer(lines[len(found)]).encode())
+        return with_lf(found + plain[len(found) :])
+
+    return wanted
 
 
-def sweep(program, shim, lines):
+def refused_line(lines, wanted, name, output):
+    """Which line a run answered by error 1, or None. It has to answer all others as wanted."""
+    found = output.split(b"\n")
+    refused = found.index(MEMORY) if MEMORY in found else None
+    if output != wanted(refused):
+        for line, answer, want in zip(lines, found[:-1], wanted(refused).split(b"\n")):
+            assert answer == want, "%s: %s is answered %s" % (name, line, answer)
+        told = name, len(found) - 1, len(found[-1]), len(lines)
+        raise AssertionError("%s: %d answers and %d bytes to %d lines" % told)
+    return refused
+
+
+def outputs(path, children):
+    """What each child has written with its parent, and at last what the parent has."""
+    written, at = b"", 0
+    with open(path, "rb") as file:
+        for child in children:
+            # Between two children the parent may have written.
+            written += file.read(child.begin - at)
+            yield written + file.read(child.end - child.begin)
+            at = child.end
+        yield written + file.read()
+
+
+def run_program(program, library, folder, first):
+    """Runs the session that lies in the folder. It is refused requests from this one on."""
+    records, source, out, err = (os.path.join(folder, it) for it in ("runs", "in", "out", "err"))
+    plain, child = Plain(0, 0, first, AT_ONCE), Child(0, NOT_RUN, 0, 0)
+    write_file(records, RECORD.pack(*plain) + AT_ONCE * RECORD.pack(*child))
+    words = {"env": {"LD_PRELOAD": library, "RUNS": records}, "timeout": SECONDS}
+    with open(source, "rb") as stdin, open(out, "wb") as stdout, open(err, "wb") as stderr:
+        status = subprocess.run(
+            [program], stdin=stdin, stdout=stdout, stderr=stderr, **words
+        ).returncode
+    plain, *children = RECORD.iter_unpack(read_file(records))
+    plain = Plain(*plain)
+    children = [Child(*it) for it in children[: max(0, plain.requests - first + 1)]]
+    return Ended(status, read_file(err), plain, children, outputs(out, children))
+
+
+def judge_end(name, child):
+    """Refuses a child that didn't run, ended badly, or wasn't refused one request."""
+    assert child.status != NOT_RUN, "%s: not run" % name
+    status = os.waitstatus_to_exitcode(child.status)
+    assert status == 0, "%s: status %d" % (name, status)
+    assert child.refused == 1, "%s: refused %d times" % (name, child.refused)
+
+
+def judge_runs(judge, first, ended):
+    """Judges the runs that were refused requests from this one on, and the one refused none.
+
+    Answers in how many of them a line was answered by error 1."""
+    refusals, last, line = 0, None, None
+    for number, child in enumerate(ended.children, first):
+        name = "request %d" % number
+        judge_end(name, child)
+        output = next(ended.outputs)
+        # It mostly is the one of the child before.
+        if output != last:
+            last, line = output, judge(name, output)
+        refusals += line is not None
+    name = "no request"
+    assert ended.status == 0, "%s: status %d" % (name, ended.status)
+    line = judge(name, next(ended.outputs))
+    assert line is None and ended.plain.refused == 0, "error 1 where no request was refused"
+    assert ended.said == b"", "%r on standard error" % ended.said[-100:]
+    return refusals
+
+
+def sweep(program, library, folder, lines):
     """Refuses each request in turn. Returns how many there were, and in how many runs a line was
     answered by error 1."""
-    wanted = functools.lru_cache(None)(lambda refused: answers(lines, refused))
-    given, number, refusals = b"".join(line + b"\n" for line in lines), 0, 0
-    while True:
-        number += 1
-        run = subprocess.run(
-            [program],
-            input=given,
-            capture_output=True,
-            env={"LD_PRELOAD": shim, "REFUSED": str(number)},
-        )
-        assert run.returncode == 0, "request %d: status %d" % (number, run.returncode)
-        found = run.stdout.decode().split("\n")[:-1]
-        refused = found.index(MEMORY) if MEMORY in found else None
-        for line, answer, want in zip(lines, found, wanted(refused)):
-            assert answer == want, "request %d: %s is answered %s" % (number, line, answer)
-        assert len(found) == len(lines), "request %d: %d answers to %d lines" % (
-            number,
-            len(found),
-            len(lines),
-        )
-        if run.stderr == b"":
-            assert refused is None, "error 1 where no request was refused"
-            return number - 1, refusals
-        refusals += refused is not None
+    write_file(os.path.join(folder, "in"), with_lf(lines))
+    judge = functools.partial(refused_line, lines, answers(lines))
+    requests, tried, refusals = None, 0, 0
+    while tried != requests:
+        ended = run_program(program, library, folder, tried + 1)
+        refusals += judge_runs(judge, tried + 1, ended)
+        made = ended.plain.requests
+        assert requests in (None, made), "%s requests, and then %d" % (requests, made)
+        requests, tried = made, tried + len(ended.children)
+    assert tried > 0, "no request for memory was seen"
+    return tried, refusals
 
 
 def main():
-    program = sys.argv[1] if len(sys.argv) > 1 else PROGRAM
+    program = os.path.abspath(sys.argv[1] if len(sys.argv) > 1 else PROGRAM)
     passed, failed = 0, 0
     with tempfile.TemporaryDirectory() as folder:
-        shim = make_shim(folder)
-        if shim is None:
+        library = make_library(folder)
+        if library is None:
             print(
                 "out of memory: NOT TESTED, since there is no C compiler here: "
                 "neither the kit's clang nor cc"
@@ -152,10 +278,10 @@ def main():
                 print(
                     "out of memory %s: %d requests refused in turn, "
                     "%d answers by error 1, all others right"
-                    % (name, *sweep(program, shim, lines))
+                    % (name, *sweep(program, library, folder, lines))
                 )
                 passed += 1
-            except (AssertionError, OSError) as why:
+            except (AssertionError, OSError, subprocess.SubprocessError) as why:
                 print("out of memory %s: FAILED: %s" % (name, why))
                 failed += 1
     print("%d passed, %d failed" % (passed, failed))
