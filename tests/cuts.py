@@ -3,10 +3,10 @@
 
 cuts.py [PROGRAM]    PROGRAM is crates/colscan/out/colscan, which `rt ci` and `rt run` leave there
 
-The session is that of tests/calls/table_run, which tries some of these cases in memory, with a
-flush that fails too: on the program's own output no flush can fail. Here are all of them: reads of
-at most one byte, of at most two, and so on; an input that ends at each of its bytes; and each read,
-of seven bytes, and each write, of one, that fails or takes nothing.
+The session is that of tests/calls/table_run, which tries these cases in memory, with a flush that
+fails too: on the program's own output no flush can fail. Reads are of at most one byte, of at most
+two, and so on; the input ends at each of its bytes; and each read, of seven bytes, and each write,
+of one, fails or takes nothing.
 
 A library stands before the C library's `read` and `write`, and cuts them. Before `main` it forks a
 child for each case, since some thousands of new processes would take longer than what they do. The
@@ -24,6 +24,9 @@ import struct
 import subprocess
 import sys
 import tempfile
+
+sys.dont_write_bytecode = True
+from preload import make_library, read_file, write_file
 
 HERE = os.path.dirname(os.path.abspath(__file__))
 PROGRAM = os.path.join(HERE, "..", "crates", "colscan", "out", "colscan")
@@ -111,18 +114,6 @@ __attribute__((constructor)) static void serve(void) {
     _exit(0);
 }
 """
-
-
-def make_library(folder):
-    """The library, as the kit's compiler makes it."""
-    source, made = os.path.join(folder, "cut.c"), os.path.join(folder, "cut.so")
-    with open(source, "w") as file:
-        file.write(LIBRARY)
-    kit = os.path.dirname(subprocess.run(["rt", "doc"], capture_output=True, text=True).stdout)
-    words = [os.path.join(kit, "toolchain", "bin", "clang"), "-fuse-ld=lld", "-shared", "-fPIC"]
-    words += ["-O1", "-fno-builtin", "-nostdlib", "-o", made, source]
-    subprocess.run(words, check=True)
-    return made
 
 
 def read_session():
@@ -215,16 +206,6 @@ PARTS = {
 }
 
 
-def write_file(path, data):
-    with open(path, "wb") as file:
-        file.write(data)
-
-
-def read_file(path):
-    with open(path, "rb") as file:
-        return file.read()
-
-
 def run_cuts(program, library, folder, given, cuts):
     """Runs the program under each of these cuts. Answers what is known of each, the last fields of
     its record, and all that was written on both outputs."""
@@ -275,7 +256,7 @@ def wrong_cases(program, library, folder, session, cases):
 
 def try_parts(program, folder):
     """How many parts passed, and how many failed."""
-    library, session, outcomes = make_library(folder), read_session(), []
+    library, session, outcomes = make_library(LIBRARY, folder), read_session(), []
     for name, part in PARTS.items():
         cases = list(part(session))
         wrong = list(wrong_cases(program, library, folder, session, cases))

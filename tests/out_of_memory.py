@@ -25,7 +25,6 @@ import functools
 import glob
 import os
 import random
-import shutil
 import struct
 import subprocess
 import sys
@@ -33,6 +32,7 @@ import tempfile
 
 sys.dont_write_bytecode = True
 import reference
+from preload import make_library, read_file, write_file
 
 HERE = os.path.dirname(os.path.abspath(__file__))
 PROGRAM = os.path.join(HERE, "..", "crates", "colscan", "out", "colscan")
@@ -58,15 +58,16 @@ Ended = collections.namedtuple("Ended", "status said plain children outputs")
 NOT_RUN = -1
 
 # It needs no header and no library to compile. All runs write into one file, one behind the other,
-# since a parent waits for its child; it also puts the input back to where it stood. A refusal is
-# counted where the program gets no memory, and not where it is decided. A child that hangs ends by
-# a signal. Behind a child that ends badly no other is tried.
+# since a parent waits for its child; it also puts the input back to where it stood. A read brings
+# at most 1,000 bytes, so that some lines come in two pieces, and memory is refused to the second. A
+# refusal is counted where the program gets no memory, and not where it is decided. A child that
+# hangs ends by a signal. Behind a child that ends badly no other is tried.
 LIBRARY = r"""
 typedef unsigned long size;
 extern void *__libc_malloc(size), *__libc_calloc(size, size), *__libc_realloc(void *, size);
 extern void *__libc_memalign(size, size), *mmap(void *, size, int, int, int, long), _exit(int);
 extern int open(const char *, int, ...), _Fork(void), waitpid(int, int *, int);
-extern long lseek(int, long, int);
+extern long lseek(int, long, int), __read(int, void *, size);
 extern unsigned alarm(unsigned);
 extern char *getenv(const char *);
 static struct { long refused, requests, first, many; } *plain = 0;
@@ -96,6 +97,7 @@ static void *nothing(void) {
     if (now) now->refused++; else plain->refused++;
     return 0;
 }
+long read(int file, void *at, size n) { return __read(file, at, n < 1000 ? n : 1000); }
 void *malloc(size n) { return refuses() ? nothing() : __libc_malloc(n); }
 void *calloc(size m, size n) { return refuses() ? nothing() : __libc_calloc(m, n); }
 void *realloc(void *p, size n) { return refuses() ? nothing() : __libc_realloc(p, n); }
@@ -105,34 +107,6 @@ int posix_memalign(void **p, size a, size n) {
     return at ? *p = at, 0 : 12;
 }
 """
-
-
-def make_library(folder):
-    """The library, or None where there is no compiler: the kit's own, which lies beside the page
-    that `rt doc` names, or the system's."""
-    source, made = os.path.join(folder, "refuse.c"), os.path.join(folder, "refuse.so")
-    write_file(source, LIBRARY.encode())
-    kit = (
-        os.path.dirname(subprocess.run(["rt", "doc"], capture_output=True, text=True).stdout)
-        if shutil.which("rt")
-        else ""
-    )
-    for compiler in ([os.path.join(kit, "toolchain", "bin", "clang"), "-fuse-ld=lld"], ["cc"]):
-        if shutil.which(compiler[0]):
-            words = [*compiler, "-shared", "-fPIC", "-O1", "-fno-builtin", "-nostdlib"]
-            subprocess.run([*words, "-o", made, source], check=True)
-            return made
-    return None
-
-
-def write_file(path, data):
-    with open(path, "wb") as file:
-        file.write(data)
-
-
-def read_file(path):
-    with open(path, "rb") as file:
-        return file.read()
 
 
 def with_lf(lines):
@@ -265,14 +239,7 @@ def main():
     program = os.path.abspath(sys.argv[1] if len(sys.argv) > 1 else PROGRAM)
     passed, failed = 0, 0
     with tempfile.TemporaryDirectory() as folder:
-        library = make_library(folder)
-        if library is None:
-            print(
-                "out of memory: NOT TESTED, since there is no C compiler here: "
-                "neither the kit's clang nor cc"
-            )
-            print("0 passed, 0 failed")
-            return
+        library = make_library(LIBRARY, folder)
         for name, lines in sessions().items():
             try:
                 print(

@@ -1,15 +1,14 @@
 //! `FromScalar`, and `ExtDTypeScalarExt`.
 
 use crate::checks::Checks;
+use crate::days::{Days, Plain};
 use crate::make::{byte, map, octets, primitive};
 use crate::values::{
     Done, KINDS, Value, WITH, WITHOUT, bytes, fixed, is_made, is_within, list, number, numbers,
     record, refused, text, tuple,
 };
-use std::alloc::{AllocError, Global};
-use vortex_dtype::{
-    BufferString, ByteBuffer, DType, DTypeError, ExtDType, ExtVTable, NativePType, PType,
-};
+use std::alloc::Global;
+use vortex_dtype::{BufferString, ByteBuffer, DType, ExtDType, NativePType, PType};
 use vortex_scalar::{ExtDTypeScalarExt, FromScalar, Scalar, ScalarError, ScalarValue};
 
 pub fn run(alloc: Global, checks: &mut Checks<'_>) -> Done {
@@ -289,57 +288,6 @@ fn no_lists(alloc: Global, checks: &mut Checks<'_>) -> Done {
         list(alloc, octets(WITH), WITH)?,
         tuple(alloc, [byte(1)])?,
     )
-}
-
-/// Whole days, in numbers of 32 bits.
-#[derive(Default, Drop)]
-struct Days;
-
-/// Nothing tells days apart.
-#[derive(Drop)]
-struct Plain;
-
-impl ExtVTable for Days {
-    type Metadata = Plain;
-
-    ghost name = { ? };
-
-    ghost writes = { ? };
-
-    ghost reads = { ? };
-
-    ghost fits = { ? };
-
-    ghost reads_what_it_writes = { ? };
-
-    ghost outer_aside = { ? };
-
-    fn id(&self) -> &str {
-        "days"
-    }
-
-    fn serialize_metadata(
-        &self,
-        alloc: Global,
-        _metadata: &Plain,
-    ) -> Result<ByteBuffer, AllocError> {
-        ByteBuffer::copy_from_slice(alloc, b"p")
-    }
-
-    fn deserialize_metadata(
-        &self,
-        _alloc: Global,
-        _bytes: &ByteBuffer,
-    ) -> Result<Plain, DTypeError> {
-        Ok(Plain)
-    }
-
-    fn fits(&self, _metadata: &Plain, storage: &DType) -> bool {
-        match storage.as_ptype_opt() {
-            Some(ptype) => ptype == PType::I32,
-            None => false,
-        }
-    }
 }
 
 /// An extension's values are those of its storage.

@@ -4,6 +4,7 @@
 
 mod checks;
 mod compare;
+mod days;
 mod defaults;
 mod extensions;
 mod from_native;

@@ -2,7 +2,6 @@
 
 use crate::checks::Checks;
 use crate::exchanges::{SESSION, input_of, output_of};
-use crate::places::is_chosen;
 use std::alloc::{AllocError, Global};
 use vortex_table::run::{MemorySink, MemorySource, run};
 
@@ -25,8 +24,8 @@ pub fn each_line_is_answered(alloc: Global, checks: &mut Checks<'_>) -> Result<(
     Ok(())
 }
 
-/// Reads of at most one byte, of at most two, and so on to the whole input, at chosen places;
-/// writes of at most one, two or three bytes. `tests/cuts.py` has all of them on the program.
+/// Reads of at most one byte, of at most two, and so on to the whole input; writes of at most one,
+/// two or three bytes.
 pub fn reads_and_writes_may_be_cut_anywhere(
     alloc: Global,
     checks: &mut Checks<'_>,
@@ -34,9 +33,6 @@ pub fn reads_and_writes_may_be_cut_anywhere(
     let input = input_of(alloc, &SESSION)?;
     let output = output_of(alloc, &SESSION)?;
     for most in 1..=input.len() {
-        if !is_chosen(most, input.len()) {
-            continue;
-        }
         let mut reader = MemorySource::new(&input, most, ALWAYS);
         let mut writer = MemorySink::new(Vec::new(alloc), 1 + most % 3, ALWAYS);
         let result = run(alloc, &mut reader, &mut writer);
@@ -47,15 +43,12 @@ pub fn reads_and_writes_may_be_cut_anywhere(
     Ok(())
 }
 
-/// The input without its end, from none of its bytes to all of them, at chosen places. A command
-/// that is cut is a bad line. `tests/cuts.py` has all of them on the program.
+/// The input without its end, from none of its bytes to all of them. A command that is cut is a bad
+/// line.
 pub fn an_input_may_end_anywhere(alloc: Global, checks: &mut Checks<'_>) -> Result<(), AllocError> {
     let input = input_of(alloc, &SESSION)?;
     let output = output_of(alloc, &SESSION)?;
     for end in 0..=input.len() {
-        if !is_chosen(end, input.len()) {
-            continue;
-        }
         let mut reader = MemorySource::new(&input[..end], ALWAYS, ALWAYS);
         let mut writer = MemorySink::new(Vec::new(alloc), ALWAYS, ALWAYS);
         let result = run(alloc, &mut reader, &mut writer);

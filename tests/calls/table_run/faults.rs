@@ -2,23 +2,17 @@
 
 use crate::checks::Checks;
 use crate::exchanges::{SESSION, input_of, output_of};
-use crate::places::is_chosen;
 use std::alloc::{AllocError, Global};
 use vortex_table::run::{MemorySink, MemorySource, RunError, run};
 
 /// More than any run reads or writes at once, and more often.
 const ALWAYS: usize = usize::MAX;
 
-/// Reads of seven bytes, of which the first fails, or the second, and so on until none does, at
-/// chosen places. `tests/cuts.py` has all of them on the program.
+/// Reads of seven bytes, of which the first fails, or the second, and so on until none does.
 pub fn each_read_may_fail(alloc: Global, checks: &mut Checks<'_>) -> Result<(), AllocError> {
     let input = input_of(alloc, &SESSION)?;
     let output = output_of(alloc, &SESSION)?;
-    let last = input.len() / 7 + 2;
-    for good in 0..=last {
-        if !is_chosen(good, last) {
-            continue;
-        }
+    for good in 0..=input.len() / 7 + 2 {
         let mut reader = MemorySource::new(&input, 7, good);
         let mut writer = MemorySink::new(Vec::new(alloc), ALWAYS, ALWAYS);
         let result = run(alloc, &mut reader, &mut writer);
@@ -37,16 +31,11 @@ pub fn each_read_may_fail(alloc: Global, checks: &mut Checks<'_>) -> Result<(), 
 }
 
 /// Writes of one byte, of which the first fails, or the second, and so on until neither a write nor
-/// the flush does, at chosen places; and a write that takes nothing. `tests/cuts.py` has all of
-/// them on the program, but for the flush, which can't fail there.
+/// the flush does; and a write that takes nothing.
 pub fn each_write_may_fail(alloc: Global, checks: &mut Checks<'_>) -> Result<(), AllocError> {
     let input = input_of(alloc, &SESSION)?;
     let output = output_of(alloc, &SESSION)?;
-    let last = output.len() + 2;
-    for good in 0..=last {
-        if !is_chosen(good, last) {
-            continue;
-        }
+    for good in 0..=output.len() + 2 {
         let mut reader = MemorySource::new(&input, ALWAYS, ALWAYS);
         let mut writer = MemorySink::new(Vec::new(alloc), 1, good);
         let result = run(alloc, &mut reader, &mut writer);

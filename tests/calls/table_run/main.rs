@@ -1,12 +1,11 @@
-//! Runs a session of lines in memory: one line more each time, cut at many places, ended at many
-//! places, with many of the reads and writes, and the flush, failing in turn.
+//! Runs a session of lines in memory: one line more each time, cut anywhere, ended anywhere, with
+//! each read, each write and the flush failing in turn.
 #![tactic(auto)]
 
 mod checks;
 mod cut;
 mod exchanges;
 mod faults;
-mod places;
 
 use crate::checks::Checks;
 use std::alloc::{AllocError, Global};
