@@ -12,6 +12,7 @@ use Rattle.vortex_dtype_core.specs.View.{type_of}
 use Rattle.vortex_dtype_core.specs.declared.dtype.DType as type
 use Rattle.vortex_dtype_core.specs.declared.dtype.DType.{DType, out-DType, roll-DType, roll-out-DType}
 use Rattle.vortex_dtype_core.specs.declared.dtype.DType.TheOpen.{DType-F}
+use Rattle.vortex_dtype_core.specs.declared.extension.ExtDTypeData.{ExtDTypeData}
 use Rattle.vortex_dtype_core.specs.declared.extension.ExtDTypeRef.{ExtDTypeRef}
 use Rattle.vortex_dtype_core.specs.declared.map_dtype.MapDType.{MapDType}
 use Rattle.vortex_dtype_core.specs.declared.map_dtype.MapEntries.{MapEntries}
@@ -76,7 +77,7 @@ made_form of_variants d h = ap (λ e. form (type_of e)) h.1 ∙ search (rules, t
 made_form of_extensions d h = ap (λ e. form (type_of e)) h.1 ∙ ap form (type_of-Extension h.0) ∙ ap form (extension_type-parts h.0)
 
 abbrev Opened : Type 0
-Opened = DType-F DType ExtDTypeRef MapDType MapEntries StructField StructFields UnionVariant UnionVariants
+Opened = DType-F DType ExtDTypeData ExtDTypeRef MapDType MapEntries StructField StructFields UnionVariant UnionVariants
 
 abbrev form_of_opened : Opened → Form
 form_of_opened DType-F.Null = of_null

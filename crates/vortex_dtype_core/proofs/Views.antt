@@ -14,6 +14,7 @@ use Rattle.vortex_dtype_core.specs.Parts.{field_count, variant_count, name_at, c
 use Rattle.vortex_dtype_core.specs.View.{type_of, extension_type, entries_in, entries_of, field_of, fields_in, fields_of, items_of, variant_of, variants_in, variants_of, variant_items_of}
 use Rattle.vortex_dtype_core.specs.declared.dtype.DType as type
 use Rattle.vortex_dtype_core.specs.declared.dtype.DType.{DType}
+use Rattle.vortex_dtype_core.specs.declared.extension.ExtDTypeData as ext_data
 use Rattle.vortex_dtype_core.specs.declared.extension.ExtDTypeRef as ext
 use Rattle.vortex_dtype_core.specs.declared.extension.ExtDTypeRef.{ExtDTypeRef}
 use Rattle.vortex_dtype_core.specs.declared.map_dtype.MapDType as map_type
@@ -52,8 +53,8 @@ type_of-Union u n = search (rules, type.the_lemmas)
 pub type_of-Extension : (x : ExtDTypeRef) → type_of (type.Extension x) ≡ extension_type x
 type_of-Extension x = search (rules, type.the_lemmas)
 
-pub extension_type-parts : (x : ExtDTypeRef) → extension_type x ≡ extension (ext.out-ExtDTypeRef x).id (ext.out-ExtDTypeRef x).metadata (type_of (ext.out-ExtDTypeRef x).storage.value)
-extension_type-parts x = search (rules, ext.the_lemmas)
+pub extension_type-parts : (x : ExtDTypeRef) → extension_type x ≡ extension (ext.out-ExtDTypeRef x).data.value.id (ext.out-ExtDTypeRef x).data.value.metadata (type_of (ext.out-ExtDTypeRef x).data.value.storage)
+extension_type-parts x = search (rules, ext.the_lemmas, ext_data.the_lemmas)
 
 pub entries_in-parts : (m : MapDType) → entries_in m ≡ entries_of (map_type.out-MapDType m).entries.value
 entries_in-parts m = search (rules, map_type.the_lemmas)

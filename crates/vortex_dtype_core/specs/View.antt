@@ -4,7 +4,7 @@ use Rattle.vortex_model.specs.LogicalType.{non_nullable, LogicalType, null_only,
 use Rattle.vortex_dtype_ptype.specs.Numbers.{type_of_numbers}
 use Rattle.vortex_dtype_ptype.specs.View.{nullability_of_flag, number_kind_of}
 use Rattle.vortex_dtype_core.specs.declared.dtype.DType.{DType, fold-DType}
-use Rattle.vortex_dtype_core.specs.declared.dtype.DType.TheOpen.{DType-F, ExtDTypeRef-F, MapDType-F, MapEntries-F, StructField-F, StructFields-F, UnionVariant-F, UnionVariants-F}
+use Rattle.vortex_dtype_core.specs.declared.dtype.DType.TheOpen.{DType-F, ExtDTypeData-F, ExtDTypeRef-F, MapDType-F, MapEntries-F, StructField-F, StructFields-F, UnionVariant-F, UnionVariants-F}
 use Rattle.vortex_dtype_core.specs.declared.extension.ExtDTypeRef.{ExtDTypeRef, fold-ExtDTypeRef}
 use Rattle.vortex_dtype_core.specs.declared.map_dtype.MapDType.{MapDType, fold-MapDType}
 use Rattle.vortex_dtype_core.specs.declared.map_dtype.MapEntries.{MapEntries, fold-MapEntries}
@@ -36,8 +36,8 @@ variants_from [] = no_variants
 variants_from (v ∷ vs) = choice v.0 v.1.0 v.1.1 (variants_from vs)
 
 -- one level, with each type inside already seen
-abbrev pub type_step : DType-F LogicalType LogicalType EntryTypes EntryTypes NamedType Fields
-    TaggedType Variants → LogicalType
+abbrev pub type_step : DType-F LogicalType LogicalType LogicalType EntryTypes EntryTypes NamedType
+    Fields TaggedType Variants → LogicalType
 type_step DType-F.Null = null_only
 type_step (DType-F.Bool n) = boolean_type (nullability_of_flag n)
 type_step (DType-F.Primitive p n) = type_of_numbers (number_kind_of p) (nullability_of_flag n)
@@ -52,81 +52,85 @@ type_step (DType-F.Union vs n) = union vs (nullability_of_flag n)
 type_step (DType-F.Variant n) = variant (nullability_of_flag n)
 type_step (DType-F.Extension k) = k
 
-abbrev pub extension_step : ExtDTypeRef-F LogicalType LogicalType EntryTypes EntryTypes NamedType
-    Fields TaggedType Variants → LogicalType
-extension_step x = extension x.id x.metadata x.storage.value
+abbrev pub data_step : ExtDTypeData-F LogicalType LogicalType LogicalType EntryTypes EntryTypes
+    NamedType Fields TaggedType Variants → LogicalType
+data_step e = extension e.id e.metadata e.storage
 
-abbrev pub map_step : MapDType-F LogicalType LogicalType EntryTypes EntryTypes NamedType Fields
-    TaggedType Variants → EntryTypes
+abbrev pub extension_step : ExtDTypeRef-F LogicalType LogicalType LogicalType EntryTypes EntryTypes
+    NamedType Fields TaggedType Variants → LogicalType
+extension_step x = x.data.value
+
+abbrev pub map_step : MapDType-F LogicalType LogicalType LogicalType EntryTypes EntryTypes NamedType
+    Fields TaggedType Variants → EntryTypes
 map_step m = m.entries.value
 
-abbrev pub entries_step : MapEntries-F LogicalType LogicalType EntryTypes EntryTypes NamedType
-    Fields TaggedType Variants → EntryTypes
+abbrev pub entries_step : MapEntries-F LogicalType LogicalType LogicalType EntryTypes EntryTypes
+    NamedType Fields TaggedType Variants → EntryTypes
 entries_step e = record { key = e.key; value = e.value; sorted = e.keys_sorted }
 
-abbrev pub field_step : StructField-F LogicalType LogicalType EntryTypes EntryTypes NamedType Fields
-    TaggedType Variants → NamedType
+abbrev pub field_step : StructField-F LogicalType LogicalType LogicalType EntryTypes EntryTypes
+    NamedType Fields TaggedType Variants → NamedType
 field_step f = (f.name, f.dtype)
 
-abbrev pub fields_step : StructFields-F LogicalType LogicalType EntryTypes EntryTypes NamedType
-    Fields TaggedType Variants → Fields
+abbrev pub fields_step : StructFields-F LogicalType LogicalType LogicalType EntryTypes EntryTypes
+    NamedType Fields TaggedType Variants → Fields
 fields_step s = fields_from s.fields.value.items
 
-abbrev pub variant_step : UnionVariant-F LogicalType LogicalType EntryTypes EntryTypes NamedType
-    Fields TaggedType Variants → TaggedType
+abbrev pub variant_step : UnionVariant-F LogicalType LogicalType LogicalType EntryTypes EntryTypes
+    NamedType Fields TaggedType Variants → TaggedType
 variant_step v = (v.name, (v.tag, v.dtype))
 
-abbrev pub variants_step : UnionVariants-F LogicalType LogicalType EntryTypes EntryTypes NamedType
-    Fields TaggedType Variants → Variants
+abbrev pub variants_step : UnionVariants-F LogicalType LogicalType LogicalType EntryTypes EntryTypes
+    NamedType Fields TaggedType Variants → Variants
 variants_step u = variants_from u.variants.value.items
 
 -- the type that a `DType` is
 abbrev pub type_of : DType → LogicalType
-type_of =
-    fold-DType LogicalType LogicalType EntryTypes EntryTypes NamedType Fields TaggedType Variants
-    type_step extension_step map_step entries_step field_step fields_step variant_step variants_step
+type_of = fold-DType LogicalType LogicalType LogicalType EntryTypes EntryTypes NamedType Fields
+    TaggedType Variants type_step data_step extension_step map_step entries_step field_step
+    fields_step variant_step variants_step
 
 -- the type that an `ExtDTypeRef` is
 abbrev pub extension_type : ExtDTypeRef → LogicalType
-extension_type = fold-ExtDTypeRef LogicalType LogicalType EntryTypes EntryTypes NamedType Fields
-    TaggedType Variants type_step extension_step map_step entries_step field_step fields_step
-    variant_step variants_step
+extension_type = fold-ExtDTypeRef LogicalType LogicalType LogicalType EntryTypes EntryTypes
+    NamedType Fields TaggedType Variants type_step data_step extension_step map_step entries_step
+    field_step fields_step variant_step variants_step
 
 -- what an entry of a `MapDType` has
 abbrev pub entries_in : MapDType → EntryTypes
-entries_in =
-    fold-MapDType LogicalType LogicalType EntryTypes EntryTypes NamedType Fields TaggedType Variants
-    type_step extension_step map_step entries_step field_step fields_step variant_step variants_step
+entries_in = fold-MapDType LogicalType LogicalType LogicalType EntryTypes EntryTypes NamedType
+    Fields TaggedType Variants type_step data_step extension_step map_step entries_step field_step
+    fields_step variant_step variants_step
 
 abbrev pub entries_of : MapEntries → EntryTypes
-entries_of = fold-MapEntries LogicalType LogicalType EntryTypes EntryTypes NamedType Fields
-    TaggedType Variants type_step extension_step map_step entries_step field_step fields_step
-    variant_step variants_step
+entries_of = fold-MapEntries LogicalType LogicalType LogicalType EntryTypes EntryTypes NamedType
+    Fields TaggedType Variants type_step data_step extension_step map_step entries_step field_step
+    fields_step variant_step variants_step
 
 -- the fields that `StructFields` are
 abbrev pub fields_in : StructFields → Fields
-fields_in = fold-StructFields LogicalType LogicalType EntryTypes EntryTypes NamedType Fields
-    TaggedType Variants type_step extension_step map_step entries_step field_step fields_step
-    variant_step variants_step
+fields_in = fold-StructFields LogicalType LogicalType LogicalType EntryTypes EntryTypes NamedType
+    Fields TaggedType Variants type_step data_step extension_step map_step entries_step field_step
+    fields_step variant_step variants_step
 
 abbrev pub field_of : StructField → NamedType
-field_of = fold-StructField LogicalType LogicalType EntryTypes EntryTypes NamedType Fields
-    TaggedType Variants type_step extension_step map_step entries_step field_step fields_step
-    variant_step variants_step
+field_of = fold-StructField LogicalType LogicalType LogicalType EntryTypes EntryTypes NamedType
+    Fields TaggedType Variants type_step data_step extension_step map_step entries_step field_step
+    fields_step variant_step variants_step
 
 abbrev pub fields_of : List StructField → Fields
 fields_of fs = fields_from (map field_of fs)
 
 -- the choices that `UnionVariants` are
 abbrev pub variants_in : UnionVariants → Variants
-variants_in = fold-UnionVariants LogicalType LogicalType EntryTypes EntryTypes NamedType Fields
-    TaggedType Variants type_step extension_step map_step entries_step field_step fields_step
-    variant_step variants_step
+variants_in = fold-UnionVariants LogicalType LogicalType LogicalType EntryTypes EntryTypes NamedType
+    Fields TaggedType Variants type_step data_step extension_step map_step entries_step field_step
+    fields_step variant_step variants_step
 
 abbrev pub variant_of : UnionVariant → TaggedType
-variant_of = fold-UnionVariant LogicalType LogicalType EntryTypes EntryTypes NamedType Fields
-    TaggedType Variants type_step extension_step map_step entries_step field_step fields_step
-    variant_step variants_step
+variant_of = fold-UnionVariant LogicalType LogicalType LogicalType EntryTypes EntryTypes NamedType
+    Fields TaggedType Variants type_step data_step extension_step map_step entries_step field_step
+    fields_step variant_step variants_step
 
 abbrev pub variants_of : List UnionVariant → Variants
 variants_of vs = variants_from (map variant_of vs)

@@ -87,7 +87,7 @@ impl DType {
             DType::Struct(_, nullability) => *nullability,
             DType::Union(_, nullability) => *nullability,
             DType::Variant(nullability) => *nullability,
-            DType::Extension(extension) => extension.storage.nullability(),
+            DType::Extension(extension) => extension.data.storage.nullability(),
         }
     }
 
@@ -110,7 +110,7 @@ impl DType {
             DType::Utf8(_) | DType::Binary(_) | DType::Variant(_) => true,
             DType::List(_, _) | DType::FixedSizeList(_, _, _) | DType::Map(_, _) => true,
             DType::Struct(_, _) | DType::Union(_, _) => true,
-            DType::Extension(extension) => extension.storage.can_be_nonnullable(),
+            DType::Extension(extension) => extension.data.storage.can_be_nonnullable(),
         }
     }
 
@@ -140,7 +140,7 @@ impl DType {
             DType::Union(variants, _) => Ok(DType::Union(variants.clone()?, nullability)),
             DType::Variant(_) => Ok(DType::Variant(nullability)),
             DType::Extension(extension) => {
-                let storage = extension.storage.with_nullability(nullability)?;
+                let storage = extension.data.storage.with_nullability(nullability)?;
                 Ok(DType::Extension(extension.with_storage(storage)?))
             }
         }

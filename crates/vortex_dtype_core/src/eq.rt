@@ -134,7 +134,7 @@ fn eq_type(a: &DType, b: &DType) -> bool
         }
         (DType::Variant(n), DType::Variant(m)) => n == m,
         (DType::Extension(x), DType::Extension(y)) => {
-            x.has_same_name(y) && eq_type(&x.storage, &y.storage)
+            x.has_same_name(y) && eq_type(&x.data.storage, &y.data.storage)
         }
         _ => false,
     }
@@ -187,7 +187,7 @@ fn eq_choices(xs: &[UnionVariant], ys: &[UnionVariant]) -> bool
 fn eq_extension(a: &ExtDTypeRef, b: &ExtDTypeRef) -> bool
     ensures { result ≡ eq_type (extension_type a.now) (extension_type b.now) }
 {
-    a.has_same_name(b) && eq_type(&a.storage, &b.storage)
+    a.has_same_name(b) && eq_type(&a.data.storage, &b.data.storage)
 }
 
 #[tactic(auto, using(crate::proofs::Tests::maps))]

@@ -91,7 +91,7 @@ fn eq_bare(a: &DType, b: &DType) -> bool
         }
         (DType::Variant(_), DType::Variant(_)) => true,
         (DType::Extension(x), DType::Extension(y)) => {
-            x.has_same_name(y) && eq_bare(&x.storage, &y.storage)
+            x.has_same_name(y) && eq_bare(&x.data.storage, &y.data.storage)
         }
         _ => false,
     }
@@ -145,5 +145,5 @@ fn eq_bare_choices(xs: &[UnionVariant], ys: &[UnionVariant]) -> bool
 fn eq_bare_extension(a: &ExtDTypeRef, b: &ExtDTypeRef) -> bool
     ensures { result ≡ eq_type (bare (extension_type a.now)) (bare (extension_type b.now)) }
 {
-    a.has_same_name(b) && eq_bare(&a.storage, &b.storage)
+    a.has_same_name(b) && eq_bare(&a.data.storage, &b.data.storage)
 }

@@ -12,14 +12,22 @@ use std::alloc::{AllocError, Global};
 use std::rc::Rc;
 use vortex_dtype_ptype::nullability::Nullability;
 
-/// An extension type, as Vortex's `ExtDTypeRef`. A clone copies nothing.
+/// An extension type, as Vortex's `ExtDTypeRef`. A clone shares its parts.
 #[derive(Drop)]
 #[cycle(dtype)]
 pub struct ExtDTypeRef {
+    pub(crate) data: Rc<ExtDTypeData>,
+}
+
+/// What an extension type is made of. It stands behind a pointer, so that a type of any other kind,
+/// of which each array has one, is no larger for it.
+#[derive(Drop)]
+#[cycle(dtype)]
+pub struct ExtDTypeData {
     alloc: Global,
     id: BufferString,
     metadata: ByteBuffer,
-    pub(crate) storage: Rc<DType>,
+    pub(crate) storage: DType,
 }
 
 impl ExtDTypeRef {
@@ -34,13 +42,14 @@ impl ExtDTypeRef {
         ensures { IfOk result (λ made. extension_type made
             ≡ extension id metadata (type_of storage)) }
     {
-        let storage = Rc::new(alloc, storage)?;
-        Ok(ExtDTypeRef {
+        let data = ExtDTypeData {
             alloc,
             id,
             metadata,
             storage,
-        })
+        };
+        let data = Rc::new(alloc, data)?;
+        Ok(ExtDTypeRef { data })
     }
 
     /// What the extension is called.
@@ -48,7 +57,7 @@ impl ExtDTypeRef {
     pub fn id(&self) -> &BufferString
         ensures { result.now ≡ id_of (extension_type self.now) }
     {
-        &self.id
+        &self.data.id
     }
 
     /// The bytes that tell extensions of one id apart.
@@ -56,7 +65,7 @@ impl ExtDTypeRef {
     pub fn serialize_metadata(&self) -> &ByteBuffer
         ensures { result.now ≡ metadata_of (extension_type self.now) }
     {
-        &self.metadata
+        &self.data.metadata
     }
 
     /// The type whose values the extension has.
@@ -64,7 +73,7 @@ impl ExtDTypeRef {
     pub fn storage_dtype(&self) -> &DType
         ensures { type_of result.now ≡ storage_of (extension_type self.now) }
     {
-        &self.storage
+        &self.data.storage
     }
 
     /// Whether null is a value, which it is where the storage has it.
@@ -72,7 +81,7 @@ impl ExtDTypeRef {
     pub fn nullability(&self) -> Nullability
         ensures { nullability_of_flag result ≡ nullability_of (extension_type self.now) }
     {
-        self.storage.nullability()
+        self.data.storage.nullability()
     }
 
     /// Whether null is a value.
@@ -92,7 +101,7 @@ impl ExtDTypeRef {
         ensures outer { IfOk result (λ made. nullability_of (extension_type made)
             ≡ nullability_of_flag nullability) }
     {
-        let storage = self.storage.with_nullability(nullability)?;
+        let storage = self.data.storage.with_nullability(nullability)?;
         let all = self.with_storage(storage)?;
         Ok(all)
     }
@@ -105,7 +114,7 @@ impl ExtDTypeRef {
             && bytes_eq (metadata_of (extension_type self.now))
             (metadata_of (extension_type other.now)) }
     {
-        self.id == other.id && self.metadata == other.metadata
+        self.data.id == other.data.id && self.data.metadata == other.data.metadata
     }
 
     /// The extension of the same id and metadata over other values.
@@ -115,15 +124,10 @@ impl ExtDTypeRef {
             ≡ extension (id_of (extension_type self.now)) (metadata_of (extension_type self.now))
             (type_of storage)) }
     {
-        let id = self.id.clone()?;
-        let metadata = self.metadata.clone()?;
-        let storage = Rc::new(self.alloc, storage)?;
-        Ok(ExtDTypeRef {
-            alloc: self.alloc,
-            id,
-            metadata,
-            storage,
-        })
+        let id = self.data.id.clone()?;
+        let metadata = self.data.metadata.clone()?;
+        let made = ExtDTypeRef::new(self.data.alloc, id, metadata, storage)?;
+        Ok(made)
     }
 }
 
@@ -132,14 +136,7 @@ impl Clone for ExtDTypeRef {
 
     #[tactic(auto, using(crate::proofs::Views::one_level))]
     fn clone(&self) -> Result<ExtDTypeRef, AllocError> {
-        let id = self.id.clone()?;
-        let metadata = self.metadata.clone()?;
-        let storage = self.storage.clone()?;
-        Ok(ExtDTypeRef {
-            alloc: self.alloc,
-            id,
-            metadata,
-            storage,
-        })
+        let data = self.data.clone()?;
+        Ok(ExtDTypeRef { data })
     }
 }

@@ -98,7 +98,7 @@ impl DType {
         ensures { type_of result.now ≡ stored (type_of self.now) }
     {
         match self {
-            DType::Extension(extension) => extension.storage.stored_dtype(),
+            DType::Extension(extension) => extension.data.storage.stored_dtype(),
             DType::Null | DType::Bool(_) | DType::Primitive(_, _) | DType::Decimal(_, _) => self,
             DType::Utf8(_) | DType::Binary(_) | DType::Variant(_) => self,
             DType::List(_, _) | DType::FixedSizeList(_, _, _) | DType::Map(_, _) => self,

@@ -16,6 +16,7 @@ pub mod Groups
 pub mod OwnType
 pub mod Rearrayed
 pub mod Regrouped
+pub mod Rezoned
 pub mod Described
 pub mod Walked
 pub mod ZoneValues

@@ -199,13 +199,16 @@ impl Table {
         let lengths = self.bound_lengths.of_leaves(alloc, &leaves)?;
         keep_memory(alloc, self.len());
         let (chunks, groups) = self.converted(alloc, &dtype, &leaves, &lengths)?;
-        let zones = ZoneMaps::of_chunks(alloc, leaves.len(), &chunks)?;
+        let zones = ZoneMaps::of_converted(alloc, &self.leaves, &leaves, &chunks)?;
         self.dtype = dtype;
         self.leaves = leaves;
         self.lengths = lengths;
         self.chunks = chunks;
         self.groups = groups;
-        self.zones = zones;
+        // Where the same leaf columns stay, so do their bounds and null counts.
+        if let Some(zones) = zones {
+            self.zones = zones;
+        }
         Ok(())
     }
 }

@@ -1,5 +1,6 @@
 //! The statistics of all leaf columns of zones.
 ghost use Rattle.std.specs.Prelude.{◌≡◌, ◌∷◌, ◌++◌, [], List, length, OnOk};
+ghost use Rattle.vortex_table_chunk.specs.Formed.{eq_leaves};
 ghost use Rattle.vortex_table_chunk.specs.declared.zones.bounds.ColumnBounds.{ColumnBounds};
 ghost use Rattle.vortex_table_zonemaps.specs.Zones.{Zone, AreLeaves};
 
@@ -9,6 +10,7 @@ use std::alloc::{AllocError, Global};
 use vortex_stats_expr::aggregate::AggregateFn;
 use vortex_table_chunk::chunk::Chunk;
 use vortex_table_chunk::zones::bounds::ColumnBounds;
+use vortex_table_schema::leaves::LeafPath;
 
 /// What proofs read of zones, such as the chunks of a table: of each leaf column the low, the high
 /// and the null count, and the number of rows. What an array of columns is to rows, this is to
@@ -38,8 +40,24 @@ fn put_leaves(
     Ok(())
 }
 
+// Whether the paths are these, one by one.
+fn are_leaves(found: &[LeafPath], wanted: &[LeafPath]) -> bool
+    ensures { result ≡ eq_leaves found.now wanted.now }
+{
+    if found.len() != wanted.len() {
+        return false;
+    }
+    for (index, leaf) in found.iter().enumerate() {
+        if !leaf.equals(wanted[index].as_slice()) {
+            return false;
+        }
+    }
+    true
+}
+
 impl ZoneMaps {
-    ghost use Rattle.std.specs.Prelude.{◌≡◌, ◌∷◌, ◌++◌, [], List, length, map, IfOk, OnOk, IfSome};
+    ghost use Rattle.std.specs.Prelude.{◌≡◌, ◌∷◌, ◌++◌, [], List, length, map, is_none, IfOk, OnOk, IfSome};
+    ghost use Rattle.vortex_table_chunk.specs.Formed.{eq_leaves};
     ghost use Rattle.vortex_stats_expr.specs.Aggregate.{aggregate_of};
     ghost use Rattle.vortex_table_zonemaps.specs.Column.{IsColumnOf};
     ghost use Rattle.vortex_table_zonemaps.specs.Zones.{Zone, zone_of, leaf_stat, AreZoneMaps};
@@ -93,6 +111,26 @@ impl ZoneMaps {
             maps.put(index, &chunk.bounds, chunk.array.len())?;
         }
         Ok(maps)
+    }
+
+    /// Of chunks that were converted, which have these leaf columns. `None` where those are the
+    /// `old` ones: bounds and null counts don't change with a type, so what was held of the chunks
+    /// is held of the converted ones too.
+    pub fn of_converted(
+        alloc: Global,
+        old: &[LeafPath],
+        leaves: &[LeafPath],
+        chunks: &[Chunk],
+    ) -> Result<Option<ZoneMaps>, AllocError>
+        ensures when { IfOk result (λ made. is_none made ≡ eq_leaves old.now leaves.now) }
+        ensures made { IfOk result
+            (λ made. IfSome made (λ maps. AreZoneMaps maps (map zone_of chunks.now))) }
+    {
+        if are_leaves(old, leaves) {
+            return Ok(None);
+        }
+        let maps = ZoneMaps::of_chunks(alloc, leaves.len(), chunks)?;
+        Ok(Some(maps))
     }
 
     /// A statistic of the leaf column at an index, and `None` where none is held.
