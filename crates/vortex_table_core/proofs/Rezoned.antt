@@ -1,5 +1,5 @@
 -- What scans read of chunks that are converted, where the same leaf columns stay.
-use Rattle.std.proofs.Common.{◌≡◌, refl, sym, ◌∙◌, ap, subst, ℕ, zero, suc, pos, List, [], ◌∷◌, length, map, drop, get_or, true, IsTrue}
+use Rattle.std.proofs.Common.{◌≡◌, refl, sym, ◌∙◌, ap, subst, ℕ, zero, suc, pos, List, [], ◌∷◌, length, map, drop, get_or, true, Option, Some, None, is_none, IsTrue}
 use Rattle.std.specs.Prelude.{slice_get, slice_index_or}
 use Rattle.std.specs.List.{list_all}
 use Rattle.vortex_model.specs.Content.{Content, integer}
@@ -43,6 +43,10 @@ bounds_same (L ∷ lengths) (is ∷ leaves) (b ∷ bs) (d ∷ ds) rows (suc j) n
 bounds_same [] [] [] (d ∷ ds) rows j n m p q = absurd q
 bounds_same (L ∷ lengths) (is ∷ leaves) (b ∷ bs) [] rows j n m p q = absurd q
 bounds_same lengths leaves bs ds rows j n m p q = absurd p
+
+pub none_made : (made : Option ZoneMaps) → ((maps : ZoneMaps) → made ≡ Some maps → ⊥) → is_none made ≡ true
+none_made None h = refl
+none_made (Some maps) h = absurd (h maps refl)
 
 -- two types with the same leaves
 module _ (s t : LogicalType) (L : Positions → ℕ) (same : leaf_positions s ≡ leaf_positions t) where

@@ -1,4 +1,5 @@
 pub mod Columns
 pub mod Compared
 pub mod Held
+pub mod Paths
 pub mod Truths

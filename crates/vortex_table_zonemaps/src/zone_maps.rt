@@ -41,14 +41,16 @@ fn put_leaves(
 }
 
 // Whether the paths are these, one by one.
+#[tactic(auto, using(crate::proofs::Paths::alike))]
 fn are_leaves(found: &[LeafPath], wanted: &[LeafPath]) -> bool
     ensures { result ≡ eq_leaves found.now wanted.now }
 {
     if found.len() != wanted.len() {
         return false;
     }
-    for (index, leaf) in found.iter().enumerate() {
-        if !leaf.equals(wanted[index].as_slice()) {
+    for (i, leaf) in found.iter().enumerate() {
+        let other = &wanted[i];
+        if !leaf.equals(other.as_slice()) {
             return false;
         }
     }

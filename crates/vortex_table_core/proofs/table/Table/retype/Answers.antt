@@ -1,10 +1,11 @@
 use Rattle.std.proofs.Common.{◌≡◌, ap, sym, subst, ◌∙◌, map, None, is_none}
+use Rattle.std.specs.Prelude.{IfSome}
 use Rattle.vortex_model.specs.Kept.{type_fault}
 use Rattle.vortex_model_table.specs.Table.{rows_of}
 use Rattle.vortex_model_table.specs.Command.{first_unconvertible}
 use Rattle.vortex_dtype_core.specs.View.{type_of}
 use Rattle.vortex_table_schema.specs.Leaves.{leaf_positions}
-use Rattle.vortex_table_chunk.proofs.EqualLeaves.{leaves_same}
+use Rattle.vortex_table_chunk.proofs.EqualLeaves.{leaves_so, leaves_same}
 use Rattle.vortex_table_chunk.proofs.Formed.{lengths_same}
 use Rattle.vortex_table_schema.specs.Lengths.{length_in}
 use Rattle.vortex_table_schema.proofs.Explained.{none_so, none_both}
@@ -12,6 +13,7 @@ use Rattle.vortex_table_zonemaps.specs.Zones.{zone_of, AreZoneMaps}
 use Rattle.vortex_table_core.specs.TableView.{table_of}
 use Rattle.vortex_table_core.proofs.OwnType.{chunks_convert}
 use Rattle.vortex_table_core.proofs.Regrouped.{groups_again, sizes_again, counted_again}
+use Rattle.vortex_table_core.proofs.Rezoned.{zones_stay, none_made}
 use Rattle.vortex_table_core.proofs.table.Table.retype.Goals as goal
 
 pub returns-then-eq-clause-accepted : goal.returns-then-eq-clause-accepted
@@ -32,11 +34,41 @@ invariant_of-self c =
       formed = made.formed;
       counted = counted_again s k L t.chunks.items chunks made.rows ∙ t.counted;
       grouped = groups_again s k L t.chunks.items chunks made.rows 0 t.groups c.in_ok-chunks.groups t.grouped made.groups;
-      zoned = subst (λ cs. AreZoneMaps c.in_ok-zones.zones (map zone_of cs)) c.deref-4.ensures.value c.in_ok-zones.ensures;
+      zoned = subst (λ cs. AreZoneMaps c.in-Some.zones (map zone_of cs)) c.deref-7.ensures.value
+          (subst (λ o. IfSome o (λ maps. AreZoneMaps maps (map zone_of c.deref-7.result.now))) c.in-Some.is c.in_ok-zones.ensures.made);
     }
 
-pub returns-clause-retyped : goal.returns-clause-retyped
-returns-clause-retyped c =
+pub invariant_of-self-in_default : goal.invariant_of-self-in_default
+invariant_of-self-in_default c =
+    let t = c.args.self.now in let s = type_of t.dtype in let k = type_of c.args.dtype in let L = length_in t.bound_lengths in
+    let made = c.in_ok-chunks.ensures in let chunks = c.in_ok-chunks.chunks.items in let leaves = c.in_ok-leaves.leaves.value.items in
+    let leaf_columns : leaf_positions s ≡ leaf_positions k =
+        sym (leaves_so t.leaves.value.items (leaf_positions s) t.led) ∙ sym (c.deref-4.ensures.value ∙ ap (λ v. v.items) c.deref-3.ensures)
+        ∙ leaves_so c.deref-4.result.now c.deref-6.result.now (sym c.in_ok-zones.ensures.when ∙ none_made c.in_ok-zones.zones c.in_default.not-Some)
+        ∙ c.deref-6.ensures.value ∙ ap (λ v. v.items) c.deref-5.ensures ∙ c.in_ok-leaves.ensures in record {
+      kept = ap is_none c.in_ok-check_type.ensures.ok;
+      led = leaves_same leaves (leaf_positions k) c.in_ok-leaves.ensures;
+      measured = lengths_same L k c.in_ok-lengths.lengths.value.items
+          (c.in_ok-lengths.ensures ∙ ap (map L) (c.deref-2.ensures.value ∙ ap (λ v. v.items) c.deref.ensures ∙ c.in_ok-leaves.ensures));
+      formed = made.formed;
+      counted = counted_again s k L t.chunks.items chunks made.rows ∙ t.counted;
+      grouped = groups_again s k L t.chunks.items chunks made.rows 0 t.groups c.in_ok-chunks.groups t.grouped made.groups;
+      zoned = zones_stay s k L leaf_columns t.chunks.items chunks t.zones t.formed made.formed made.rows t.zoned;
+    }
+
+pub returns-in-Some-clause-retyped : goal.returns-in-Some-clause-retyped
+returns-in-Some-clause-retyped c =
+    let t = c.args.self.now in let s = type_of t.dtype in let k = type_of c.args.dtype in
+    let made = c.in_ok-chunks.ensures in λ i. record {
+      kind = k;
+      default = t.bound_lengths.default;
+      lengths = t.bound_lengths.entries.items;
+      chunks = made.rows i;
+      groups = sizes_again s k (length_in t.bound_lengths) t.chunks.items c.in_ok-chunks.chunks.items made.rows t.groups c.in_ok-chunks.groups made.groups i;
+    }
+
+pub returns-in_default-clause-retyped : goal.returns-in_default-clause-retyped
+returns-in_default-clause-retyped c =
     let t = c.args.self.now in let s = type_of t.dtype in let k = type_of c.args.dtype in
     let made = c.in_ok-chunks.ensures in λ i. record {
       kind = k;
