@@ -43,9 +43,9 @@ invariant_of-self-in_default c =
     let t = c.args.self.now in let s = type_of t.dtype in let k = type_of c.args.dtype in let L = length_in t.bound_lengths in
     let made = c.in_ok-chunks.ensures in let chunks = c.in_ok-chunks.chunks.items in let leaves = c.in_ok-leaves.leaves.value.items in
     let leaf_columns : leaf_positions s ≡ leaf_positions k =
-        sym (leaves_so t.leaves.value.items (leaf_positions s) t.led) ∙ sym (c.deref-4.ensures.value ∙ ap (λ v. v.items) c.deref-3.ensures)
-        ∙ leaves_so c.deref-4.result.now c.deref-6.result.now (sym c.in_ok-zones.ensures.when ∙ none_made c.in_ok-zones.zones c.in_default.not-Some)
-        ∙ c.deref-6.ensures.value ∙ ap (λ v. v.items) c.deref-5.ensures ∙ c.in_ok-leaves.ensures in record {
+    sym (leaves_so t.leaves.value.items (leaf_positions s) t.led) ∙ sym (c.deref-4.ensures.value ∙ ap (λ v. v.items) c.deref-3.ensures)
+    ∙ leaves_so c.deref-4.result.now c.deref-6.result.now (sym c.in_ok-zones.ensures.when ∙ none_made c.in_ok-zones.zones c.in_default.not-Some)
+    ∙ c.deref-6.ensures.value ∙ ap (λ v. v.items) c.deref-5.ensures ∙ c.in_ok-leaves.ensures in record {
       kept = ap is_none c.in_ok-check_type.ensures.ok;
       led = leaves_same leaves (leaf_positions k) c.in_ok-leaves.ensures;
       measured = lengths_same L k c.in_ok-lengths.lengths.value.items
