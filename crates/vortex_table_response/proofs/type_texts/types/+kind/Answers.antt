@@ -1,12 +1,26 @@
-use Rattle.std.proofs.Common.{◌≡◌, ◌<◌, ap, ◌∙◌, sym, codes, decimal, ◌++◌, arith}
-use Rattle.vortex_model.specs.LogicalType.{LogicalType, Fields, list, fixed_list, struct, is_nullable}
+use Rattle.std.proofs.Common.{◌≡◌, ◌<◌, ap, ◌∙◌, sym, subst, codes, decimal, ◌++◌, rules, arith}
+use Rattle.std.specs.Prelude.{OnOk}
+use Rattle.vortex_model.specs.LogicalType.{LogicalType, Fields, boolean_type, utf8, list, fixed_list, struct, is_nullable}
 use Rattle.vortex_dtype_ptype.specs.View.{nullability_of_flag}
 use Rattle.vortex_dtype_core.specs.View.{type_of, fields_of}
+use Rattle.vortex_dtype_core.specs.declared.dtype.DType as type
 use Rattle.vortex_dtype_core.proofs.Views.{type_of-List, type_of-FixedSizeList, type_of-Struct}
 use Rattle.vortex_table_response.specs.type_texts.Text.{type_text, flag_text, list_end_text, fixed_list_end_text, struct_end_text}
 use Rattle.vortex_table_response.proofs.type_texts.Pieces.{one_more_child, ended_as, three_pieces, list_pieces, fixed_list_pieces}
 use Rattle.vortex_dtype_core.proofs.Sizes.{type_size, fields_size, field_smaller}
 use Rattle.vortex_table_response.proofs.type_texts.types.+kind.Goals as goal
+
+pub push_dtype-returns-in-Bool : goal.push_dtype-returns-in-Bool
+push_dtype-returns-in-Bool t c =
+    let n = c.in-Bool.nullability in
+    let here : type_of (type.Bool n) ≡ boolean_type (nullability_of_flag n) = search (rules, type.the_lemmas) in
+    subst (λ k. OnOk c.push_plain.result (c.push_plain.new.out.items ≡ c.args.out.now.items ++ type_text k)) (sym (ap type_of c.in-Bool.is ∙ here)) c.push_plain.ensures
+
+pub push_dtype-returns-in-Utf8 : goal.push_dtype-returns-in-Utf8
+push_dtype-returns-in-Utf8 t c =
+    let n = c.in-Utf8.nullability in
+    let here : type_of (type.Utf8 n) ≡ utf8 (nullability_of_flag n) = search (rules, type.the_lemmas) in
+    subst (λ k. OnOk c.push_plain-in-Utf8.result (c.push_plain-in-Utf8.new.out.items ≡ c.args.out.now.items ++ type_text k)) (sym (ap type_of c.in-Utf8.is ∙ here)) c.push_plain-in-Utf8.ensures
 
 pub push_children-push_dtype-requires : goal.push_children-push_dtype-requires
 push_children-push_dtype-requires t c =
