@@ -21,12 +21,6 @@ use vortex_table_schema::error::TableError;
 use vortex_table_schema::leaves::{LeafPath, leaf_positions};
 use vortex_table_zonemaps::zone_maps::ZoneMaps;
 
-// Of u64: 512 bytes.
-const KEPT_PER_ROW: usize = 64;
-
-// Of u64: 16 megabytes.
-const MOST_KEPT: usize = 1 << 21;
-
 // The statistics of the group's converted chunks, which are among these. One chunk has its own.
 fn joined_again(
     alloc: Global,
@@ -72,15 +66,6 @@ fn regroup(
         rows: group.rows,
         joined,
     })
-}
-
-// Asks for a block that the columns of so many rows would fit in, and lets it go unused. An
-// allocator that gave out and took back such a block keeps as much of what is given back to it, as
-// glibc's does up to 32 megabytes: the memory of the old chunks then serves the next conversion,
-// and is not asked of the system anew, page by page. If the block is refused, nothing is lost.
-fn keep_memory(alloc: Global, rows: usize) {
-    let count = rows.saturating_mul(KEPT_PER_ROW).min(MOST_KEPT);
-    let _: Result<Vec<u64>, AllocError> = Vec::with_capacity(alloc, count);
 }
 
 impl Table {
@@ -197,7 +182,6 @@ impl Table {
         }
         let leaves = leaf_positions(alloc, &dtype)?;
         let lengths = self.bound_lengths.of_leaves(alloc, &leaves)?;
-        keep_memory(alloc, self.len());
         let (chunks, groups) = self.converted(alloc, &dtype, &leaves, &lengths)?;
         let zones = ZoneMaps::of_converted(alloc, &self.leaves, &leaves, &chunks)?;
         self.dtype = dtype;
