@@ -15,12 +15,12 @@ fn fault(error: RunError) -> &'static str {
     }
 }
 
-/// A block of 32 MB. The GNU C library maps one of this size by itself, and once it has it back
+/// A block of 16 MB. The GNU C library maps one of this size by itself, and once it has it back
 /// keeps smaller ones that are freed, so that a line has what the one before it had used, and pages
 /// don't go to the system and back. Not inlined, as a request that nobody uses is left out then.
 #[inline(never)]
 fn large_block(alloc: Global) -> Result<Vec<u8>, AllocError> {
-    Vec::with_capacity(alloc, 32_000_000)
+    Vec::with_capacity(alloc, 16_000_000)
 }
 
 fn main(rt: HostRuntime) -> ExitCode {
