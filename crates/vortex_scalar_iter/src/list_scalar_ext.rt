@@ -16,7 +16,7 @@ pub trait ListScalarExt {
     ghost typed: { Self → Typed };
 
     /// Copies of the elements in order, and `None` of null.
-    fn elements_iter(&self) -> Option<ListElementsIter<'_>>
+    fn elements(&self) -> Option<ListElementsIter<'_>>
         ensures { option_map elements_left result ≡ elements_of (typed self.now) };
 }
 
@@ -24,7 +24,7 @@ impl ListScalarExt for ListScalar<'_> {
     ghost typed = { typed_list };
 
     #[tactic(auto, using(crate::proofs::Elements::listed))]
-    fn elements_iter(&self) -> Option<ListElementsIter<'_>> {
+    fn elements(&self) -> Option<ListElementsIter<'_>> {
         let elements = stored_elements(self)?;
         Some(ListElementsIter::new(self.element_dtype(), elements))
     }

@@ -23,11 +23,11 @@ pub trait MapScalarExt {
         ensures { option_map entries_left result ≡ entries_of_map (typed self.now) };
 
     /// Copies of the keys in order, and `None` of null.
-    fn keys_iter(&self) -> Option<MapKeysIter<'_>>
+    fn keys(&self) -> Option<MapKeysIter<'_>>
         ensures { option_map keys_left result ≡ keys_of (typed self.now) };
 
     /// Copies of the values in the order of their keys, and `None` of null.
-    fn values_iter(&self) -> Option<MapValuesIter<'_>>
+    fn values(&self) -> Option<MapValuesIter<'_>>
         ensures { option_map values_left result ≡ values_of (typed self.now) };
 }
 
@@ -41,13 +41,13 @@ impl MapScalarExt for MapScalar<'_> {
     }
 
     #[tactic(auto, using(crate::proofs::Entries::keys_listed))]
-    fn keys_iter(&self) -> Option<MapKeysIter<'_>> {
+    fn keys(&self) -> Option<MapKeysIter<'_>> {
         let entries = stored_entries(self)?;
         Some(MapKeysIter::new(self.map_dtype(), entries))
     }
 
     #[tactic(auto, using(crate::proofs::Entries::values_listed))]
-    fn values_iter(&self) -> Option<MapValuesIter<'_>> {
+    fn values(&self) -> Option<MapValuesIter<'_>> {
         let entries = stored_entries(self)?;
         Some(MapValuesIter::new(self.map_dtype(), entries))
     }

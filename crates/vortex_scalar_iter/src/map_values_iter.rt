@@ -1,6 +1,7 @@
 //! The values of a map's value, one after the other.
-ghost use Rattle.std.specs.Prelude.{◌≡◌, IsTrue};
-ghost use Rattle.std.specs.Iterator.{item_count};
+ghost use Rattle.std.specs.Prelude.{◌≡◌, IsTrue, Some, IfSome, length};
+ghost use Rattle.std.specs.Iterator.{UpTo, item_count};
+ghost use Rattle.std.specs.Iterator.SizeHint.{IsWithinCount};
 ghost use Rattle.vortex_model.specs.Valid.{entries_have};
 ghost use Rattle.vortex_dtype_core.specs.View.{entries_in};
 ghost use Rattle.vortex_scalar_value.specs.View.{raws_in};
@@ -60,7 +61,11 @@ impl<'a> Iterator for MapValuesIter<'a> {
     }
 
     #[tactic(auto, using(crate::proofs::Entries::counted))]
-    fn size_hint(&self) -> (usize, Option<usize>) {
+    fn size_hint(&self) -> (usize, Option<usize>)
+        ensures lower { IsWithinCount result.0 (item_count values_left self.now) }
+        ensures upper { IfSome result.1 (UpTo (item_count values_left self.now)) }
+        ensures exact { (result.0 ≡ length (values_left self.now)) × (result.1 ≡ Some result.0) }
+    {
         let len = self.entries.len();
         (len, Some(len))
     }

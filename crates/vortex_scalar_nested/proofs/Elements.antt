@@ -68,17 +68,4 @@ element_valid k e rs i r h v p = each_valid e rs i r (list_all k e rs h v) p
 
 pub ruleset placed = (element_valid)
 
-pub ruleset listed = (list_all)
-
 pub ruleset counted = (values.one_level)
-
--- ---- copies
-
-pub item_valid : (e : LogicalType) (vs : List (Option ScalarValue)) (i : ℕ) (v : Option ScalarValue) (o : Option (Bor ScalarValue)) → i < length vs → v ≡ get_or vs i v → option_copied o ≡ v → all_have e (raws_in vs) ≡ true → valid e (raw_at o) ≡ true
-item_valid e vs i v o h g c a = each_valid e (raws_in vs) i (raw_at o) a (item_within vs i v o h g c)
-
-pub each_of-raws_in : (k : LogicalType) (vs : List (Option ScalarValue)) → each_of k (raws_in vs) ≡ map (λ v. (k, raw_in v)) vs
-each_of-raws_in k [] = refl
-each_of-raws_in k (v ∷ vs) = ap (λ ts. (k, raw_in v) ∷ ts) (each_of-raws_in k vs)
-
-pub ruleset copied = (item_valid, each_of-raws_in, raw_at-copied)

@@ -1,5 +1,5 @@
 -- The entries of maps, one by one.
-use Rattle.std.proofs.Common.{◌≡◌, ◌≢◌, ◌&&◌, ◌<◌, map, ℕ, zero, suc, List, [], ◌∷◌, length, get_or, arith, Bool, true, false, Option, Some, None, option_copied, Bor, refl, sym, ap, ◌∙◌}
+use Rattle.std.proofs.Common.{◌≡◌, ◌≢◌, ◌&&◌, ℕ, zero, suc, List, [], ◌∷◌, length, get_or, arith, Bool, true, false, Option, Some, None, option_copied, Bor, refl, sym, ap, ◌∙◌}
 use Rattle.vortex_model.specs.LogicalType.{LogicalType, mapping, stored}
 use Rattle.vortex_model.specs.Content.{Raw, raw_null, raw_tuple, Raws, no_raws, raw_first}
 use Rattle.vortex_model.specs.Valid.{valid, has, entries_have}
@@ -11,7 +11,7 @@ use Rattle.vortex_scalar_value.specs.declared.scalar_value.ScalarValue.{ScalarVa
 use Rattle.vortex_scalar_value.proofs.Sizes.{raw_at-copied}
 use Rattle.vortex_scalar_value.proofs.Views as values
 use Rattle.vortex_scalar_nested.specs.Places.{item_at}
-use Rattle.vortex_scalar_nested.specs.Entries.{pair_in, key_in, value_in, each_key, each_value}
+use Rattle.vortex_scalar_nested.specs.Entries.{pair_in, key_in, value_in}
 use Rattle.vortex_scalar_nested.proofs.Elements.{is_items, items_held, item_within}
 
 pub maps_are_items : (k : LogicalType) (r : Raw) → is_map_type k ≡ true → valid k r ≡ true → is_items r ≡ true
@@ -99,30 +99,6 @@ value_valid k e rs i r a b h v p q = (each_valid e.key e.value rs i r a b (entri
 
 pub ruleset placed = (key_valid, value_valid)
 
-pub ruleset all = (entries_all)
-
--- ---- copies
-
-pub key_at_place : (k w : LogicalType) (vs : List (Option ScalarValue)) (i : ℕ) (v : Option ScalarValue) (o : Option (Bor ScalarValue)) (a b : Raw) → i < length vs → v ≡ get_or vs i v → option_copied o ≡ v → entries_have k w (raws_in vs) ≡ true → Some (a, b) ≡ pair_in (raw_at o) → valid k a ≡ true
-key_at_place k w vs i v o a b h g c e q = (each_valid k w (raws_in vs) i (raw_at o) a b e (item_within vs i v o h g c) q).0
-
-pub value_at_place : (k w : LogicalType) (vs : List (Option ScalarValue)) (i : ℕ) (v : Option ScalarValue) (o : Option (Bor ScalarValue)) (a b : Raw) → i < length vs → v ≡ get_or vs i v → option_copied o ≡ v → entries_have k w (raws_in vs) ≡ true → Some (a, b) ≡ pair_in (raw_at o) → valid w b ≡ true
-value_at_place k w vs i v o a b h g c e q = (each_valid k w (raws_in vs) i (raw_at o) a b e (item_within vs i v o h g c) q).1
-
-each_paired : (k w : LogicalType) (rs : Raws) (i : ℕ) (r : Raw) → entries_have k w rs ≡ true → Some r ≡ item_at rs i → None ≡ pair_in r → ⊥
-each_paired k w no_raws i r h p q = absurd (cc (p))
-each_paired k w (raw_first (raw_tuple (raw_first x (raw_first y no_raws))) rs) zero r h p q =
-    let same : r ≡ raw_tuple (raw_first x (raw_first y no_raws)) = cc p in
-    let e : None ≡ Some (x, y) = q ∙ ap pair_in same in
-    absurd (cc e)
-each_paired k w (raw_first (raw_tuple (raw_first x (raw_first y no_raws))) rs) (suc i) r h p q =
-    each_paired k w rs i r (first_valid (has (stored k) x) (has (stored w) y) (entries_have k w rs) h).2 p q
-each_paired k w (raw_first u rs) i r h p q = absurd (cc (h))
-
--- an entry of a map is a pair
-pub paired : (k w : LogicalType) (vs : List (Option ScalarValue)) (i : ℕ) (v : Option ScalarValue) (o : Option (Bor ScalarValue)) → i < length vs → v ≡ get_or vs i v → option_copied o ≡ v → entries_have k w (raws_in vs) ≡ true → None ≡ pair_in (raw_at o) → ⊥
-paired k w vs i v o h g c e q = each_paired k w (raws_in vs) i (raw_at o) e (item_within vs i v o h g c) q
-
 pub key_of_pair : (r a b : Raw) → Some (a, b) ≡ pair_in r → key_in r ≡ a
 key_of_pair (raw_tuple (raw_first x (raw_first y no_raws))) a b q = sym (ap (λ o. key_or x o) q)
 key_of_pair r a b q = absurd (cc (q))
@@ -130,13 +106,3 @@ key_of_pair r a b q = absurd (cc (q))
 pub value_of_pair : (r a b : Raw) → Some (a, b) ≡ pair_in r → value_in r ≡ b
 value_of_pair (raw_tuple (raw_first x (raw_first y no_raws))) a b q = sym (ap (λ o. value_or y o) q)
 value_of_pair r a b q = absurd (cc (q))
-
-pub each_key-raws_in : (k : LogicalType) (vs : List (Option ScalarValue)) → each_key k (raws_in vs) ≡ map (λ v. (k, key_in (raw_in v))) vs
-each_key-raws_in k [] = refl
-each_key-raws_in k (v ∷ vs) = ap (λ ts. (k, key_in (raw_in v)) ∷ ts) (each_key-raws_in k vs)
-
-pub each_value-raws_in : (k : LogicalType) (vs : List (Option ScalarValue)) → each_value k (raws_in vs) ≡ map (λ v. (k, value_in (raw_in v))) vs
-each_value-raws_in k [] = refl
-each_value-raws_in k (v ∷ vs) = ap (λ ts. (k, value_in (raw_in v)) ∷ ts) (each_value-raws_in k vs)
-
-pub ruleset copied = (key_at_place, value_at_place, paired, key_of_pair, value_of_pair, each_key-raws_in, each_value-raws_in, raw_at-copied)

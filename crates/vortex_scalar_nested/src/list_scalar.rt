@@ -1,5 +1,5 @@
 //! Lists with their type.
-ghost use Rattle.std.specs.Prelude.{◌≡◌, ◌==◌, IsTrue, Some, IfOk, map, option_map};
+ghost use Rattle.std.specs.Prelude.{◌≡◌, ◌==◌, IsTrue, Some, IfOk, option_map};
 ghost use Rattle.vortex_model.specs.Content.{content_of, is_null};
 ghost use Rattle.vortex_model.specs.Valid.{valid};
 ghost use Rattle.vortex_dtype_core.specs.Parts.{list_element};
@@ -7,10 +7,10 @@ ghost use Rattle.vortex_dtype_core.specs.View.{type_of};
 ghost use Rattle.vortex_scalar_value.specs.View.{raw_at};
 ghost use Rattle.vortex_scalar_views.specs.Forms.{GivesView};
 ghost use Rattle.vortex_scalar_nested.specs.Held.{raw_of_items};
-ghost use Rattle.vortex_scalar_nested.specs.Places.{is_listing, part_count, element_at, elements_of};
+ghost use Rattle.vortex_scalar_nested.specs.Places.{is_listing, part_count, element_at};
 
-use crate::copies::{scalars_of, value_at};
-use std::alloc::{AllocError, Global};
+use crate::copies::value_at;
+use std::alloc::AllocError;
 use vortex_dtype_core::dtype::DType;
 use vortex_scalar_core::scalar::Scalar;
 use vortex_scalar_ops::validate::validate;
@@ -132,19 +132,6 @@ impl<'a> ListScalar<'a> {
         };
         let element = scalar_of(self.element_dtype(), element)?;
         Ok(Some(element))
-    }
-
-    /// Copies of the elements in order, and `None` of null.
-    #[tactic(auto, using(crate::proofs::Elements::listed))]
-    pub fn elements(&self, alloc: Global) -> Result<Option<Vec<Scalar>>, AllocError>
-        ensures { IfOk result (λ all. option_map (λ elements. map typed_scalar elements.items) all
-            ≡ elements_of (typed_list self.now)) }
-    {
-        let Some(elements) = self.items() else {
-            return Ok(None);
-        };
-        let all = scalars_of(alloc, self.element_dtype(), elements)?;
-        Ok(Some(all))
     }
 }
 

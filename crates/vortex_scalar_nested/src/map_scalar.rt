@@ -1,18 +1,18 @@
 //! Maps with their type.
-ghost use Rattle.std.specs.Prelude.{◌≡◌, ◌==◌, IsTrue, Some, IfOk, map, option_map};
+ghost use Rattle.std.specs.Prelude.{◌≡◌, ◌==◌, IsTrue, Some, IfOk, option_map};
 ghost use Rattle.vortex_model.specs.Content.{content_of, is_null};
-ghost use Rattle.vortex_model.specs.Valid.{valid, entries_have};
+ghost use Rattle.vortex_model.specs.Valid.{valid};
 ghost use Rattle.vortex_dtype_core.specs.Parts.{is_map_type, entries_in_type};
 ghost use Rattle.vortex_dtype_core.specs.View.{type_of, entries_in};
-ghost use Rattle.vortex_scalar_value.specs.View.{raw_at, raws_in};
+ghost use Rattle.vortex_scalar_value.specs.View.{raw_at};
 ghost use Rattle.vortex_scalar_views.specs.Forms.{GivesView};
 ghost use Rattle.vortex_scalar_views.specs.Views.{typed_scalar};
 ghost use Rattle.vortex_scalar_nested.specs.Held.{raw_of_items};
 ghost use Rattle.vortex_scalar_nested.specs.Places.{part_count};
-ghost use Rattle.vortex_scalar_nested.specs.Entries.{entry_at, each_key, each_value, keys_of, values_of};
+ghost use Rattle.vortex_scalar_nested.specs.Entries.{entry_at};
 
 use crate::copies::{pair_of, value_at};
-use std::alloc::{AllocError, Global};
+use std::alloc::AllocError;
 use vortex_dtype_core::dtype::DType;
 use vortex_dtype_core::map_dtype::MapDType;
 use vortex_scalar_core::scalar::Scalar;
@@ -141,78 +141,4 @@ impl<'a> MapScalar<'a> {
         let value = scalar_of(types.value_dtype(), value)?;
         Ok(Some((key, value)))
     }
-
-    /// Copies of the keys in order, and `None` of null.
-    #[tactic(auto, using(crate::proofs::Pairs::all))]
-    pub fn keys(&self, alloc: Global) -> Result<Option<Vec<Scalar>>, AllocError>
-        ensures { IfOk result (λ all. option_map (λ keys. map typed_scalar keys.items) all
-            ≡ keys_of (typed_map self.now)) }
-    {
-        let Some(entries) = self.items() else {
-            return Ok(None);
-        };
-        let all = key_copies(alloc, self.map_dtype(), entries)?;
-        Ok(Some(all))
-    }
-
-    /// Copies of the values in the order of their keys, and `None` of null.
-    #[tactic(auto, using(crate::proofs::Pairs::all))]
-    pub fn values(&self, alloc: Global) -> Result<Option<Vec<Scalar>>, AllocError>
-        ensures { IfOk result (λ all. option_map (λ values. map typed_scalar values.items) all
-            ≡ values_of (typed_map self.now)) }
-    {
-        let Some(entries) = self.items() else {
-            return Ok(None);
-        };
-        let all = value_copies(alloc, self.map_dtype(), entries)?;
-        Ok(Some(all))
-    }
-}
-
-#[tactic(auto, using(crate::proofs::Pairs::copied))]
-fn key_copies(
-    alloc: Global,
-    types: &MapDType,
-    entries: &[Option<ScalarValue>],
-) -> Result<Vec<Scalar>, AllocError>
-    requires { IsTrue (entries_have (entries_in types.now).key (entries_in types.now).value
-        (raws_in entries.now)) }
-    ensures { IfOk result (λ keys. map typed_scalar keys.items ≡ each_key (entries_in types.now).key
-        (raws_in entries.now)) }
-{
-    let mut keys = Vec::with_capacity(alloc, entries.len())?;
-    for entry in entries {
-        match pair_of(entry.as_ref()) {
-            Some((key, _)) => {
-                let key = scalar_of(types.key_dtype(), key)?;
-                keys.push(key)?;
-            }
-            None => unreachable!(),
-        }
-    }
-    Ok(keys)
-}
-
-#[tactic(auto, using(crate::proofs::Pairs::copied))]
-fn value_copies(
-    alloc: Global,
-    types: &MapDType,
-    entries: &[Option<ScalarValue>],
-) -> Result<Vec<Scalar>, AllocError>
-    requires { IsTrue (entries_have (entries_in types.now).key (entries_in types.now).value
-        (raws_in entries.now)) }
-    ensures { IfOk result (λ values. map typed_scalar values.items
-        ≡ each_value (entries_in types.now).value (raws_in entries.now)) }
-{
-    let mut values = Vec::with_capacity(alloc, entries.len())?;
-    for entry in entries {
-        match pair_of(entry.as_ref()) {
-            Some((_, value)) => {
-                let value = scalar_of(types.value_dtype(), value)?;
-                values.push(value)?;
-            }
-            None => unreachable!(),
-        }
-    }
-    Ok(values)
 }

@@ -1,6 +1,6 @@
 //! Types with further arguments, and what is asked of several answers.
 
-use crate::values::{Value, WITHOUT, is_of, of_types};
+use crate::values::{WITHOUT, is_of, of_types};
 use std::alloc::Global;
 use vortex_dtype::{DType, FieldName, FieldNames, MapDType, Nullability, UnionVariants};
 use vortex_scalar::{Scalar, ScalarError, ScalarValue};
@@ -38,12 +38,4 @@ pub fn union<const N: usize>(
 /// Whether there is a scalar of this type and this value.
 pub fn is_some_of(scalar: Option<Scalar>, dtype: &DType, value: Option<&ScalarValue>) -> bool {
     scalar.is_some_and(|scalar| is_of(&scalar, dtype, value))
-}
-
-/// Whether these are scalars of this type and these values.
-pub fn are_some_of(found: Option<Vec<Scalar>>, dtype: &DType, values: &[Value]) -> bool {
-    found.is_some_and(|found| {
-        let mut items = found.iter().zip(values);
-        found.len() == values.len() && items.all(|(a, b)| is_of(a, dtype, b.as_ref()))
-    })
 }

@@ -1,7 +1,7 @@
 //! `NestedScalarViews`, and the views of lists, records, maps, unions, variants and extensions.
 
 use crate::checks::Checks;
-use crate::make::{are_some_of, is_some_of, map, union};
+use crate::make::{is_some_of, map, union};
 use crate::samples::{EXTENSION, FIXED, LIST, MAP, STRUCT, UNION, VARIANT, dtypes, values};
 use crate::values::{
     Done, WITH, WITHOUT, extension, fixed, is_made, is_of, is_same, list, number, numbers, record,
@@ -117,12 +117,6 @@ fn lists(alloc: Global, checks: &mut Checks<'_>) -> Done {
             "element far past the end",
             view.element(usize::MAX)?.is_none(),
         );
-        let answer = view.elements(alloc);
-        checks.stays(
-            "a list after its elements",
-            is_same(scalar.value(), twin.as_ref()),
-        );
-        checks.holds("elements", are_some_of(answer?, &numbers(WITH), &wanted));
     }
     Ok(())
 }
@@ -133,10 +127,6 @@ fn short_lists(alloc: Global, checks: &mut Checks<'_>) -> Done {
     let view = empty.as_list();
     checks.holds("no elements", view.len() == 0 && view.is_empty());
     checks.holds("element of none", view.element(0)?.is_none());
-    checks.holds(
-        "elements of none",
-        are_some_of(view.elements(alloc)?, &numbers(WITH), &[]),
-    );
     for dtype in [any, fixed(alloc, numbers(WITH), 3, WITH)?] {
         let null = Scalar::null(dtype);
         let view = null.as_list();
@@ -146,7 +136,6 @@ fn short_lists(alloc: Global, checks: &mut Checks<'_>) -> Done {
             *view.element_dtype() == numbers(WITH),
         );
         checks.holds("element of null", view.element(0)?.is_none());
-        checks.holds("elements of null", view.elements(alloc)?.is_none());
     }
     Ok(())
 }
@@ -223,16 +212,6 @@ fn maps(alloc: Global, checks: &mut Checks<'_>) -> Done {
     }
     checks.holds("entry past the end", view.entry(2)?.is_none());
     checks.holds("entry far past the end", view.entry(usize::MAX)?.is_none());
-    checks.holds(
-        "keys",
-        are_some_of(view.keys(alloc)?, &DType::Utf8(WITHOUT), &keys),
-    );
-    let answer = view.values(alloc);
-    checks.stays(
-        "a map after its values",
-        is_same(scalar.value(), twin.as_ref()),
-    );
-    checks.holds("values", are_some_of(answer?, &numbers(WITH), &values));
     Ok(())
 }
 
@@ -242,23 +221,11 @@ fn short_maps(alloc: Global, checks: &mut Checks<'_>) -> Done {
     let view = empty.as_map();
     checks.holds("no entries", view.len() == 0 && view.is_empty());
     checks.holds("entry of none", view.entry(0)?.is_none());
-    checks.holds(
-        "keys of none",
-        are_some_of(view.keys(alloc)?, &numbers(WITH), &[]),
-    );
-    checks.holds(
-        "values of none",
-        are_some_of(view.values(alloc)?, &numbers(WITH), &[]),
-    );
     let null = Scalar::null(dtype);
     let view = null.as_map();
     checks.holds("a null map", view.len() == 0 && view.is_empty());
     checks.holds("map_dtype of null", !view.map_dtype().keys_sorted());
     checks.holds("entry of null", view.entry(0)?.is_none());
-    checks.holds(
-        "keys of null",
-        view.keys(alloc)?.is_none() && view.values(alloc)?.is_none(),
-    );
     Ok(())
 }
 

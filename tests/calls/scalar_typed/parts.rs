@@ -65,20 +65,20 @@ fn elements(alloc: Global, checks: &mut Checks<'_>) -> Done {
             (&dtype, &values[1]),
             (&dtype, &values[2]),
         ];
-        match view.elements_iter() {
-            Some(items) => gives(checks, "elements_iter", items, &wanted)?,
-            None => checks.holds("elements_iter", false),
+        match view.elements() {
+            Some(items) => gives(checks, "elements", items, &wanted)?,
+            None => checks.holds("elements", false),
         }
     }
     let empty = Scalar::try_new(any.clone()?, tuple(alloc, [])?)?;
-    match empty.as_list().elements_iter() {
-        Some(items) => gives(checks, "elements_iter of none", items, &[])?,
-        None => checks.holds("elements_iter of none", false),
+    match empty.as_list().elements() {
+        Some(items) => gives(checks, "elements of none", items, &[])?,
+        None => checks.holds("elements of none", false),
     }
     let null = Scalar::null(any);
     checks.holds(
-        "elements_iter of null",
-        null.as_list().elements_iter().is_none(),
+        "elements of null",
+        null.as_list().elements().is_none(),
     );
     Ok(())
 }
@@ -91,23 +91,23 @@ fn entries(alloc: Global, checks: &mut Checks<'_>) -> Done {
     let (keys, values) = ([text("b"), text("a")], [number(7), None]);
     let (of_keys, of_values) = (DType::Utf8(WITHOUT), numbers(WITH));
     let view = scalar.as_map();
-    match view.keys_iter() {
+    match view.keys() {
         Some(items) => {
             gives(
                 checks,
-                "keys_iter",
+                "keys",
                 items,
                 &[(&of_keys, &keys[0]), (&of_keys, &keys[1])],
             )?
         }
-        None => checks.holds("keys_iter", false),
+        None => checks.holds("keys", false),
     }
-    match view.values_iter() {
+    match view.values() {
         Some(items) => {
             let wanted = [(&of_values, &values[0]), (&of_values, &values[1])];
-            gives(checks, "values_iter", items, &wanted)?
+            gives(checks, "values", items, &wanted)?
         }
-        None => checks.holds("values_iter", false),
+        None => checks.holds("values", false),
     }
     let Some(mut items) = view.entries() else {
         checks.holds("entries", false);
@@ -143,18 +143,18 @@ fn no_entries(alloc: Global, checks: &mut Checks<'_>) -> Done {
         .is_some_and(|mut it| it.len() == 0 && it.next().is_none());
     checks.holds("entries of none", is_so);
     let is_so = view
-        .keys_iter()
+        .keys()
         .is_some_and(|mut it| it.len() == 0 && it.next().is_none());
-    checks.holds("keys_iter of none", is_so);
+    checks.holds("keys of none", is_so);
     let is_so = view
-        .values_iter()
+        .values()
         .is_some_and(|mut it| it.len() == 0 && it.next().is_none());
-    checks.holds("values_iter of none", is_so);
+    checks.holds("values of none", is_so);
     let null = Scalar::null(dtype);
     let view = null.as_map();
     checks.holds("entries of null", view.entries().is_none());
-    checks.holds("keys_iter of null", view.keys_iter().is_none());
-    checks.holds("values_iter of null", view.values_iter().is_none());
+    checks.holds("keys of null", view.keys().is_none());
+    checks.holds("values of null", view.values().is_none());
     Ok(())
 }
 
