@@ -1,8 +1,8 @@
 //! Integers of all kinds as bytes.
-ghost use Rattle.std.specs.Prelude.{◌≡◌, ◌≤◌, take};
+ghost use Rattle.std.specs.Prelude.{◌≡◌, ◌≤◌, take, drop};
 ghost use Rattle.vortex_dtype_ptype.specs.Numbers.{integral, HasByteWidth};
 ghost use Rattle.vortex_dtype_ptype.specs.View.{number_kind_of};
-ghost use Rattle.vortex_dtype_native.specs.NativeBytes.{AreBytesOf};
+ghost use Rattle.vortex_dtype_native.specs.NativeBytes.{number_of_bytes, AreBytesOf};
 ghost use Rattle.vortex_scalar_value.specs.Numbers.{kind_of_number, integer_of, IsAsWide, HaveSameBytes};
 
 use crate::match_each_pvalue;
@@ -11,24 +11,25 @@ use vortex_dtype_native::by_kind::number_from_le_bytes;
 use vortex_dtype_native::native::NativePType;
 use vortex_dtype_ptype::ptype::PType;
 
-// The bytes of the number, the least first, and how many they are.
+// The bytes of the number, the least first, how many they are, and zeros up to eight.
 #[tactic(auto, using(crate::proofs::Widths::at_most_eight))]
 fn bytes_of<T: NativePType>(number: T) -> ([u8; 8], usize)
     ensures width { HasByteWidth (integral T.kind) result.1 }
     ensures within { result.1 ≤ 8 }
     ensures bytes { AreBytesOf T.kind (T.integer number) (take result.1 result.0) }
+    ensures rest { number_of_bytes (drop result.1 result.0) ≡ 0 }
 {
     number.to_le_bytes()
 }
 
 impl PValue {
-    /// The bytes, the least first, and how many of the eight are the number's. The others say
-    /// nothing.
+    /// The bytes, the least first, and how many of the eight are the number's. The others are zero.
     pub fn to_le_bytes(self) -> ([u8; 8], usize)
         ensures width { HasByteWidth (integral (kind_of_number self)) result.1 }
         ensures within { result.1 ≤ 8 }
         ensures bytes { AreBytesOf (kind_of_number self) (integer_of self)
             (take result.1 result.0) }
+        ensures rest { number_of_bytes (drop result.1 result.0) ≡ 0 }
     {
         match_each_pvalue!(self, bytes_of())
     }
