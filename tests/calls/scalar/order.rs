@@ -8,10 +8,7 @@ use std::alloc::Global;
 use std::cmp::Ordering;
 use std::hash::{DefaultHasher, Hasher};
 use vortex_dtype::{DType, PType};
-use vortex_scalar::{ScalarError, ScalarValue};
-use vortex_scalar_ops::compare::compare_values;
-use vortex_scalar_ops::eq::eq_values;
-use vortex_scalar_ops::hash::hash_value;
+use vortex_scalar::{ScalarError, ScalarValue, compare_values, eq_values, hash_value};
 
 pub fn run(alloc: Global, checks: &mut Checks<'_>) -> Done {
     let groups = groups(alloc)?;

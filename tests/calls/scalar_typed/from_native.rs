@@ -7,8 +7,7 @@ use crate::values::{
 };
 use std::alloc::Global;
 use vortex_dtype::{BufferString, ByteBuffer, DType, PType};
-use vortex_scalar::{Scalar, ScalarError, ScalarValue};
-use vortex_scalar_ops::native_value::NativeValue;
+use vortex_scalar::{NativeValue, Scalar, ScalarError, ScalarValue};
 
 pub fn run(alloc: Global, checks: &mut Checks<'_>) -> Done {
     truths(checks);

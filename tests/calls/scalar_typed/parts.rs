@@ -76,10 +76,7 @@ fn elements(alloc: Global, checks: &mut Checks<'_>) -> Done {
         None => checks.holds("elements of none", false),
     }
     let null = Scalar::null(any);
-    checks.holds(
-        "elements of null",
-        null.as_list().elements().is_none(),
-    );
+    checks.holds("elements of null", null.as_list().elements().is_none());
     Ok(())
 }
 
