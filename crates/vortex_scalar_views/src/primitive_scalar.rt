@@ -75,13 +75,6 @@ impl<'a> PrimitiveScalar<'a> {
         self.dtype
     }
 
-    /// The kind of the numbers, of a view that is given up.
-    pub fn into_ptype(self) -> PType
-        ensures { Some (number_kind_of result) ≡ numbers_in_type (typed_primitive self.entry).0 }
-    {
-        self.dtype.as_ptype()
-    }
-
     /// The kind of the numbers.
     pub fn ptype(&self) -> PType
         ensures { Some (number_kind_of result) ≡ numbers_in_type (typed_primitive self.now).0 }

@@ -200,7 +200,6 @@ fn all_numbers(checks: &mut Checks<'_>) {
                 let has = number.is_none() || target == ptype;
                 checks.holds("try_new of each kind", is_made(answer, has));
             }
-            checks.holds("into_ptype", view.into_ptype() == ptype);
         }
     }
     for ptype in [PType::F16, PType::F32, PType::F64] {
