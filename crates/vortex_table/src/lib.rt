@@ -165,6 +165,14 @@ pub mod expr {
     pub use vortex_stats_set::typed::{MutTypedStatsSetRef, TypedStatsSetRef};
 }
 
+/// Laws of tables, each a function that makes the calls that it speaks of.
+pub mod laws {
+    pub use vortex_table_laws::laws::{
+        Retypes, retype_in_two_steps, scan_around_append, scan_around_compact, scan_by_false,
+        scan_by_true, scan_by_two_lists, scan_two_tables,
+    };
+}
+
 /// The table of chunks, its refusals, what a scan finds, and what is known of a column.
 pub mod table {
     pub use vortex_stats_bound::precision::Precision;

@@ -10,6 +10,7 @@ mod deep;
 mod faults;
 mod groups;
 mod integers;
+mod laws;
 mod layouts;
 mod leaves;
 mod long;
@@ -44,6 +45,9 @@ fn run_all(alloc: Global, checks: &mut Checks<'_>) -> Result<(), TableError> {
     checks.end_part("groups are looked at first");
     leaves::groups_have_bounds_of_bytes(alloc, checks)?;
     checks.end_part("groups have bounds of bytes");
+    laws::scans_keep_their_laws(alloc, checks)?;
+    laws::changes_keep_their_laws(alloc, checks)?;
+    checks.end_part("laws hold of the calls");
     rules::rules_add_proofs(alloc, checks)?;
     checks.end_part("rules add proofs");
     rules::rules_may_be_at_fault(alloc, checks)?;

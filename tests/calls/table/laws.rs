@@ -1,0 +1,81 @@
+//! The laws of tables, with what each of their calls gives.
+
+use crate::checks::Checks;
+use crate::make::{column, filled, integers, number, row, two_columns};
+use std::alloc::{AllocError, Global};
+use vortex_dtype::{DType, FieldPath, Nullability, PType};
+use vortex_table::expr::gt;
+use vortex_table::laws::{
+    retype_in_two_steps, scan_around_append, scan_around_compact, scan_by_false, scan_by_true,
+    scan_by_two_lists, scan_two_tables,
+};
+use vortex_table::table::TableError;
+
+// The path to whole rows.
+fn whole(alloc: Global) -> Result<Vec<FieldPath>, AllocError> {
+    let mut paths = Vec::new(alloc);
+    paths.push(FieldPath::root(alloc))?;
+    Ok(paths)
+}
+
+/// Scans by a boolean, of two tables, and by paths that cover the same.
+pub fn scans_keep_their_laws(alloc: Global, checks: &mut Checks<'_>) -> Result<(), TableError> {
+    let table = filled(alloc)?;
+    let paths = whole(alloc)?;
+    let all = scan_by_true(alloc, &table, &paths)?;
+    checks.holds("by true all rows", all.rows.len() == table.len());
+    let none = scan_by_false(alloc, &table, &paths)?;
+    checks.holds("by false no row", none.rows.is_empty() && none.skipped.len() == 2);
+
+    let other = filled(alloc)?;
+    let above = gt(alloc, column(alloc, "a")?, number(1)?)?;
+    let (one, two) = scan_two_tables(alloc, &table, &other, &paths, &above);
+    checks.holds("two tables", one?.rows == two?.rows);
+
+    let mut named = Vec::new(alloc);
+    named.push(FieldPath::from_names(alloc, &["b"])?)?;
+    named.push(FieldPath::from_names(alloc, &["a"])?)?;
+    let (one, two) = scan_by_two_lists(alloc, &table, &paths, &named, &above);
+    let (one, two) = (one?, two?);
+    checks.holds("two lists", one.rows == two.rows && one.dtype == two.dtype);
+    Ok(())
+}
+
+/// Scans around an append and a compaction, and retypes in two steps and at once.
+pub fn changes_keep_their_laws(alloc: Global, checks: &mut Checks<'_>) -> Result<(), TableError> {
+    let mut table = filled(alloc)?;
+    let paths = whole(alloc)?;
+    let above = gt(alloc, column(alloc, "a")?, number(1)?)?;
+    let mut values = Vec::new(alloc);
+    values.push(row(alloc, 20, None)?)?;
+    values.push(row(alloc, 0, None)?)?;
+    let dtype = two_columns(alloc)?;
+    let (before, appended, after) =
+        scan_around_append(alloc, &mut table, &dtype, &values, &[], &paths, &above);
+    appended?;
+    checks.holds("one row more", before?.rows.len() + 1 == after?.rows.len());
+
+    let (before, compacted, after) = scan_around_compact(alloc, &mut table, &paths, &above);
+    compacted?;
+    let (before, after) = (before?, after?);
+    checks.holds("compacted", before.rows == after.rows && before.skipped == after.skipped);
+
+    let mut direct = filled(alloc)?;
+    let mut stepwise = filled(alloc)?;
+    let through = crate::make::record(
+        alloc,
+        ["x", "y"],
+        DType::Primitive(PType::I64, Nullability::Nullable),
+        DType::Primitive(PType::I32, Nullability::Nullable),
+    )?;
+    let last = crate::make::record(
+        alloc,
+        ["p", "q"],
+        integers(),
+        DType::Primitive(PType::I64, Nullability::Nullable),
+    )?;
+    let all = retype_in_two_steps(alloc, &mut stepwise, &mut direct, through, last)?;
+    checks.holds("each step", all.first.is_ok() && all.second.is_ok() && all.at_once.is_ok());
+    checks.holds("one type", stepwise.dtype() == direct.dtype());
+    Ok(())
+}
