@@ -3,7 +3,7 @@ ghost use Rattle.std.specs.Prelude.{◌≡◌, length, map, IfOk, option_map, op
 ghost use Rattle.std.specs.List.{zip};
 ghost use Rattle.vortex_model.specs.LogicalType.{no_fields};
 ghost use Rattle.vortex_model.specs.Path.{position_named, field_at};
-ghost use Rattle.vortex_dtype_core.specs.View.{type_of, fields_in, fields_of, fields_from, items_of};
+ghost use Rattle.vortex_dtype_core.specs.View.{type_of, field_of, fields_in, fields_of, fields_from, items_of};
 ghost use Rattle.vortex_dtype_core.specs.Parts.{field_count, name_at};
 
 use crate::dtype::DType;
@@ -128,5 +128,16 @@ impl Clone for StructFields {
     fn clone(&self) -> Result<StructFields, AllocError> {
         let fields = self.fields.clone()?;
         Ok(StructFields { fields })
+    }
+}
+
+impl Clone for StructField {
+    ghost is_clone = { λ old new. field_of new ≡ field_of old };
+
+    #[tactic(auto, using(crate::proofs::Views::built))]
+    fn clone(&self) -> Result<StructField, AllocError> {
+        let name = self.name.clone()?;
+        let dtype = self.dtype.clone()?;
+        Ok(StructField { name, dtype })
     }
 }

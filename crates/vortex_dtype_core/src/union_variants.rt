@@ -2,7 +2,7 @@
 ghost use Rattle.std.specs.List.{zip};
 ghost use Rattle.std.specs.Prelude.{◌≡◌, ◌≢◌, ◌==◌, length, map, not, IfOk, OnOk, IfErr, IsTrue, false};
 ghost use Rattle.vortex_dtype_ptype.specs.declared.error.DTypeError.TheVariants.{Memory, UnionShape};
-ghost use Rattle.vortex_dtype_core.specs.View.{type_of, variants_in, variants_of, variants_from, variant_items_of};
+ghost use Rattle.vortex_dtype_core.specs.View.{type_of, variant_of, variants_in, variants_of, variants_from, variant_items_of};
 ghost use Rattle.vortex_dtype_core.specs.Parts.{variant_count, is_union_shape, is_distinct};
 
 use crate::dtype::DType;
@@ -110,6 +110,21 @@ impl Clone for UnionVariants {
     fn clone(&self) -> Result<UnionVariants, AllocError> {
         let variants = self.variants.clone()?;
         Ok(UnionVariants { variants })
+    }
+}
+
+impl Clone for UnionVariant {
+    ghost is_clone = { λ old new. variant_of new ≡ variant_of old };
+
+    #[tactic(auto, using(crate::proofs::Views::built))]
+    fn clone(&self) -> Result<UnionVariant, AllocError> {
+        let name = self.name.clone()?;
+        let dtype = self.dtype.clone()?;
+        Ok(UnionVariant {
+            name,
+            tag: self.tag,
+            dtype,
+        })
     }
 }
 

@@ -1,5 +1,5 @@
 -- The integers that store decimals.
-use Rattle.std.specs.Prelude.{ℕ, ℤ, ◌-◌, ◌^◌, ◌≤◌, ◌&&◌, nat_le, Bool, List, codes}
+use Rattle.std.specs.Prelude.{ℕ, ℤ, ◌-◌, ◌^◌, ◌≤◌, ◌&&◌, nat_le, Bool}
 use Rattle.vortex_dtype_ptype.specs.Numbers.{is_decimal_shape}
 use Rattle.vortex_dtype_decimal.specs.declared.decimal_type.DecimalType.{DecimalType}
 use Rattle.vortex_dtype_decimal.specs.declared.decimal_type.DecimalType.TheVariants as stored
@@ -29,12 +29,3 @@ pub record IsSmallest (digits : ℕ) (t : DecimalType) : Type 0 where
 abbrev pub is_held_shape : DecimalType → ℕ → ℤ → Bool
 is_held_shape t precision scale =
     is_decimal_shape precision scale && nat_le (10 ^ precision - 1) (greatest_value t)
-
--- the name in lower case
-abbrev pub name_of_type : DecimalType → List ℕ
-name_of_type stored.I8 = codes "i8"
-name_of_type stored.I16 = codes "i16"
-name_of_type stored.I32 = codes "i32"
-name_of_type stored.I64 = codes "i64"
-name_of_type stored.I128 = codes "i128"
-name_of_type stored.I256 = codes "i256"

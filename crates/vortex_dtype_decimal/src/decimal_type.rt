@@ -1,11 +1,10 @@
 //! Which integers store a decimal.
-ghost use Rattle.std.specs.Prelude.{◌≡◌, ◌*◌, ◌↔◌, IsTrue, IfOk, IfErr, Some, false};
+ghost use Rattle.std.specs.Prelude.{◌≡◌, ◌*◌, ◌↔◌, IsTrue, IfOk, IfErr, false};
 ghost use Rattle.vortex_dtype_ptype.specs.declared.error.DTypeError.TheVariants.{DecimalShape};
 ghost use Rattle.vortex_dtype_ptype.specs.Numbers.{HasBitWidth, is_signed};
 ghost use Rattle.vortex_dtype_ptype.specs.View.{number_kind_of};
-ghost use Rattle.vortex_dtype_decimal.specs.DecimalValues.{HoldsDigits, IsSmallest, bits_of, name_of_type};
+ghost use Rattle.vortex_dtype_decimal.specs.DecimalValues.{HoldsDigits, IsSmallest, bits_of};
 
-use std::fmt;
 use vortex_dtype_ptype::decimal::DecimalDType;
 use vortex_dtype_ptype::error::DTypeError;
 use vortex_dtype_ptype::ptype::PType;
@@ -58,29 +57,6 @@ impl DecimalType {
         ensures { IsTrue result ↔ HoldsDigits dtype.precision self }
     {
         DecimalType::smallest_decimal_value_type(&dtype).byte_width() <= self.byte_width()
-    }
-
-    /// The name in lower case, as `i8`.
-    pub fn as_str(self) -> &'static str
-        ensures { result.now ≡ name_of_type self }
-    {
-        match self {
-            DecimalType::I8 => "i8",
-            DecimalType::I16 => "i16",
-            DecimalType::I32 => "i32",
-            DecimalType::I64 => "i64",
-            DecimalType::I128 => "i128",
-            DecimalType::I256 => "i256",
-        }
-    }
-}
-
-/// The name in lower case.
-impl fmt::Display for DecimalType {
-    ghost output = { λ t. Some (name_of_type t) };
-
-    fn fmt<W: fmt::Write>(&self, f: &mut fmt::Formatter<W>) -> fmt::Result {
-        f.write_str(self.as_str())
     }
 }
 

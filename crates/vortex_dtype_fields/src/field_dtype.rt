@@ -1,6 +1,7 @@
 //! The types of fields, one after the other.
-ghost use Rattle.std.specs.Prelude.{◌≡◌, map, IfOk};
-ghost use Rattle.std.specs.Iterator.{YieldsFirstBy, YieldsFirstRef, item_count};
+ghost use Rattle.std.specs.Prelude.{◌≡◌, map, length, Some, IfOk, IfSome};
+ghost use Rattle.std.specs.Iterator.{YieldsFirstBy, YieldsFirstRef, UpTo, item_count};
+ghost use Rattle.std.specs.Iterator.SizeHint.{IsWithinCount};
 ghost use Rattle.vortex_dtype_core.specs.View.{type_of, fields_of};
 ghost use Rattle.vortex_dtype_fields.specs.Records.{types_of};
 
@@ -70,7 +71,11 @@ impl<'a> Iterator for FieldTypesIter<'a> {
         Some(&first.dtype)
     }
 
-    fn size_hint(&self) -> (usize, Option<usize>) {
+    fn size_hint(&self) -> (usize, Option<usize>)
+        ensures lower { IsWithinCount result.0 (item_count types_left self.now) }
+        ensures upper { IfSome result.1 (UpTo (item_count types_left self.now)) }
+        ensures exact { (result.0 ≡ length (types_left self.now)) × (result.1 ≡ Some result.0) }
+    {
         let len = self.fields.len();
         (len, Some(len))
     }
@@ -112,9 +117,12 @@ impl<'a> Iterator for FieldDTypesIter<'a> {
         Some(FieldDType { dtype })
     }
 
-    fn size_hint(&self) -> (usize, Option<usize>) {
-        let len = self.types.len();
-        (len, Some(len))
+    fn size_hint(&self) -> (usize, Option<usize>)
+        ensures lower { IsWithinCount result.0 (item_count dtypes_left self.now) }
+        ensures upper { IfSome result.1 (UpTo (item_count dtypes_left self.now)) }
+        ensures exact { (result.0 ≡ length (dtypes_left self.now)) × (result.1 ≡ Some result.0) }
+    {
+        self.types.size_hint()
     }
 }
 

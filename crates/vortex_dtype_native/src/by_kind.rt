@@ -1,11 +1,11 @@
 //! What is done by the type of a kind that is known only when the program runs.
-ghost use Rattle.std.specs.Prelude.{◌≡◌, ◌↔◌, IfOk, IfErr, IsTrue, length};
+ghost use Rattle.std.specs.Prelude.{◌≡◌, IfOk, IfErr, IsTrue, length};
 ghost use Rattle.vortex_dtype_ptype.specs.declared.error.DTypeError.TheVariants.{Length};
-ghost use Rattle.vortex_dtype_ptype.specs.Numbers.{integral, is_integral, is_signed, is_unsigned, HasByteWidth, Has, IsGreatest};
+ghost use Rattle.vortex_dtype_ptype.specs.Numbers.{integral, is_integral, HasByteWidth, Has};
 ghost use Rattle.vortex_dtype_ptype.specs.View.{number_kind_of};
 ghost use Rattle.vortex_dtype_native.specs.NativeBytes.{AreBytesOf, AreBytesOfKind};
 
-use crate::native::{IntegerPType, NativePType};
+use crate::native::NativePType;
 use vortex_dtype_ptype::error::DTypeError;
 use vortex_dtype_ptype::ptype::PType;
 
@@ -90,42 +90,4 @@ pub fn number_from_le_bytes(ptype: PType, bytes: &[u8]) -> Result<i128, DTypeErr
         (length bytes.now)) }
 {
     match_each_native_ptype!(ptype, number_of(bytes))
-}
-
-/// Whether `T` has the number.
-fn has_number<T: NativePType>(number: i128) -> bool
-    ensures { IsTrue result ↔ Has (integral T.kind) number }
-{
-    T::of(number).is_some()
-}
-
-/// Whether the kind has the number.
-pub fn holds_number(ptype: PType, number: i128) -> bool
-    requires { IsTrue (is_integral (number_kind_of ptype)) }
-    ensures { IsTrue result ↔ Has (number_kind_of ptype) number }
-{
-    match_each_integer_ptype!(ptype, has_number(number))
-}
-
-/// The greatest number that `T` has.
-fn greatest<T: IntegerPType>() -> u64
-    ensures { IsGreatest (integral T.kind) result }
-{
-    T::max_value_as_u64()
-}
-
-/// The greatest number of a kind of unsigned integers.
-pub fn greatest_unsigned(ptype: PType) -> u64
-    requires { IsTrue (is_unsigned (number_kind_of ptype)) }
-    ensures { IsGreatest (number_kind_of ptype) result }
-{
-    match_each_unsigned_integer_ptype!(ptype, greatest())
-}
-
-/// The greatest number of a kind of signed integers.
-pub fn greatest_signed(ptype: PType) -> u64
-    requires { IsTrue (is_signed (number_kind_of ptype)) }
-    ensures { IsGreatest (number_kind_of ptype) result }
-{
-    match_each_signed_integer_ptype!(ptype, greatest())
 }

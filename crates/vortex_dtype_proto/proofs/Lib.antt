@@ -5,3 +5,4 @@ pub mod Plugins
 pub mod Readings
 pub mod Rows
 pub mod Shaped
+pub mod Shapings

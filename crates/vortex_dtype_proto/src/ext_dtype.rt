@@ -137,6 +137,8 @@ impl<V: ExtVTable + Default> ExtDType<V> {
     pub fn try_new(metadata: V::Metadata, storage: DType) -> Result<ExtDType<V>, DTypeError>
         ensures made { IfOk result (λ made. V.is_default made.vtable × (made.metadata ≡ metadata)
             × (made.storage ≡ storage)) }
+        ensures accepted { IfOk result
+            (λ made. IsTrue (V.fits made.vtable metadata (type_of storage))) }
         ensures refused { IfErr result (λ e. (e ≡ Plugin)
             × ((v : V) × V.is_default v × (V.fits v metadata (type_of storage) ≡ false))) }
     {

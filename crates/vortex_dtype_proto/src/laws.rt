@@ -4,7 +4,7 @@ ghost use Rattle.std.specs.Prelude.{◌≡◌, ◌≢◌, ◌&&◌, length, map,
 ghost use Rattle.std.specs.List.{zip};
 ghost use Rattle.vortex_model.specs.LogicalType.{decimal, mapping, union, nullable, non_nullable, nullability_of};
 ghost use Rattle.vortex_dtype_ptype.specs.View.{nullability_of_flag};
-ghost use Rattle.vortex_dtype_ptype.specs.declared.error.DTypeError.TheVariants.{Memory, Malformed, MapShape, UnionShape};
+ghost use Rattle.vortex_dtype_ptype.specs.declared.error.DTypeError.TheVariants.{Memory, MapShape, UnionShape};
 ghost use Rattle.vortex_dtype_core.specs.View.{type_of, variants_from};
 ghost use Rattle.vortex_dtype_core.specs.Parts.{is_union_shape};
 ghost use Rattle.vortex_dtype_proto.specs.Laws.{ReadTypesAreShaped, WrittenTreesReadAlike};
@@ -38,17 +38,16 @@ pub fn read_types_are_shaped()
 {}
 
 /// What `to_proto` writes, and the type that `from_proto` reads from it in a session without
-/// plugins: the same type. `Malformed` where the type isn't shaped, which no type is that calls
-/// make: `decimals_are_shaped`, `maps_are_shaped` and `unions_are_shaped` say so of the three kinds
-/// that have a condition of their own.
+/// plugins: the same type. Only want of memory refuses either call. `is_shaped` tests the
+/// condition, which each type meets that calls make: `decimals_are_shaped`, `maps_are_shaped`,
+/// `unions_are_shaped` and `read_types_are_shaped` say so.
 pub fn written_types_are_read(alloc: Global, dtype: &DType) -> Result<(Message, DType), DTypeError>
+    requires { IsTrue (is_shaped (type_of dtype.now)) }
     ensures written { IfOk result (λ both. tree_of both.0 ≡ written (type_of dtype.now)) }
     ensures read { IfOk result
         (λ both. reading no_plugins (tree_of both.0) ≡ read (type_of both.1)) }
     ensures alike { IfOk result (λ both. type_of both.1 ≡ type_of dtype.now) }
-    ensures shaped { OnOk result (IsTrue (is_shaped (type_of dtype.now))) }
-    ensures refused { IfErr result (λ e. e ≢ Memory
-        → (e ≡ Malformed) × (is_shaped (type_of dtype.now) ≡ false)) }
+    ensures refused { IfErr result (λ e. e ≡ Memory) }
 {
     let message = to_proto(alloc, dtype)?;
     let again = read_without_plugins(alloc, &message)?;

@@ -11,5 +11,6 @@ mod nodes;
 pub mod plugin;
 pub mod read;
 pub mod session;
+pub mod shape_test;
 pub mod vtable;
 pub mod write;

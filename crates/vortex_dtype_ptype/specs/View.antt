@@ -16,11 +16,6 @@ nullability_of_flag flag.Nullable = nullable
 abbrev pub is_nullable_flag : outer.Nullability → Bool
 is_nullable_flag n = is_nullable (nullability_of_flag n)
 
--- what stands behind the name of a type
-abbrev pub mark_of_flag : outer.Nullability → List ℕ
-mark_of_flag flag.NonNullable = codes ""
-mark_of_flag flag.Nullable = codes "?"
-
 abbrev pub number_kind_of : PType → NumberKind
 number_kind_of ptype.U8 = integral u8
 number_kind_of ptype.U16 = integral u16

@@ -1,5 +1,5 @@
 //! Decimals as a type: how many digits they have, and how many of these stand behind the point.
-ghost use Rattle.std.specs.Prelude.{◌≡◌, IfOk, OnOk, IfErr, IsTrue, false};
+ghost use Rattle.std.specs.Prelude.{◌≡◌, IfOk, OnOk, IfErr, IsTrue, false, pos};
 ghost use Rattle.vortex_dtype_ptype.specs.declared.error.DTypeError.TheVariants.{DecimalShape};
 ghost use Rattle.vortex_dtype_ptype.specs.Numbers.{IsBitsOfDigits, is_decimal_shape};
 
@@ -27,6 +27,7 @@ impl DecimalDType {
         ensures accepted { OnOk result (IsTrue (is_decimal_shape precision scale)) }
         ensures refused { IfErr result (λ e. (e ≡ DecimalShape)
             × (is_decimal_shape precision scale ≡ false)) }
+        ensures limits { (MAX_PRECISION ≡ 76) × (MAX_SCALE ≡ pos 76) }
     {
         if precision < 1 || precision > MAX_PRECISION {
             return Err(DTypeError::DecimalShape);

@@ -1,11 +1,13 @@
 //! The iterators of names. Each is seen as the list of the names that are left.
-ghost use Rattle.std.specs.Prelude.{◌≡◌};
-ghost use Rattle.std.specs.Iterator.{YieldsFirst, YieldsFirstRef, item_count};
+ghost use Rattle.std.specs.Prelude.{◌≡◌, ◌++◌, length, Some, IfSome, OnOk};
+ghost use Rattle.std.specs.Iterator.{YieldsFirst, YieldsFirstRef, UpTo, item_count};
+ghost use Rattle.std.specs.Iterator.SizeHint.{IsWithinCount};
 
 use crate::field_names::FieldName;
+use std::alloc::AllocError;
+use std::collections::VecDeque;
 use std::iter::ExactSizeIterator;
 use std::marker::Model;
-use std::vec;
 
 /// Names one after the other, as Vortex's `FieldNamesIter`.
 #[derive(Drop)]
@@ -42,7 +44,11 @@ impl<'a> Iterator for FieldNamesIter<'a> {
         Some(first)
     }
 
-    fn size_hint(&self) -> (usize, Option<usize>) {
+    fn size_hint(&self) -> (usize, Option<usize>)
+        ensures lower { IsWithinCount result.0 (item_count (λ rest. rest) self.now) }
+        ensures upper { IfSome result.1 (UpTo (item_count (λ rest. rest) self.now)) }
+        ensures exact { (result.0 ≡ length self.now) × (result.1 ≡ Some result.0) }
+    {
         let len = self.names.len();
         (len, Some(len))
     }
@@ -57,16 +63,15 @@ impl<'a> ExactSizeIterator for FieldNamesIter<'a> {
 /// Names one after the other, by value, as Vortex's `FieldNamesIntoIter`.
 #[derive(Drop)]
 pub struct FieldNamesIntoIter {
-    names: vec::IntoIter<FieldName>,
+    names: VecDeque<FieldName>,
 }
 
 impl Model for FieldNamesIntoIter {
     ghost use Rattle.std.specs.Prelude.{ℕ, List};
-    ghost use Rattle.std.specs.Vec.Iter.{into_iter_items};
 
     ghost Value = { List (List ℕ) };
 
-    ghost view = { λ rest. into_iter_items rest.names };
+    ghost view = { λ rest. rest.names.items };
 }
 
 impl FieldNamesIntoIter {
@@ -74,8 +79,21 @@ impl FieldNamesIntoIter {
         ensures { result ≡ names.items }
     {
         FieldNamesIntoIter {
-            names: names.into_iter(),
+            names: VecDeque::from_vec(names),
         }
+    }
+}
+
+/// The clone has the names that are left.
+impl Clone for FieldNamesIntoIter {
+    ghost is_clone = { λ old new. new ≡ old };
+
+    fn clone(&self) -> Result<FieldNamesIntoIter, AllocError> {
+        let mut names = Vec::with_capacity(*self.names.allocator(), self.names.len())?;
+        let (front, back) = self.names.as_slices();
+        push_copies(&mut names, front)?;
+        push_copies(&mut names, back)?;
+        Ok(FieldNamesIntoIter::new(names))
     }
 }
 
@@ -87,12 +105,16 @@ impl Iterator for FieldNamesIntoIter {
     ghost remaining = { item_count (λ rest. rest) };
 
     fn next(&mut self) -> Option<FieldName> {
-        self.names.next()
+        self.names.pop_front()
     }
 
-    fn size_hint(&self) -> (usize, Option<usize>) {
-        let len = self.names.len();
-        (len, Some(len))
+    fn size_hint(&self) -> (usize, Option<usize>)
+        ensures lower { IsWithinCount result.0 (item_count (λ rest. rest) self.now) }
+        ensures upper { IfSome result.1 (UpTo (item_count (λ rest. rest) self.now)) }
+        ensures exact { (result.0 ≡ length self.now) × (result.1 ≡ Some result.0) }
+    {
+        let left = self.names.len();
+        (left, Some(left))
     }
 }
 
@@ -100,4 +122,13 @@ impl ExactSizeIterator for FieldNamesIntoIter {
     fn len(&self) -> usize {
         self.names.len()
     }
+}
+
+fn push_copies(names: &mut Vec<FieldName>, more: &[FieldName]) -> Result<(), AllocError>
+    ensures { OnOk result (names.new.items ≡ names.old.items ++ more.now) }
+{
+    for name in more {
+        names.push(name.clone()?)?;
+    }
+    Ok(())
 }

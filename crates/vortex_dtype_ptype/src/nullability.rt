@@ -1,9 +1,8 @@
 //! Whether a column may hold null.
-ghost use Rattle.std.specs.Prelude.{◌≡◌, Some};
+ghost use Rattle.std.specs.Prelude.{◌≡◌};
 ghost use Rattle.vortex_model.specs.LogicalType.{either_nullable, is_nullable};
-ghost use Rattle.vortex_dtype_ptype.specs.View.{nullability_of_flag, is_nullable_flag, mark_of_flag};
+ghost use Rattle.vortex_dtype_ptype.specs.View.{nullability_of_flag, is_nullable_flag};
 
-use std::fmt;
 use std::ops::{BitOr, BitOrAssign};
 
 /// Whether null is among a type's values, as Vortex's `Nullability`.
@@ -49,18 +48,6 @@ impl BitOrAssign for Nullability {
 
     fn bitor_assign(&mut self, other: Nullability) {
         *self = *self | other;
-    }
-}
-
-/// A question mark where null is a value, else nothing.
-impl fmt::Display for Nullability {
-    ghost output = { λ n. Some (mark_of_flag n) };
-
-    fn fmt<W: fmt::Write>(&self, f: &mut fmt::Formatter<W>) -> fmt::Result {
-        match self {
-            Nullability::NonNullable => f.write_str(""),
-            Nullability::Nullable => f.write_str("?"),
-        }
     }
 }
 

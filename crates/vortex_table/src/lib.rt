@@ -9,7 +9,7 @@
 pub mod dtype {
     pub use vortex_dtype_core::dtype::DType;
     pub use vortex_dtype_core::extension::ExtDTypeRef;
-    pub use vortex_dtype_core::map_dtype::{MapDType, MapEntries};
+    pub use vortex_dtype_core::map_dtype::MapDType;
     pub use vortex_dtype_core::struct_fields::{StructField, StructFields};
     pub use vortex_dtype_core::union_variants::{UnionVariant, UnionVariants};
     pub use vortex_dtype_core::{BufferString, ByteBuffer};
@@ -47,6 +47,7 @@ pub mod dtype {
     pub use vortex_dtype_proto::plugin::ExtDTypePlugin;
     pub use vortex_dtype_proto::read::from_proto;
     pub use vortex_dtype_proto::session::DTypeSession;
+    pub use vortex_dtype_proto::shape_test::is_shaped;
     pub use vortex_dtype_proto::vtable::{CloneExtVTable, ExtVTable};
     pub use vortex_dtype_proto::write::to_proto;
     pub use vortex_dtype_ptype::decimal::{DecimalDType, MAX_PRECISION, MAX_SCALE};

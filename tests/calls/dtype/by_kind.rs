@@ -5,9 +5,7 @@ use vortex_dtype::{
     DTypeError, IntegerPType, NativePType, PType, UnsignedPType, match_each_integer_ptype,
     match_each_native_ptype, match_each_signed_integer_ptype, match_each_unsigned_integer_ptype,
 };
-use vortex_dtype_native::by_kind::{
-    greatest_signed, greatest_unsigned, holds_number, number_from_le_bytes,
-};
+use vortex_dtype_native::by_kind::number_from_le_bytes;
 
 /// Each kind of integers, the least number of it, and the greatest.
 const KINDS: [(PType, i128, i128); 8] = [
@@ -41,6 +39,15 @@ fn ones<T: IntegerPType>(number: i128) -> u32 {
     }
 }
 
+/// Whether these are the least and the greatest number of `T`.
+fn has_just<T: IntegerPType>(least: i128, most: i128) -> bool {
+    T::of(least).is_some()
+        && T::of(most).is_some()
+        && T::of(least - 1).is_none()
+        && T::of(most + 1).is_none()
+        && i128::from(T::max_value_as_u64()) == most
+}
+
 /// The kind of `T`.
 fn kind_of<T: IntegerPType>() -> PType {
     T::ptype()
@@ -58,26 +65,14 @@ pub fn run(checks: &mut Checks<'_>) -> Result<(), DTypeError> {
         checks.holds("match_each_native_ptype", found == 7 * sign);
         let found = match_each_integer_ptype!(ptype, ones(7));
         checks.holds("match_each_integer_ptype", found == 3);
-        checks.holds(
-            "holds_number",
-            holds_number(ptype, least) && holds_number(ptype, most),
-        );
-        checks.holds("holds_number below", !holds_number(ptype, least - 1));
-        checks.holds("holds_number above", !holds_number(ptype, most + 1));
+        let has_all = match_each_integer_ptype!(ptype, has_just(least, most));
+        checks.holds("NativePType::of", has_all);
         if ptype.is_unsigned_int() {
             let found = match_each_unsigned_integer_ptype!(ptype, unsigned_kind_of());
             checks.holds("match_each_unsigned_integer_ptype", found == ptype);
-            checks.holds(
-                "greatest_unsigned",
-                i128::from(greatest_unsigned(ptype)) == most,
-            );
         } else {
             let found = match_each_signed_integer_ptype!(ptype, kind_of());
             checks.holds("match_each_signed_integer_ptype", found == ptype);
-            checks.holds(
-                "greatest_signed",
-                i128::from(greatest_signed(ptype)) == most,
-            );
         }
     }
     bytes(checks)

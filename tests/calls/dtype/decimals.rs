@@ -8,15 +8,15 @@ use vortex_dtype::{
     NativeDecimalType, PType, PrecisionScale,
 };
 
-/// Each type of integers, how many bytes a value takes, its name, and the most digits of which it
-/// has each number.
-const TYPES: [(DecimalType, usize, &str, u8); 6] = [
-    (DecimalType::I8, 1, "i8", 2),
-    (DecimalType::I16, 2, "i16", 4),
-    (DecimalType::I32, 4, "i32", 9),
-    (DecimalType::I64, 8, "i64", 18),
-    (DecimalType::I128, 16, "i128", 38),
-    (DecimalType::I256, 32, "i256", 76),
+/// Each type of integers, how many bytes a value takes, and the most digits of which it has each
+/// number.
+const TYPES: [(DecimalType, usize, u8); 6] = [
+    (DecimalType::I8, 1, 2),
+    (DecimalType::I16, 2, 4),
+    (DecimalType::I32, 4, 9),
+    (DecimalType::I64, 8, 18),
+    (DecimalType::I128, 16, 38),
+    (DecimalType::I256, 32, 76),
 ];
 
 pub fn run(alloc: Global, checks: &mut Checks<'_>) -> Result<(), DTypeError> {
@@ -34,11 +34,8 @@ pub fn run(alloc: Global, checks: &mut Checks<'_>) -> Result<(), DTypeError> {
 
 fn each_type(alloc: Global, checks: &mut Checks<'_>) -> Result<(), DTypeError> {
     let mut least = 1;
-    for (stored, bytes, name, most) in TYPES {
+    for (stored, bytes, most) in TYPES {
         checks.holds("DecimalType::byte_width", stored.byte_width() == bytes);
-        checks.holds("DecimalType::as_str", stored.as_str() == name);
-        let shown = format!(in alloc; "{stored}")?;
-        checks.holds("DecimalType display", shown.as_str() == name);
         let copied = stored.clone()?;
         checks.holds("DecimalType clone", copied == stored);
         for precision in [least, most] {
@@ -48,7 +45,7 @@ fn each_type(alloc: Global, checks: &mut Checks<'_>) -> Result<(), DTypeError> {
                 "DecimalType::smallest_decimal_value_type",
                 smallest == stored,
             );
-            for (other, width, _, _) in TYPES {
+            for (other, width, _) in TYPES {
                 let fits = other.is_compatible_decimal_value_type(dtype);
                 checks.holds(
                     "DecimalType::is_compatible_decimal_value_type",

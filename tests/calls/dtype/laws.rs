@@ -6,7 +6,7 @@ use crate::trees::{extended, leaf, leaf_or_null, node};
 use std::alloc::Global;
 use vortex_dtype::{
     DType, DTypeError, DTypeExt, DTypeSession, DecimalDType, FieldPath, FieldPathSet, MessageKind,
-    Nullability, PType, StructFieldsExt, UnionVariantsExt, from_proto,
+    Nullability, PType, StructFieldsExt, UnionVariantsExt, from_proto, is_shaped,
 };
 use vortex_dtype_path::laws::{coverage_tells_iteration, field_path_is_of_its_names};
 use vortex_dtype_proto::laws::{
@@ -182,7 +182,7 @@ fn messages(alloc: Global, checks: &mut Checks<'_>) -> Result<(), DTypeError> {
 
 fn is_read_again(alloc: Global, dtype: &DType) -> Result<bool, DTypeError> {
     let (_, again) = written_types_are_read(alloc, dtype)?;
-    Ok(again == *dtype)
+    Ok(is_shaped(dtype) && again == *dtype)
 }
 
 fn shapes(alloc: Global, checks: &mut Checks<'_>) -> Result<(), DTypeError> {

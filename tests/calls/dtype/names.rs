@@ -157,6 +157,9 @@ fn by_value(alloc: Global, checks: &mut Checks<'_>) -> Result<(), DTypeError> {
     );
     checks.holds("FieldNamesIntoIter::next", gives_own(&mut rest, "x"));
     checks.holds("FieldNamesIntoIter::len", rest.len() == 1);
+    let mut copied = rest.clone()?;
+    checks.holds("FieldNamesIntoIter clone", gives_own(&mut copied, "y"));
+    checks.holds("FieldNamesIntoIter clone's end", copied.next().is_none());
     checks.holds("FieldNamesIntoIter::next again", gives_own(&mut rest, "y"));
     checks.holds("FieldNamesIntoIter::next at the end", rest.next().is_none());
     Ok(())

@@ -29,8 +29,6 @@ pub fn run(alloc: Global, checks: &mut Checks<'_>) -> Result<(), DTypeError> {
     checks.holds("from false", Nullability::from(false) == WITHOUT);
     checks.holds("into bool", bool::from(WITH));
     checks.holds("into bool of none", !bool::from(WITHOUT));
-    let shown = format!(in alloc; "{WITH}|{WITHOUT}|")?;
-    checks.holds("display", shown.as_str() == "?||");
     let shown = format!(in alloc; "{WITH:?} {WITHOUT:?}")?;
     checks.holds("debug", shown.as_str() == "Nullable NonNullable");
     checks.holds("ne", WITH != WITHOUT);

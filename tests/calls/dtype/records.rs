@@ -51,6 +51,11 @@ fn made(alloc: Global, checks: &mut Checks<'_>) -> Result<(), DTypeError> {
         "from_fields",
         are_fields(&made, &["x", "y"], &[number(PType::U8), DType::Null]),
     );
+    let copied = made.as_slice()[0].clone()?;
+    checks.holds(
+        "StructField clone",
+        copied.name.eq_text("x") && copied.dtype == number(PType::U8),
+    );
     let none: Vec<FieldDType<'_>> = Vec::new(alloc);
     let made: StructFields = StructFieldsExt::from_fields(names(alloc, &[])?, none)?;
     checks.holds("from_fields of none", are_fields(&made, &[], &[]));

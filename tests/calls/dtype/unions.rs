@@ -68,6 +68,9 @@ fn asked(alloc: Global, checks: &mut Checks<'_>) -> Result<(), DTypeError> {
         "type_ids",
         sample.type_ids(alloc)?.as_slice() == [5, -128, 0].as_slice(),
     );
+    let copied = sample.as_slice()[1].clone()?;
+    let is_same = copied.tag == -128 && copied.dtype == sample.as_slice()[1].dtype;
+    checks.holds("UnionVariant clone", is_same && copied.name.eq_text("b"));
     let a = name(alloc, "a")?;
     let b = name(alloc, "b")?;
     let c = name(alloc, "c")?;
