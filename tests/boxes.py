@@ -9,15 +9,14 @@ low to its high, makes the predicate true. A chunk that has all bounds has to be
 where its box is hopeless, if no column stands twice in the predicate and its tests are
 comparisons, BETWEENs with their ends, null tests, LIKEs of a text or of a beginning and truth
 values, joined by AND and OR. So each session makes a table of small types in many small chunks,
-joins some groups and retypes now and then, and asks for many predicates; what a box admits is
-tried value by value here.
+joins some groups and retypes now and then, and asks for many predicates, in lines of every
+spelling; what a box admits is tried value by value here.
 
 Of truth values and integers all values of a box are tried. Of texts and bytes, of which a box
 holds no end, all short ones over a small alphabet are, with the bounds and the literals.
 The last line is 'N passed, M failed', counted in sessions; the status is 0 if none failed.
 """
 import argparse
-import importlib.util
 import itertools
 import json
 import os
@@ -26,6 +25,10 @@ import subprocess
 import sys
 
 sys.dont_write_bytecode = True
+# The plain program beside this one, for its shortened bounds.
+import reference as plain
+from spellings import spelled
+
 HERE = os.path.dirname(os.path.abspath(__file__))
 CHUNKS, SCANS = 40, 25
 LETTERS = ("a", "b", "\x7f", "é", "\U0010ffff")
@@ -40,17 +43,6 @@ COMPARISONS = {
 }
 
 
-def reference():
-    """The plain program beside this one, for its shortened bounds."""
-    spec = importlib.util.spec_from_file_location("reference", os.path.join(HERE, "reference.py"))
-    made = importlib.util.module_from_spec(spec)
-    spec.loader.exec_module(made)
-    return made
-
-
-PLAIN = reference()
-
-
 def strings(items):
     """All strings of up to two of the items."""
     found = [items[0][:0]]
@@ -63,7 +55,7 @@ ALL = {"utf8": strings(LETTERS), "binary": strings(BYTES)}
 
 
 # What values of one kind are compared by: texts by their bytes.
-order = PLAIN.in_order
+order = plain.in_order
 
 
 class Column:
@@ -96,7 +88,7 @@ class Column:
             return None
         low, high = values[0], values[-1]
         if self.kind in ALL:
-            low, high = PLAIN.low(low, self.length), PLAIN.high(high, self.length)
+            low, high = plain.low(low, self.length), plain.high(high, self.length)
         return None if high is None else (low, high)
 
     def choices(self, bounds, near):
@@ -244,7 +236,7 @@ class Session:
     """A table in many small chunks, and predicates on it."""
 
     def __init__(self, seed):
-        draw = random.Random(seed)
+        self.draw = draw = random.Random(seed)
         self.columns = [Column(draw, name) for name in "abcd"]
         dtype = self.dtype()
         lengths = [[[it.name], it.length] for it in self.columns]
@@ -275,7 +267,7 @@ class Session:
         return {"kind": "struct", "names": names, "children": children}
 
     def text(self):
-        return "".join(json.dumps(it) + "\n" for it in self.lines).encode()
+        return "".join(spelled(self.draw, it) + "\n" for it in self.lines).encode()
 
     def check(self, output):
         """How many boxes were compared, and what is wrong, if anything is."""

@@ -3,10 +3,10 @@
 
 cuts.py [PROGRAM]    PROGRAM is crates/colscan/out/colscan, which `rt ci` and `rt run` leave there
 
-The session is that of tests/calls/table_run, which tries these cases in memory, with a flush that
-fails too: on the program's own output no flush can fail. Reads are of at most one byte, of at most
-two, and so on; the input ends at each of its bytes; and each read, of seven bytes, and each write,
-of one, fails or takes nothing.
+The session is tests/lines/every_command, for which tests/calls/table_run tries these cases in
+memory, with a flush that fails too: on the program's own output no flush can fail. Reads are of at
+most one byte, of at most two, and so on; the input ends at each of its bytes; and each read, of
+seven bytes, and each write, of one, fails or takes nothing.
 
 A library stands before the C library's `read` and `write`, and cuts them. Before `main` it forks a
 child for each case, since some thousands of new processes would take longer than what they do. The
@@ -17,9 +17,7 @@ is 0 if none failed.
 """
 import collections
 import errno
-import json
 import os
-import re
 import struct
 import subprocess
 import sys
@@ -30,7 +28,7 @@ from preload import make_library, read_file, write_file
 
 HERE = os.path.dirname(os.path.abspath(__file__))
 PROGRAM = os.path.join(HERE, "..", "crates", "colscan", "out", "colscan")
-EXCHANGES = os.path.join(HERE, "calls", "table_run", "exchanges.rs")
+SESSION = os.path.join(HERE, "lines", "every_command")
 BAD_LINE = b'{"error":18,"name":"BadLine"}\n'
 READ_FAILED = b"colscan: read failed\n"
 WRITE_FAILED = b"colscan: write failed\n"
@@ -117,20 +115,10 @@ __attribute__((constructor)) static void serve(void) {
 
 
 def read_session():
-    """The lines of the session of tests/calls/table_run, each with its answer and without LF.
-
-    Its texts are written there as JSON has them, but for those that have a name."""
-    with open(EXCHANGES, encoding="utf-8") as file:
-        source = file.read()
-    name, okay = re.search(r'^const (\w+): &str = (".*");$', source, re.M).groups()
-    count, body = re.search(
-        r"^pub const SESSION: \[Exchange; (\d+)\] = \[$(.*?)^\];$", source, re.M | re.S
-    ).groups()
-    found = re.findall(r'"(?:[^"\\]|\\.)*"|\b%s\b' % name, body)
-    texts = [json.loads(okay if it == name else it).encode() for it in found]
-    session = list(zip(texts[::2], texts[1::2]))
-    assert len(texts) == 2 * int(count), "%d texts for %s pairs" % (len(texts), count)
-    return session
+    """The lines of the session, each with its answer and without LF."""
+    lines, answers = (read_file(SESSION + it).split(b"\n")[:-1] for it in (".in", ".out"))
+    assert len(lines) == len(answers) > 0, "%d answers to %d lines" % (len(answers), len(lines))
+    return list(zip(lines, answers))
 
 
 def with_lf(lines):

@@ -13,6 +13,9 @@ import random
 import re
 import sys
 
+sys.dont_write_bytecode = True
+from spellings import spelled
+
 RANGES = {
     "u8": (0, 2**8 - 1),
     "u16": (0, 2**16 - 1),
@@ -1394,9 +1397,7 @@ def random_session(chance):
         answer = session.answer(json.dumps(lines[-1]).encode())
         if lines[-1]["cmd"] == "retype" and answer == compact({"ok": True}):
             dtype = lines[-1]["dtype"]
-    return "".join(
-        json.dumps(line, ensure_ascii=chance.random() < 0.5) + "\n" for line in lines
-    ).encode()
+    return "".join(spelled(chance, line) + "\n" for line in lines).encode()
 
 
 def main():

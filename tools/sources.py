@@ -1,7 +1,6 @@
 """What the tools share: the crates of crates.txt, and the text of .rt files without comments.
 
-It is imported by edges.py, items.py, reached.py, false_memory.py and contracts.py, and is not
-called by itself.
+It is imported by tools that read the repository's sources, and is not called by itself.
 """
 import os
 import re

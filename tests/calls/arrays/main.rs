@@ -20,6 +20,7 @@ mod masks;
 mod numbers;
 mod rebuilt;
 mod records;
+mod refusing;
 mod rows;
 mod strings;
 mod structs;

@@ -1,6 +1,7 @@
-//! `BinaryView`, `Inlined`, `Ref`.
+//! `BinaryView`, `Inlined`, `Ref`, of which no call takes memory.
 
 use crate::checks::Checks;
+use crate::refusing::{refuse_all, took_none};
 use bytes::Bytes;
 use std::alloc::Global;
 use vortex_arrays::{BinaryView, MAX_INLINED_SIZE, Ref};
@@ -22,10 +23,14 @@ const ORDERED: [&[u8]; 9] = [
 ];
 
 pub fn run(alloc: Global, checks: &mut Checks<'_>) -> Result<(), DTypeError> {
+    let mut room = Vec::new(alloc);
+    room.push(Bytes::copy_from_slice(alloc, b"12345abcdefghijklm67")?)?;
+    refuse_all(alloc, checks);
     short(checks);
-    long(alloc, checks)?;
+    long(&room, checks);
     parts(checks);
     order(checks);
+    took_none(alloc, checks, "views take no memory");
     Ok(())
 }
 
@@ -56,27 +61,24 @@ fn short(checks: &mut Checks<'_>) {
     checks.holds("unequal views", full != empty);
 }
 
-fn long(alloc: Global, checks: &mut Checks<'_>) -> Result<(), DTypeError> {
-    let mut room = Vec::new(alloc);
-    room.push(Bytes::copy_from_slice(alloc, b"12345abcdefghijklm67")?)?;
+fn long(room: &[Bytes], checks: &mut Checks<'_>) {
     let view = BinaryView::make_view(LONG, 0, 5);
     checks.holds(
         "make_view of a long value",
         view.as_u128() == 0x0000_0005_0000_0000_6463_6261_0000_000d,
     );
     checks.holds("a long view", view.len() == 13 && !view.is_inlined());
-    checks.holds("bytes of a long view", view.bytes(&room) == LONG);
-    checks.holds("has_value of a long view", view.has_value(&room));
+    checks.holds("bytes of a long view", view.bytes(room) == LONG);
+    checks.holds("has_value of a long view", view.has_value(room));
     checks.holds("has_value without the buffer", !view.has_value(&[]));
     checks.holds(
         "has_value past the end",
-        !BinaryView::make_view(LONG, 0, 8).has_value(&room),
+        !BinaryView::make_view(LONG, 0, 8).has_value(room),
     );
     checks.holds(
         "has_value of another prefix",
-        !BinaryView::make_view(LONG, 0, 4).has_value(&room),
+        !BinaryView::make_view(LONG, 0, 4).has_value(room),
     );
-    Ok(())
 }
 
 fn parts(checks: &mut Checks<'_>) {

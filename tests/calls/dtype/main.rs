@@ -20,6 +20,7 @@ mod messages;
 mod names;
 mod native_dtype;
 mod natives;
+mod no_memory;
 mod nullabilities;
 mod nullability;
 mod path_sets;
@@ -27,6 +28,7 @@ mod paths;
 mod plugins;
 mod ptype;
 mod records;
+mod refusing;
 mod resolving;
 mod samples;
 mod sizes;
@@ -77,6 +79,8 @@ fn of_parts(alloc: Global, checks: &mut Checks<'_>) -> Result<(), DTypeError> {
     extensions::run(alloc, checks)?;
     laws::run(alloc, checks)?;
     checks.end_part("paths, parts of types, messages and extensions");
+    no_memory::run(alloc, checks)?;
+    checks.end_part("equality, hashes and searches take no memory");
     Ok(())
 }
 

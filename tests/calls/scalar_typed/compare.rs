@@ -1,7 +1,9 @@
-//! `eq_ignore_nullability`, `==`, `hash` and `partial_cmp` of scalars.
+//! `eq_ignore_nullability`, `==`, `hash` and `partial_cmp` of scalars, and `is_compatible`. None of
+//! them takes memory.
 
 use crate::checks::Checks;
 use crate::make::{hash_of, map, octets};
+use crate::refusing::{refuse_all, took_none};
 use crate::samples::{VARIANT, groups};
 use crate::values::{
     Done, WITH, WITHOUT, extension, fixed, list, number, numbers, record, text, tuple, typed,
@@ -13,10 +15,14 @@ use vortex_scalar::{Scalar, ScalarValue};
 
 pub fn run(alloc: Global, checks: &mut Checks<'_>) -> Done {
     let (with, without) = (groups(alloc, WITH)?, groups(alloc, WITHOUT)?);
+    refuse_all(alloc, checks);
     for (i, left) in with.iter().enumerate() {
         for (j, right) in without.iter().enumerate() {
             pairs(checks, left, right, i == j, i == VARIANT);
         }
+    }
+    took_none(alloc, checks, "equality, hashes, order and is_compatible take no memory");
+    for (i, left) in with.iter().enumerate() {
         nulls(checks, left, &without[i])?;
     }
     without_memory(alloc, checks, &with)?;
@@ -43,6 +49,8 @@ fn pairs(
             };
             equal(checks, one, other, is_equal);
             checks.holds("partial_cmp", one.partial_cmp(other) == wanted);
+            let is_compatible = Scalar::is_compatible(one.dtype(), other.value());
+            checks.holds("is_compatible", is_compatible == is_group);
             let wanted = wanted.map(|order| order.reverse());
             checks.holds(
                 "partial_cmp the other way",

@@ -16,6 +16,7 @@ mod makers;
 mod methods;
 mod nested_views;
 mod parts;
+mod refusing;
 mod reinterpret;
 mod samples;
 mod types;

@@ -12,12 +12,14 @@ mod placeholders;
 mod precision;
 mod proofs;
 mod refusals;
+mod refusing;
 mod rules;
 mod trees;
 mod upper_bounds;
 mod values;
 
 use crate::checks::Checks;
+use crate::refusing::{refuse_all, took_none};
 use crate::values::Done;
 use std::alloc::Global;
 use std::process::ExitCode;
@@ -28,11 +30,13 @@ use vortex_stats::StatsError;
 fn run(alloc: Global, checks: &mut Checks<'_>) -> Done {
     precision::run(alloc, checks)?;
     checks.end_part("precision");
+    refuse_all(alloc, checks);
     lower_bounds::run(checks);
     checks.end_part("lower bounds");
     upper_bounds::run(checks);
     checks.end_part("upper bounds");
     bounds::run(checks);
+    took_none(alloc, checks, "bounds take no memory");
     checks.end_part("values that bound nothing, and intersections");
     orders::run(alloc, checks)?;
     checks.end_part("orders of values");

@@ -1,17 +1,19 @@
 //! `BoundOrd`, and bounds by scalars.
 
 use crate::checks::Checks;
+use crate::refusing::{refuse_all, took_none};
 use crate::values::{Done, WITH, WITHOUT, number, numbers, typed};
 use std::alloc::Global;
 use std::cmp::Ordering::{Equal, Greater, Less};
-use vortex_dtype::{DType, PType};
+use vortex_dtype::{BufferString, DType, PType};
 use vortex_scalar::{PValue, Scalar, ScalarError, ScalarValue};
 use vortex_stats::Precision::{Exact, Inexact};
-use vortex_stats::{BoundOrd, LowerBound, StatBound, UpperBound};
+use vortex_stats::{BoundOrd, IntersectionResult, LowerBound, StatBound, UpperBound};
 
 pub fn run(alloc: Global, checks: &mut Checks<'_>) -> Done {
     native(checks);
     scalars(checks)?;
+    texts(alloc, checks)?;
     unequal_types(checks)?;
     variants(alloc, checks)
 }
@@ -45,6 +47,33 @@ fn scalars(checks: &mut Checks<'_>) -> Done {
     let bound = LowerBound::lift(Exact(Scalar::try_new(numbers(WITH), number(4))?));
     checks.holds("a nullable scalar is equal", bound.eq_value(&small(4)?));
     checks.holds("and compares", bound.partial_cmp_value(&small(3)?) == Some(Greater));
+    Ok(())
+}
+
+fn owned(alloc: Global, text: &str) -> Result<Scalar, ScalarError> {
+    let text = BufferString::copy_from_str(alloc, text)?;
+    Scalar::try_new(DType::Utf8(WITHOUT), Some(ScalarValue::Utf8(text)))
+}
+
+/// Bounds, zips and maps of texts that own memory take none.
+fn texts(alloc: Global, checks: &mut Checks<'_>) -> Done {
+    let (a, b, least) = (owned(alloc, "a")?, owned(alloc, "b")?, owned(alloc, "a")?);
+    let (c, d, most) = (owned(alloc, "c")?, owned(alloc, "d")?, owned(alloc, "d")?);
+    let (e, f, both) = (owned(alloc, "e")?, owned(alloc, "f")?, owned(alloc, "f")?);
+    let (g, h, first) = (owned(alloc, "g")?, owned(alloc, "h")?, owned(alloc, "g")?);
+    refuse_all(alloc, checks);
+    let union = LowerBound::lift(Exact(b)).union(LowerBound::lift(Inexact(a)));
+    let wanted = LowerBound::lift(Inexact(least));
+    checks.holds("a lower bound by texts", union == Some(wanted));
+    let union = UpperBound::lift(Exact(d)).union(UpperBound::lift(Inexact(c)));
+    let wanted = UpperBound::lift(Exact(most));
+    checks.holds("an upper bound by texts", union == Some(wanted));
+    let found = LowerBound::lift(Exact(f)).intersection(LowerBound::lift(Inexact(e)));
+    let wanted = IntersectionResult::Value(LowerBound::lift(Exact(both)));
+    checks.holds("an intersection by texts", found == Some(wanted));
+    let zipped = Exact(g).zip(Inexact(h));
+    checks.holds("a zip of texts", zipped.map(|(left, _)| left) == Inexact(first));
+    took_none(alloc, checks, "bounds, zips and maps of texts take no memory");
     Ok(())
 }
 

@@ -1,6 +1,7 @@
 //! `Precision`.
 
 use crate::checks::Checks;
+use crate::refusing::{refuse_all, took_none};
 use crate::values::Done;
 use std::alloc::Global;
 use vortex_stats::Precision;
@@ -9,8 +10,10 @@ use vortex_stats::Precision::{Absent, Exact, Inexact};
 pub fn run(alloc: Global, checks: &mut Checks<'_>) -> Done {
     made(checks);
     read(checks);
+    refuse_all(alloc, checks);
     changed(checks);
     zipped(checks);
+    took_none(alloc, checks, "map and zip take no memory");
     transposed(checks);
     printed(alloc, checks)?;
     copied(checks)

@@ -1,7 +1,7 @@
 //! Groups of chunks, which a scan looks at before it looks at their chunks.
 
 use crate::checks::Checks;
-use crate::make::{column, filled, number, row, scan, two_columns};
+use crate::make::{begin_with, column, filled, number, row, scan, two_columns};
 use std::alloc::Global;
 use vortex_table::expr::gt;
 use vortex_table::table::{Table, TableError};
@@ -53,11 +53,13 @@ pub fn groups_are_looked_at_first(alloc: Global, checks: &mut Checks<'_>) -> Res
     );
     let above = gt(alloc, column(alloc, "a")?, number(5)?)?;
     let answer = scan(alloc, &table, &above)?;
-    checks.holds("entered: proofs", answer.proofs == 4 && answer.rows.len() == 2);
+    checks.holds("entered: proofs", answer.proofs == 4);
+    checks.holds("entered: rows", begin_with(&answer, &[10, 20]));
     checks.holds("entered: skipped", answer.skipped.as_slice() == [0].as_slice());
     table.join(0)?;
     let answer = scan(alloc, &table, &above)?;
     checks.holds("all: proofs", answer.proofs == 4 && answer.rows_tested == 2);
+    checks.holds("all: rows", begin_with(&answer, &[10, 20]));
     let last = gt(alloc, column(alloc, "a")?, number(20)?)?;
     let answer = scan(alloc, &table, &last)?;
     checks.holds("none: proofs", answer.proofs == 1 && answer.skipped.len() == 3);

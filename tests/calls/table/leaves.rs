@@ -1,10 +1,10 @@
 //! Bounds of truth values, texts and bytes, which are shortened to the table's bound length.
 
 use crate::checks::Checks;
-use crate::make::{cell, column, constant, integers, record, scan, truth};
+use crate::make::{cell, column, constant, first_cell, integers, record, scan, truth};
 use std::alloc::{AllocError, Global};
 use vortex_dtype::{BufferString, ByteBuffer, DType, Nullability};
-use vortex_scalar::ScalarValue;
+use vortex_scalar::{Scalar, ScalarValue};
 use vortex_table::expr::{Expression, eq, gt, lt};
 use vortex_table::table::{Table, TableError};
 
@@ -57,6 +57,22 @@ fn fruits(alloc: Global, bound_length: usize) -> Result<Table, TableError> {
     Ok(table)
 }
 
+// Whether the row is this fruit.
+fn is_fruit(row: &Scalar, name: &str) -> bool {
+    match first_cell(row) {
+        Some(ScalarValue::Utf8(text)) => text.as_str() == name,
+        _ => false,
+    }
+}
+
+// Whether the row begins with these bytes.
+fn has_blob(row: &Scalar, bytes: &[u8]) -> bool {
+    match first_cell(row) {
+        Some(ScalarValue::Binary(found)) => found.as_slice() == bytes,
+        _ => false,
+    }
+}
+
 // Bytes, in two chunks: 1 255, null; and 3.
 fn byte_strings(alloc: Global, bound_length: usize) -> Result<Table, TableError> {
     let dtype = record(alloc, ["blob", "n"], all_bytes(), integers())?;
@@ -97,7 +113,7 @@ pub fn chunks_are_skipped_by_any_leaf(
     let answer = scan(alloc, &short, &named(alloc, "melon")?)?;
     checks.holds(
         "a text: rows",
-        answer.rows.len() == 1 && answer.rows_tested == 1,
+        answer.rows.len() == 1 && is_fruit(&answer.rows[0], "melon") && answer.rows_tested == 1,
     );
     checks.holds(
         "a text: skipped",
@@ -114,7 +130,7 @@ pub fn chunks_are_skipped_by_any_leaf(
     let answer = scan(alloc, &short, &predicate)?;
     checks.holds(
         "a truth value: rows",
-        answer.rows.len() == 1 && answer.rows_tested == 1,
+        answer.rows.len() == 1 && is_fruit(&answer.rows[0], "melon") && answer.rows_tested == 1,
     );
     checks.holds(
         "a truth value: skipped",
@@ -124,7 +140,10 @@ pub fn chunks_are_skipped_by_any_leaf(
     let answer = scan(alloc, &short, &predicate)?;
     checks.holds(
         "false below true: rows",
-        answer.rows.len() == 2 && answer.rows_tested == 2,
+        answer.rows.len() == 2
+            && is_fruit(&answer.rows[0], "apple")
+            && is_fruit(&answer.rows[1], "apricot")
+            && answer.rows_tested == 2,
     );
     checks.holds(
         "false below true: skipped",
@@ -144,7 +163,7 @@ pub fn chunks_are_skipped_by_any_leaf(
     let answer = scan(alloc, &byte_strings(alloc, 1)?, &in_blob(alloc, &[1, 255])?)?;
     checks.holds(
         "bytes that are there: rows",
-        answer.rows.len() == 1 && answer.rows_tested == 2,
+        answer.rows.len() == 1 && has_blob(&answer.rows[0], &[1, 255]) && answer.rows_tested == 2,
     );
     checks.holds(
         "bytes that are there: skipped",
@@ -189,7 +208,8 @@ pub fn groups_have_bounds_of_bytes(
     checks.holds("a raised bound: proofs", answer.proofs == 3);
     let missing = joined(alloc, 2, &[255, 255, 255], &[0])?;
     let answer = scan(alloc, &missing, &in_blob(alloc, &[255, 255, 255])?)?;
-    checks.holds("no bound from above: rows", answer.rows.len() == 1);
+    let is_found = answer.rows.len() == 1 && has_blob(&answer.rows[0], &[255, 255, 255]);
+    checks.holds("no bound from above: rows", is_found);
     checks.holds(
         "no bound from above: skipped",
         answer.skipped.as_slice() == [1].as_slice() && answer.proofs == 3,

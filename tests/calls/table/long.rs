@@ -1,13 +1,13 @@
-//! Texts of ten thousand characters that differ in the last one alone.
+//! Texts of ten thousand characters that differ in the last one alone, in each layout.
 
 use crate::checks::Checks;
 use crate::layouts::record_of;
-use crate::make::{column, constant, scan};
+use crate::make::{column, constant, first_cell, scan};
 use std::alloc::{AllocError, Global};
 use vortex_dtype::{BufferString, DType, Nullability};
-use vortex_scalar::ScalarValue;
+use vortex_scalar::{Scalar, ScalarValue};
 use vortex_table::expr::{Expression, eq, gt, gt_eq};
-use vortex_table::table::{Table, TableError};
+use vortex_table::table::{Layout, Table, TableError};
 
 /// How many characters a text has.
 const LENGTH: usize = 10_000;
@@ -30,29 +30,50 @@ fn literal(alloc: Global, last: u8) -> Result<Expression, TableError> {
     constant(texts(), ending(alloc, last)?)
 }
 
-/// The texts that end in a and in b, in a chunk each.
-fn two_texts(alloc: Global, bound_length: usize) -> Result<Table, TableError> {
+/// Whether the row is the text that ends so.
+fn is_ending(row: &Scalar, last: u8) -> bool {
+    match first_cell(row) {
+        Some(ScalarValue::Utf8(text)) => {
+            let bytes = text.as_str().as_bytes();
+            bytes.len() == LENGTH
+                && bytes[LENGTH - 1] == last
+                && bytes[..LENGTH - 1].iter().all(|byte| *byte == b'a')
+        }
+        _ => false,
+    }
+}
+
+/// The texts that end in a and in b, in a chunk each that is laid out by the hint.
+fn two_texts(alloc: Global, bound_length: usize, hint: Layout) -> Result<Table, TableError> {
     let dtype = record_of(alloc, "s", texts())?;
     let mut table = Table::create(alloc, dtype.clone()?, bound_length, &[])?;
     for last in [b'a', b'b'] {
         let cells = Vec::from_array(alloc, [ending(alloc, last)?])?;
         let values = Vec::from_array(alloc, [Some(ScalarValue::Tuple(cells))])?;
-        table.append_owned(&dtype, values, &[])?;
+        table.append_owned(&dtype, values, &[hint])?;
     }
     Ok(table)
 }
 
-/// Counts a scan that answers so many rows, and skips so many chunks.
+/// The chunks of the two texts, and the letters that these end in.
+const CHUNKS: [usize; 2] = [0, 1];
+const LETTERS: [u8; 2] = [b'a', b'b'];
+
+/// Counts a scan that answers the texts of these endings, and skips the chunks of these numbers.
 fn check(
     alloc: Global,
     checks: &mut Checks<'_>,
     name: &str,
     table: &Table,
     predicate: &Expression,
-    found: (usize, usize),
+    (letters, skipped): (&[u8], &[usize]),
 ) -> Result<(), TableError> {
     let answer = scan(alloc, table, predicate)?;
-    checks.holds(name, (answer.rows.len(), answer.skipped.len()) == found);
+    let mut same = answer.rows.len() == letters.len() && answer.skipped.as_slice() == skipped;
+    for (row, last) in answer.rows.iter().zip(letters) {
+        same = same && is_ending(row, *last);
+    }
+    checks.holds(name, same);
     Ok(())
 }
 
@@ -62,17 +83,26 @@ pub fn long_texts_are_told_apart(
     alloc: Global,
     checks: &mut Checks<'_>,
 ) -> Result<(), TableError> {
-    for length in [0, 1, 16, LENGTH - 1, LENGTH] {
-        let table = two_texts(alloc, length)?;
+    let tables = [
+        (0, Layout::Plain),
+        (1, Layout::Dictionary),
+        (16, Layout::Constant),
+        (LENGTH - 1, Layout::Dictionary),
+        (LENGTH, Layout::Plain),
+        (LENGTH, Layout::Dictionary),
+    ];
+    for (length, hint) in tables {
+        let table = two_texts(alloc, length, hint)?;
         let is_exact = if length == LENGTH { 1 } else { 0 };
+        let (first, all) = (&CHUNKS[..is_exact], &CHUNKS[..2 * is_exact]);
         let same = eq(alloc, column(alloc, "s")?, literal(alloc, b'b')?)?;
-        check(alloc, checks, "the second text", &table, &same, (1, is_exact))?;
+        check(alloc, checks, "the second text", &table, &same, (&LETTERS[1..], first))?;
         let none = eq(alloc, column(alloc, "s")?, literal(alloc, b'c')?)?;
-        check(alloc, checks, "neither text", &table, &none, (0, 2 * is_exact))?;
+        check(alloc, checks, "neither text", &table, &none, (&LETTERS[..0], all))?;
         let above = gt(alloc, column(alloc, "s")?, literal(alloc, b'a')?)?;
-        check(alloc, checks, "above the first", &table, &above, (1, is_exact))?;
+        check(alloc, checks, "above the first", &table, &above, (&LETTERS[1..], first))?;
         let both = gt_eq(alloc, column(alloc, "s")?, literal(alloc, b'a')?)?;
-        check(alloc, checks, "from the first on", &table, &both, (2, 0))?;
+        check(alloc, checks, "from the first on", &table, &both, (&LETTERS[..], &CHUNKS[..0]))?;
     }
     Ok(())
 }

@@ -17,6 +17,7 @@ mod long;
 mod make;
 mod make_arrays;
 mod memory;
+mod refusing;
 mod rules;
 mod scans;
 
@@ -66,6 +67,8 @@ fn run_all(alloc: Global, checks: &mut Checks<'_>) -> Result<(), TableError> {
     checks.end_part("columns are described");
     memory::refused_commands_leave_tables(alloc, checks)?;
     checks.end_part("refused commands leave tables");
+    memory::tables_are_told_without_memory(alloc, checks)?;
+    checks.end_part("tables are told without memory");
     long::long_texts_are_told_apart(alloc, checks)?;
     checks.end_part("long texts are told apart");
     conversions::nothing_stands_under_nulls(alloc, checks)?;

@@ -68,13 +68,18 @@ pub fn column_at(alloc: Global, path: &[&str]) -> Result<Expression, AllocError>
     Ok(col(FieldNames::new(names)))
 }
 
-/// The value as a predicate's constant.
-pub fn constant(dtype: DType, value: Option<ScalarValue>) -> Result<Expression, TableError> {
+/// The value with its type, which has it.
+pub fn scalar(dtype: DType, value: Option<ScalarValue>) -> Result<Scalar, TableError> {
     match Scalar::try_new(dtype, value) {
-        Ok(scalar) => Ok(lit(scalar)),
+        Ok(scalar) => Ok(scalar),
         Err(ScalarError::Memory) => Err(TableError::Memory),
         Err(_) => Err(TableError::InvalidValue(0)),
     }
+}
+
+/// The value as a predicate's constant.
+pub fn constant(dtype: DType, value: Option<ScalarValue>) -> Result<Expression, TableError> {
+    Ok(lit(scalar(dtype, value)?))
 }
 
 /// The number as a predicate's constant.
@@ -102,6 +107,30 @@ pub fn filled(alloc: Global) -> Result<Table, TableError> {
     values.push(row(alloc, 10, Some(1))?)?;
     table.append(&dtype, &values, &[])?;
     Ok(table)
+}
+
+/// The first cell of a row.
+pub fn first_cell(row: &Scalar) -> Option<&ScalarValue> {
+    match row.value() {
+        Some(ScalarValue::Tuple(cells)) => match cells.first() {
+            Some(Some(value)) => Some(value),
+            _ => None,
+        },
+        _ => None,
+    }
+}
+
+/// Whether these are the numbers that the rows begin with.
+pub fn begin_with(answer: &ScanAnswer, wanted: &[i128]) -> bool {
+    let mut same = answer.rows.len() == wanted.len();
+    for (row, number) in answer.rows.iter().zip(wanted) {
+        same = same
+            && match first_cell(row) {
+                Some(ScalarValue::Primitive(found)) => found.get() == *number,
+                _ => false,
+            };
+    }
+    same
 }
 
 /// Scans whole rows.

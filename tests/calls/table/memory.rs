@@ -1,13 +1,24 @@
-//! Tables behind commands that memory was refused to.
+//! Tables behind commands that memory was refused to, and what tells of a table without any.
 
 use crate::checks::Checks;
-use crate::layouts::{numbers, record_of, records, told};
-use crate::make::{cell, integers, truth};
-use std::alloc::Global;
-use vortex_arrays::Validity;
-use vortex_dtype::{DType, FieldPath, Nullability, PType};
-use vortex_scalar::ScalarValue;
-use vortex_table::table::{Layout, ScanAnswer, Table, TableError};
+use crate::layouts::{answered, numbers, told};
+use crate::make::{cell, integers, scalar, scan, truth};
+use crate::refusing::{refuse_all, took_none};
+use std::alloc::{AllocError, Global};
+use std::rc::Rc;
+use vortex_arrays::{ArrayLayout, ArrayRef, StructArray, Validity};
+use vortex_dtype::{
+    BufferString, DType, FieldName, FieldNames, FieldPath, Nullability, PType, StructField,
+    StructFields,
+};
+use vortex_scalar::{Scalar, ScalarValue};
+use vortex_table::table::{Description, Layout, Precision, ScanAnswer, Table, TableError};
+
+/// The columns of each table here.
+const NAMES: [&str; 3] = ["a", "s", "l"];
+
+/// How many bytes a bound has at most, fewer than any text.
+const BOUND_LENGTH: usize = 2;
 
 /// What can be seen of a table.
 #[derive(Drop)]
@@ -16,32 +27,89 @@ struct Seen {
     chunks: usize,
     groups: usize,
     rows: ScanAnswer,
-    told: Vec<[Option<i128>; 5]>,
+    told: Vec<Description>,
+    layouts: Vec<i128>,
 }
 
-/// All that can be seen of a table of the column `a`.
+/// All that can be seen of a table.
 fn seen(alloc: Global, table: &Table) -> Result<Seen, TableError> {
-    let paths = Vec::from_array(alloc, [FieldPath::root(alloc)])?;
-    let rows = table.scan(alloc, &paths, &truth(true)?)?;
-    let mut all = Vec::new(alloc);
+    let rows = scan(alloc, table, &truth(true)?)?;
+    let mut told = Vec::new(alloc);
     for group in 0..table.group_count() {
-        all.push(told(alloc, table, &["a"], group)?)?;
+        for name in ["a", "s"] {
+            told.push(table.describe(alloc, &FieldPath::from_names(alloc, &[name])?, group)?)?;
+        }
+    }
+    let mut layouts = Vec::new(alloc);
+    for number in 0..table.chunk_count() {
+        if let Some(chunk) = table.chunk(number) {
+            add_layout(chunk, &mut layouts)?;
+        }
     }
     Ok(Seen {
         len: table.len(),
         chunks: table.chunk_count(),
         groups: table.group_count(),
         rows,
-        told: all,
+        told,
+        layouts,
     })
 }
 
-/// Whether the same is seen.
-fn is_same(one: &Seen, other: &Seen) -> bool {
-    one.len == other.len
+/// Adds which layout the array has, how many rows, and the same of the arrays that it is made of;
+/// of lists where each begins.
+fn add_layout(array: &ArrayRef, all: &mut Vec<i128>) -> Result<(), AllocError> {
+    all.push(array.len() as i128)?;
+    match array.layout() {
+        ArrayLayout::Bool(_, _) => all.push(0)?,
+        ArrayLayout::Primitive(_, _) => all.push(1)?,
+        ArrayLayout::VarBinView(_, _, _, _) => all.push(2)?,
+        ArrayLayout::Constant(_, _) => all.push(3)?,
+        ArrayLayout::Dict(codes, values, _) => {
+            all.push(4)?;
+            add_layout(codes, all)?;
+            add_layout(values, all)?;
+        }
+        ArrayLayout::FixedSizeList(elements, _, _, _) => {
+            all.push(5)?;
+            add_layout(elements, all)?;
+        }
+        ArrayLayout::ListView(elements, offsets, _, is_flagged, _) => {
+            all.push(if *is_flagged { 6 } else { 7 })?;
+            add_layout(elements, all)?;
+            for i in 0..offsets.len() {
+                all.push(offsets.integer(i).unwrap_or(-1))?;
+            }
+        }
+        ArrayLayout::Struct(_, fields, _, _) => {
+            all.push(8)?;
+            for field in fields {
+                add_layout(field, all)?;
+            }
+        }
+    }
+    Ok(())
+}
+
+/// Whether the same is known.
+fn is_same_description(one: &Description, other: &Description) -> bool {
+    one.min == other.min
+        && one.max == other.max
+        && one.null_count == other.null_count
+        && one.sum == other.sum
+        && one.constant == other.constant
+}
+
+/// Whether the same is seen, the layouts aside.
+fn is_same_table(one: &Seen, other: &Seen) -> bool {
+    let mut are_told = one.told.len() == other.told.len();
+    for (left, right) in one.told.iter().zip(&other.told) {
+        are_told = are_told && is_same_description(left, right);
+    }
+    are_told
+        && one.len == other.len
         && one.chunks == other.chunks
         && one.groups == other.groups
-        && one.told.as_slice() == other.told.as_slice()
         && one.rows.rows.as_slice() == other.rows.rows.as_slice()
         && one.rows.dtype == other.rows.dtype
         && one.rows.whole.as_slice() == other.rows.whole.as_slice()
@@ -59,28 +127,87 @@ fn judged(
 ) -> Result<(), TableError> {
     if outcome.is_err() {
         let after = seen(alloc, table)?;
-        checks.stays(name, is_same(before, &after));
+        checks.stays(name, is_same_table(before, &after));
+        checks.stays(name, before.layouts.as_slice() == after.layouts.as_slice());
     }
     outcome
 }
 
-/// A table of {a=i32} with the chunks 1, 2; 3; 4.
+fn lists(alloc: Global) -> Result<DType, AllocError> {
+    Ok(DType::List(Rc::new(alloc, integers())?, Nullability::NonNullable))
+}
+
+/// Records of numbers of this type, texts and lists of integers.
+fn columns(alloc: Global, first: DType) -> Result<DType, AllocError> {
+    let dtypes = [first, DType::Utf8(Nullability::NonNullable), lists(alloc)?];
+    let mut fields = Vec::new(alloc);
+    for (i, dtype) in Vec::from_array(alloc, dtypes)?.into_iter().enumerate() {
+        let name = FieldName::new(alloc, NAMES[i])?;
+        fields.push(StructField { name, dtype })?;
+    }
+    Ok(DType::Struct(StructFields::from_vec(fields)?, Nullability::NonNullable))
+}
+
+fn text(alloc: Global, number: i32) -> Result<Option<ScalarValue>, AllocError> {
+    let text = ["charm", "chart", "zebra"][(number % 3) as usize];
+    Ok(Some(ScalarValue::Utf8(BufferString::copy_from_str(alloc, text)?)))
+}
+
+fn list(alloc: Global, number: i32) -> Result<Option<ScalarValue>, AllocError> {
+    let mut items = Vec::new(alloc);
+    for item in 0..number % 3 {
+        items.push(cell(item))?;
+    }
+    Ok(Some(ScalarValue::Tuple(items)))
+}
+
+/// Appends a row for each number: the number, one of three texts, and a list of up to two.
+fn append(alloc: Global, table: &mut Table, items: &[i32]) -> Result<(), TableError> {
+    let dtype = columns(alloc, integers())?;
+    let mut values = Vec::new(alloc);
+    for item in items {
+        let cells = [cell(*item), text(alloc, *item)?, list(alloc, *item)?];
+        values.push(Some(ScalarValue::Tuple(Vec::from_array(alloc, cells)?)))?;
+    }
+    table.append(&dtype, &values, &[Layout::Dictionary, Layout::Constant])
+}
+
+/// A table of the chunks 1, 2; 3; 4.
 fn three_chunks(alloc: Global) -> Result<Table, TableError> {
-    let dtype = record_of(alloc, "a", integers())?;
-    let mut table = Table::create(alloc, dtype.clone()?, 16, &[])?;
+    let mut table = Table::create(alloc, columns(alloc, integers())?, BOUND_LENGTH, &[])?;
     append(alloc, &mut table, &[1, 2])?;
     append(alloc, &mut table, &[3])?;
     append(alloc, &mut table, &[4])?;
     Ok(table)
 }
 
-fn append(alloc: Global, table: &mut Table, items: &[i32]) -> Result<(), TableError> {
-    let dtype = record_of(alloc, "a", integers())?;
-    let mut values = Vec::new(alloc);
-    for item in items {
-        values.push(Some(ScalarValue::Tuple(Vec::from_array(alloc, [cell(*item)])?)))?;
+/// The rows 9, 10, of another width.
+fn two_rows(alloc: Global) -> Result<ArrayRef, TableError> {
+    let texts = scalar(DType::Utf8(Nullability::NonNullable), text(alloc, 9)?)?;
+    let items = scalar(lists(alloc)?, list(alloc, 10)?)?;
+    let fields = vec![in alloc;
+        numbers(alloc, &[9i64, 10], Validity::NonNullable)?,
+        ArrayRef::of_constant(alloc, texts, 2)?,
+        ArrayRef::of_constant(alloc, items, 2)?,
+    ]?;
+    let mut names = Vec::new(alloc);
+    for name in NAMES {
+        names.push(FieldName::new(alloc, name)?)?;
     }
-    table.append(&dtype, &values, &[Layout::Dictionary])
+    let names = Rc::new(alloc, FieldNames::new(names))?;
+    let records = StructArray::try_new(alloc, names, fields, 2, Validity::NonNullable);
+    Ok(answered(records)?.into_array())
+}
+
+/// Whether an inexact bound is this text.
+fn is_bound(bound: &Precision<Scalar>, wanted: &str) -> bool {
+    match bound {
+        Precision::Inexact(scalar) => match scalar.value() {
+            Some(ScalarValue::Utf8(text)) => text.as_str() == wanted,
+            _ => false,
+        },
+        _ => false,
+    }
 }
 
 /// Each command that changes a table leaves it as it was, where memory is refused to it.
@@ -93,24 +220,45 @@ pub fn refused_commands_leave_tables(
     let outcome = append(alloc, &mut table, &[7, 8]);
     judged(alloc, checks, "append without memory", &table, &before, outcome)?;
     let before = seen(alloc, &table)?;
-    let items = numbers(alloc, &[9i64, 10], Validity::NonNullable)?;
-    let array = records(alloc, "x", items, Validity::NonNullable)?;
+    let array = two_rows(alloc)?;
     let outcome = table.append_array(array);
     judged(alloc, checks, "append_array without memory", &table, &before, outcome)?;
     let before = seen(alloc, &table)?;
     let outcome = table.join(1);
     judged(alloc, checks, "join without memory", &table, &before, outcome)?;
+    let joined = table.describe(alloc, &FieldPath::from_names(alloc, &["s"])?, 1)?;
+    let are_bounds = is_bound(&joined.min, "ch") && is_bound(&joined.max, "ci");
+    checks.holds("shortened bounds of a joined group", are_bounds);
     let before = seen(alloc, &table)?;
-    let wide = DType::Primitive(PType::I64, Nullability::Nullable);
-    let dtype = record_of(alloc, "a", wide)?;
-    let outcome = table.retype(dtype);
+    let wide = columns(alloc, DType::Primitive(PType::I64, Nullability::Nullable))?;
+    let outcome = table.retype(wide);
     judged(alloc, checks, "retype without memory", &table, &before, outcome)?;
     let before = seen(alloc, &table)?;
     let outcome = table.compact();
     judged(alloc, checks, "compact without memory", &table, &before, outcome)?;
     let last = seen(alloc, &table)?;
     checks.holds("what commands leave", last.len == 8 && last.chunks == 5 && last.groups == 4);
-    checks.holds("what compact leaves", is_same(&before, &last));
-    checks.holds("a joined group", last.told[1] == [Some(3), Some(4), Some(0), Some(7), Some(0)]);
+    checks.holds("what compact leaves", is_same_table(&before, &last));
+    let all = told(alloc, &table, &["a"], 1)?;
+    checks.holds("a joined group", all == [Some(3), Some(4), Some(0), Some(7), Some(0)]);
+    Ok(())
+}
+
+/// What tells of a table takes no memory.
+pub fn tables_are_told_without_memory(
+    alloc: Global,
+    checks: &mut Checks<'_>,
+) -> Result<(), TableError> {
+    let (table, dtype) = (three_chunks(alloc)?, columns(alloc, integers())?);
+    refuse_all(alloc, checks);
+    checks.holds("dtype", *table.dtype() == dtype);
+    checks.holds("len", table.len() == 4 && !table.is_empty());
+    checks.holds("counts", table.chunk_count() == 3 && table.group_count() == 3);
+    for (i, len) in [2usize, 1, 1].iter().enumerate() {
+        let has_rows = table.chunk(i).is_some_and(|chunk| chunk.len() == *len);
+        checks.holds_at("chunk", i, has_rows);
+    }
+    checks.holds("no chunk", table.chunk(3).is_none());
+    took_none(alloc, checks, "what tells of a table takes no memory");
     Ok(())
 }

@@ -1,11 +1,14 @@
 //! Runs a session of lines in memory: one line more each time, cut anywhere, ended anywhere, with
-//! each read, each write and the flush failing in turn.
+//! each read, each write and the flush failing in turn, and with each request for memory refused.
 #![tactic(auto)]
 
 mod checks;
 mod cut;
 mod exchanges;
 mod faults;
+mod no_memory;
+mod refusing;
+mod session;
 
 use crate::checks::Checks;
 use std::alloc::{AllocError, Global};
@@ -25,6 +28,8 @@ fn run_all(alloc: Global, checks: &mut Checks<'_>) -> Result<(), AllocError> {
     checks.end_part("each read may fail");
     faults::each_write_may_fail(alloc, checks)?;
     checks.end_part("each write may fail");
+    no_memory::refusals_take_no_memory(alloc, checks)?;
+    checks.end_part("refusals take no memory");
     Ok(())
 }
 
