@@ -1,5 +1,6 @@
 //! Laws of arrays. Those over definitions are functions without arguments, whose clauses are the
-//! laws. The two of slices make the calls that the law speaks of, and answer what they gave.
+//! laws. The two of slices make the calls that the law speaks of, and answer what they gave;
+//! `limits` answers the two limits of views.
 pub use vortex_arrays_model::laws::{
     columns_step_down, dictionaries_take, equal_rows_rebuild_equally, rebuilding_keeps_rows,
     rebuilding_twice_is_once, rebuilt_lists_follow, referenced_values_are_the_rows,
@@ -7,7 +8,7 @@ pub use vortex_arrays_model::laws::{
 };
 pub use vortex_arrays_struct::slices::{slice_of_all, slice_of_slice};
 pub use vortex_arrays_view::laws::{
-    inlined_views_are_equal_as_values, inlined_views_are_in_order,
+    inlined_views_are_equal_as_values, inlined_views_are_in_order, limits,
     lower_prefixes_are_of_lower_values, short_views_are_zero_padded, views_have_their_parts,
     views_read_back,
 };

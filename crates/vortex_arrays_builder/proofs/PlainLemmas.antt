@@ -1,7 +1,8 @@
 -- Arrays of any type.
 use Rattle.std.proofs.Common.{◌≡◌, ◌<◌, ◌+◌, ℕ, zero, suc, true, List, [], ◌∷◌, length, map, get_or, Option, Bor, refl, sym, ap, subst, ◌∙◌, arith, inl, inr}
 use Rattle.std.specs.List.{flat_map, All}
-use Rattle.std.proofs.lemmas.List.{length-map, get_or-map}
+use Rattle.std.proofs.lemmas.Bool.{cases_eq}
+use Rattle.std.proofs.lemmas.List.{length-map, get_or-map, get_or_default}
 use Rattle.vortex_model.specs.LogicalType.{LogicalType, list, fixed_list, struct, Fields, Nullability, nullable}
 use Rattle.vortex_model.specs.Content.{content_of, Raw}
 use Rattle.vortex_model.specs.Valid.{valid}
@@ -101,6 +102,26 @@ field_fault x fs j f rs l e h = absurd h
 pub field_fault_there : (e : ArrayError) (fs : List StructField) (j : ℕ) (f : StructField) (rs cs : List Raw) → IsPlainFault e (type_of f.dtype) cs → cs ≡ parts_at j rs → j < length fs → f ≡ get_or fs j f → IsPlainFault e (struct (fields_of fs) nullable) rs
 field_fault_there e fs j f rs cs h same l is = field_fault e fs j f rs l is (subst (IsPlainFault e (type_of f.dtype)) same h)
 
+pub none_too_large : (fs : List StructField) (i : ℕ) (rs : List Raw) → ((j : ℕ) (f : StructField) → j < length fs → f ≡ get_or fs j f → ¬ IsTooLarge (type_of f.dtype) (parts_at (i + j) rs)) → ¬ HasTooLarge (fields_of fs) i rs
+none_too_large [] i rs h bad = absurd bad
+none_too_large (g ∷ fs) i rs h bad = elim bad [
+  | inl x ↦ h 0 g (omega arith) refl (subst (λ n. IsTooLarge (type_of g.dtype) (parts_at n rs)) (let s : i ≡ i + 0 = omega arith in s) (subst (λ p. IsTooLarge p.1 (parts_at i rs)) (field_of-parts g) x))
+  | inr y ↦ none_too_large fs (suc i) rs (λ j f l e x. h (suc j) f (omega (arith, l)) e (subst (λ n. IsTooLarge (type_of f.dtype) (parts_at n rs)) (let s : suc i + j ≡ i + suc j = omega arith in s) x)) y
+]
+
+-- no value of the first n fields is too large
+abbrev pub NoneTooLarge : List StructField → ℕ → List Raw → Type 0
+NoneTooLarge fs n rs = (j : ℕ) (f : StructField) → j < n → f ≡ get_or fs j f → ¬ IsTooLarge (type_of f.dtype) (parts_at j rs)
+
+pub none_too_large_yet : (fs : List StructField) (rs : List Raw) → NoneTooLarge fs 0 rs
+none_too_large_yet fs rs j f l = absurd (omega (arith, l))
+
+pub none_more : (fs : List StructField) (n : ℕ) (f : StructField) (rs : List Raw) → NoneTooLarge fs n rs → n < length fs → f ≡ get_or fs n f → ¬ IsTooLarge (type_of f.dtype) (parts_at n rs) → NoneTooLarge fs (n + 1) rs
+none_more fs n f rs h l is fits j g m e = elim (cases_eq j n) [
+  | inl same ↦ λ bad. fits (subst (λ x. IsTooLarge (type_of x.dtype) (parts_at n rs)) (e ∙ ap (λ k. get_or fs k g) same ∙ get_or_default fs n g f l ∙ sym is) (subst (λ k. IsTooLarge (type_of g.dtype) (parts_at k rs)) same bad))
+  | inr other ↦ h j g (omega (arith, other, m)) e
+]
+
 pub ruleset levels = (one_level, no_memory)
 
-pub ruleset fields = (no_memory)
+pub ruleset fields = (no_memory, none_too_large_yet, none_more)

@@ -2,9 +2,9 @@
 use Rattle.std.proofs.Common.{◌≡◌, ◌<◌, ◌≤◌, ◌+◌, ℕ, zero, suc, pos, Bool, true, false, List, [], ◌∷◌, ◌++◌, length, map, take, drop, get_or, set, cond, leb, inl, inr, Option, Bor, refl, sym, ap, subst, ◌∙◌, arith}
 use Rattle.std.specs.List.{flat_map, sum, All}
 use Rattle.std.specs.Int.{IsNonNegative}
-use Rattle.std.proofs.lemmas.Bool.{le-leb, cases_eq}
+use Rattle.std.proofs.lemmas.Bool.{le-leb, cases_eq, cases_lt}
 use Rattle.std.proofs.lemmas.Bool.Decides.{leb_tells}
-use Rattle.std.proofs.lemmas.List.{append-nil, length-map, get_or-map, take_at, length-set, get_or-set_same, get_or-set_other}
+use Rattle.std.proofs.lemmas.List.{append-nil, length-map, length-take, length-drop, get_or-map, get_or_past, take_at, length-set, get_or-set_same, get_or-set_other}
 use Rattle.std.proofs.lemmas.List.Concat.{flat_map-append, length-flat_map}
 use Rattle.std.proofs.lemmas.List.Elements.{All-nil, All-cons}
 use Rattle.std.proofs.lemmas.List.Sums.{sum-map, sum_by-cons}
@@ -18,7 +18,7 @@ use Rattle.vortex_scalar_value.specs.View.{raw_at}
 use Rattle.vortex_scalar_value.specs.declared.scalar_value.ScalarValue.{ScalarValue}
 use Rattle.vortex_arrays_view.specs.declared.error.ArrayError.{ArrayError}
 use Rattle.vortex_arrays_view.specs.declared.error.ArrayError.TheVariants as error
-use Rattle.vortex_arrays_view.specs.Views.{value_of, HasValue}
+use Rattle.vortex_arrays_view.specs.Views.{size_of, index_of, offset_of, inlined_of, value_of, HasValue}
 use Rattle.vortex_arrays_view.specs.Made.{short_view, long_view}
 use Rattle.vortex_arrays_view.specs.Lengths.{counts_of, AddUp}
 use Rattle.vortex_arrays_view.specs.Cuttings.{end_of, value_in}
@@ -99,6 +99,53 @@ strings_fault error.Total rs bytes lengths b l h =
     subst (λ ns. IsLimitFault error.Total (flat_map buffered rs) ns 0 2147483647) (counts_back lengths ∙ l)
     (subst (λ bs. IsLimitFault error.Total bs (counts_of (map pos lengths)) 0 2147483647) b h.1)
 strings_fault e rs bytes lengths b l h = absurd h
+
+-- a value that views and buffers have is no longer than a buffer
+part_len : (n m : ℕ) (bs : List ℕ) → length (take n (drop m bs)) ≤ length bs
+part_len n m bs = omega (arith, length-take n (drop m bs), length-drop m bs)
+
+within_limit : (limit : ℕ) (buffers : List (List ℕ)) (i : ℕ) → All (λ b. length b ≤ limit) buffers → length (get_or buffers i []) ≤ limit
+within_limit limit [] i h = omega arith
+within_limit limit (b ∷ buffers) i h = elim (cases_lt i (length (b ∷ buffers))) [
+  | inl l ↦ h i [] l
+  | inr g ↦ subst (λ xs. length xs ≤ limit) (sym (get_or_past (b ∷ buffers) i [] g)) (omega arith)
+]
+
+abbrev either_value : List ℕ → List (List ℕ) → Bool → List ℕ
+either_value b buffers t = cond t (inlined_of b) (take (size_of b) (drop (offset_of b) (get_or buffers (index_of b) [])))
+
+value_len : (b : List ℕ) (buffers : List (List ℕ)) → All (λ x. length x ≤ 2147483647) buffers → length (value_of b buffers) ≤ 2147483647
+value_len b buffers h = elim (leb_tells (size_of b) 12) [
+  | inl y ↦ subst (λ (t : Bool). length (either_value b buffers t) ≤ 2147483647) (sym y.0) (let m = y.1 in let n = length-take (size_of b) (drop 4 b) in omega (arith, m, n))
+  | inr y ↦ subst (λ (t : Bool). length (either_value b buffers t) ≤ 2147483647) (sym y.0)
+      (let m = part_len (size_of b) (offset_of b) (get_or buffers (index_of b) []) in let n = within_limit 2147483647 buffers (index_of b) h in omega (arith, m, n))
+]
+
+buffered_short : (r : Raw) → buffered_len r ≤ length (bytes_in r)
+buffered_short r = elim (leb_tells (length (bytes_in r)) 12) [
+  | inl y ↦ subst (λ (t : Bool). length (cond t [] (bytes_in r)) ≤ length (bytes_in r)) (sym y.0) (omega arith)
+  | inr y ↦ subst (λ (t : Bool). length (cond t [] (bytes_in r)) ≤ length (bytes_in r)) (sym y.0) (omega arith)
+]
+
+-- what was built is of values that are not too large
+pub not_large : (rs : List Raw) (bytes lengths : List ℕ) (limit : ℕ) (buffers old new : List (List ℕ)) → bytes ≡ flat_map buffered rs → lengths ≡ map buffered_len rs → limit ≡ 2147483647 → IsBuilt bytes (counts_of (map pos lengths)) 0 limit buffers old → AreViewsOf rs buffers new → ¬ IsStringsFault error.Total rs
+not_large rs bytes lengths limit buffers old new b l m h v bad =
+    let same : counts_of (map pos lengths) ≡ map buffered_len rs = counts_back lengths ∙ l in
+    let built : IsBuilt (flat_map buffered rs) (map buffered_len rs) 0 2147483647 buffers old = subst (λ n. IsBuilt (flat_map buffered rs) (map buffered_len rs) 0 n buffers old) m (subst (λ ns. IsBuilt (flat_map buffered rs) ns 0 limit buffers old) same (subst (λ bs. IsBuilt bs (counts_of (map pos lengths)) 0 limit buffers old) b h)) in
+    elim bad [
+      | inl x ↦
+          let k = x.0 in
+          let some : k < length rs = subst (λ n. k < n) (length-map rs buffered_len) x.2 in
+          let r = get_or rs k raw_null in
+          let is : x.1 ≡ buffered_len r = sym x.3 ∙ get_or-map buffered_len rs k raw_null x.1 some in
+          let view = get_or new k [] in
+          let read : length (value_of view buffers) ≤ 2147483647 = value_len view buffers built.fewest.cutting.within in
+          let own : length (value_of view buffers) ≡ length (bytes_in r) = ap length (v.reads k some) in
+          let less = buffered_short r in
+          let past = x.4 in
+          omega (arith, is, read, own, less, past)
+      | inr many ↦ let past = many buffers built.fewest.cutting in let few = built.indices in omega (arith, past, few)
+    ]
 
 pub memory_fault : (e : ArrayError) (rs : List Raw) → e ≡ error.Memory → IsStringsFault e rs
 memory_fault e rs h = subst (λ x. IsStringsFault x rs) (sym h) tt

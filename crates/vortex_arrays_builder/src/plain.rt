@@ -1,5 +1,5 @@
 //! Arrays of any type that a table holds, laid out plain.
-ghost use Rattle.std.specs.Prelude.{◌≡◌, true, map, IfOk, IfErr, All};
+ghost use Rattle.std.specs.Prelude.{◌≡◌, true, map, IfOk, OnOk, IfErr, All};
 ghost use Rattle.vortex_model.specs.LogicalType.{struct, nullable};
 ghost use Rattle.vortex_model.specs.Valid.{valid};
 ghost use Rattle.vortex_dtype_core.specs.View.{type_of, fields_of};
@@ -8,7 +8,7 @@ ghost use Rattle.vortex_scalar_value.specs.View.{raw_at, content_at};
 ghost use Rattle.vortex_arrays_model.specs.Layout.{array_type_of, rows_of};
 ghost use Rattle.vortex_arrays_model.specs.Parts.{columns_of};
 ghost use Rattle.vortex_arrays_builder.specs.Types.{HasPlain, HavePlain, IsPlainLayout};
-ghost use Rattle.vortex_arrays_builder.specs.Plain.{is_held, IsPlain, ArePlain, IsPlainFault};
+ghost use Rattle.vortex_arrays_builder.specs.Plain.{is_held, IsPlain, ArePlain, IsPlainFault, IsTooLarge, HasTooLarge};
 
 use crate::items::{column_of, end_to_end, fixed_end_to_end};
 use crate::leaves::{of_booleans, of_integers};
@@ -37,6 +37,8 @@ pub fn build_plain(
     ensures dtype { IfOk result (λ array. array_type_of array ≡ type_of dtype.now) }
     ensures rows { IfOk result (λ array. rows_of array ≡ map content_at values.now) }
     ensures layout { IfOk result (λ array. IsPlainLayout array) }
+    ensures accepted { OnOk result
+        (¬ IsTooLarge (type_of dtype.now) (map raw_at values.now)) }
     ensures refused { IfErr result
         (λ e. IsPlainFault e (type_of dtype.now) (map raw_at values.now)) }
 {
@@ -56,6 +58,8 @@ fn plain_of(
     requires held { All (λ r. is_held (type_of dtype.now) r ≡ true) (map raw_at values.now) }
     ensures plain { IfOk result
         (λ array. IsPlain (type_of dtype.now) (map raw_at values.now) array) }
+    ensures accepted { OnOk result
+        (¬ IsTooLarge (type_of dtype.now) (map raw_at values.now)) }
     ensures refused { IfErr result
         (λ e. IsPlainFault e (type_of dtype.now) (map raw_at values.now)) }
 {
@@ -98,6 +102,8 @@ fn field_arrays(
         (map raw_at values.now) }
     ensures plain { IfOk result (λ arrays. ArePlain (fields_of fields.now) 0 (map raw_at values.now)
         (columns_of (names_of (fields_of fields.now)) arrays.items)) }
+    ensures accepted { OnOk result
+        (¬ HasTooLarge (fields_of fields.now) 0 (map raw_at values.now)) }
     ensures refused { IfErr result (λ e.
         IsPlainFault e (struct (fields_of fields.now) nullable) (map raw_at values.now)) }
 {

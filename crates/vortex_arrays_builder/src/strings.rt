@@ -1,11 +1,12 @@
 //! Columns of texts and of bytes: values of at most twelve bytes stand in their views, longer ones
 //! end to end in as few buffers as there can be.
-ghost use Rattle.std.specs.Prelude.{◌≡◌, ◌<◌, ℕ, [], true, length, map, cond, leb, slice_index_or, IfOk, IfErr, All};
+ghost use Rattle.std.specs.Prelude.{◌≡◌, ◌<◌, ℕ, [], true, length, map, cond, leb, slice_index_or, IfOk, OnOk, IfErr, All};
 ghost use Rattle.std.specs.List.{flat_map};
 ghost use Rattle.vortex_model.specs.Content.{raw_null};
 ghost use Rattle.vortex_dtype_ptype.specs.View.{nullability_of_flag};
 ghost use Rattle.vortex_scalar_value.specs.View.{raw_at};
 ghost use Rattle.vortex_arrays_view.specs.Made.{short_view};
+ghost use Rattle.vortex_arrays_view.specs.declared.error.ArrayError.TheVariants.{Total};
 ghost use Rattle.vortex_arrays_model.specs.Layout.{type_of_strings};
 ghost use Rattle.vortex_arrays_core.specs.LayoutOf.{strings_of};
 ghost use Rattle.vortex_arrays_builder.specs.Strings.{bytes_in, buffered, buffered_len, AreViewsOf, IsStringsFault};
@@ -38,6 +39,7 @@ pub fn of_strings(
     ensures plain { IfOk result
         (λ array. IsPlain (type_of_strings (strings_of kind) (nullability_of_flag nullability))
         (map raw_at values.now) array) }
+    ensures accepted { OnOk result (¬ IsStringsFault Total (map raw_at values.now)) }
     ensures refused { IfErr result (λ e. IsStringsFault e (map raw_at values.now)) }
 {
     let (buffers, views) = views_of(alloc, values)?;
@@ -56,6 +58,7 @@ fn views_of(
 ) -> Result<(Vec<Bytes>, Vec<BinaryView>), ArrayError>
     ensures views { IfOk result
         (λ made. AreViewsOf (map raw_at values.now) made.0.items made.1.items) }
+    ensures accepted { OnOk result (¬ IsStringsFault Total (map raw_at values.now)) }
     ensures refused { IfErr result (λ e. IsStringsFault e (map raw_at values.now)) }
 {
     let (bytes, lengths) = long_values(alloc, values)?;

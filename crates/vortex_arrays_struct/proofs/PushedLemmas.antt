@@ -4,36 +4,37 @@ use Rattle.std.proofs.lemmas.Bool.{cases_eq}
 use Rattle.std.proofs.lemmas.List.{get_or_push, get_or_append_left, length_push}
 use Rattle.vortex_arrays_model.specs.Layout.{Layout, records, Valid, required, all_valid, all_null, by_array, Columns, len_of, HasLength, HaveLength}
 use Rattle.vortex_arrays_model.specs.Column.{IsMasked}
+use Rattle.vortex_arrays_core.specs.Flags.{list_view_flag}
 use Rattle.vortex_arrays_model.specs.Parts.{columns_of}
 use Rattle.vortex_arrays_model.proofs.PicksLemmas.{each_length, field_length, have_length}
 use Rattle.vortex_arrays_struct.specs.Records.{columns_in, validity_in, names_in, arrays_in}
-use Rattle.vortex_arrays_struct.specs.Edited.{AreMasked, IsPushed, without_nulls}
+use Rattle.vortex_arrays_struct.specs.Edited.{AreMasked, IsPushed, IsPushedInto, without_nulls}
 use Rattle.vortex_arrays_struct.proofs.EditLemmas.{columns_again, as_many}
 use Rattle.vortex_arrays_struct.proofs.Fitting.{item_at}
 
 -- the first n fields with the nulls
 pub record AreFirstMasked (v : Valid) (fs gs : List Layout) (n : ℕ) : Type 0 where
   pub many : length gs ≡ n
-  pub each : (k : ℕ) (d : Layout) → k < n → IsMasked v (get_or fs k d) (get_or gs k d)
+  pub each : (k : ℕ) (d : Layout) → k < n → IsPushedInto v (get_or fs k d) (get_or gs k d)
 
 pub none_masked : (v : Valid) (fs gs : List Layout) → length gs ≡ 0 → AreFirstMasked v fs gs 0
 none_masked v fs gs e = record { many = e; each = λ k d l. absurd (omega (arith, l)) }
 
-pub one_masked : (v : Valid) (fs gs : List Layout) (n : ℕ) (a b : Layout) → AreFirstMasked v fs gs n → n < length fs → a ≡ get_or fs n a → IsMasked v a b → AreFirstMasked v fs (gs ++ b ∷ []) (n + 1)
-one_masked v fs gs n a b h l e m = record {
+pub one_masked : (v : Valid) (fs gs : List Layout) (n : ℕ) (a b : Layout) → AreFirstMasked v fs gs n → n < length fs → a ≡ get_or fs n a → IsMasked v a b → list_view_flag b ≡ list_view_flag a → AreFirstMasked v fs (gs ++ b ∷ []) (n + 1)
+one_masked v fs gs n a b h l e m flag = record {
   many = length_push gs b ∙ ap (λ k. k + 1) h.many;
   each = λ k d w. elim (cases_eq k n) [
     | inl same ↦
         let old : get_or fs k d ≡ a = ap (λ j. get_or fs j d) same ∙ item_at fs n a d l e in
         let new : get_or (gs ++ b ∷ []) k d ≡ b = get_or_push gs b d k (h.many ∙ sym same) in
-        subst (λ x. IsMasked v x (get_or (gs ++ b ∷ []) k d)) (sym old) (subst (IsMasked v a) (sym new) m)
+        subst (λ x. IsPushedInto v x (get_or (gs ++ b ∷ []) k d)) (sym old) (subst (IsPushedInto v a) (sym new) (m, flag))
     | inr other ↦
         let before : k < n = omega (arith, w, other) in
-        subst (IsMasked v (get_or fs k d)) (sym (get_or_append_left gs (b ∷ []) d k (let c = h.many in omega (arith, c, before)))) (h.each k d before)
+        subst (IsPushedInto v (get_or fs k d)) (sym (get_or_append_left gs (b ∷ []) d k (let c = h.many in omega (arith, c, before)))) (h.each k d before)
   ];
 }
 
-masked_columns : (v : Valid) (xs : List (List ℕ)) (fs gs : List Layout) → length xs ≡ length fs → length gs ≡ length fs → ((k : ℕ) (d : Layout) → k < length fs → IsMasked v (get_or fs k d) (get_or gs k d)) → AreMasked v (columns_of xs fs) (columns_of xs gs)
+masked_columns : (v : Valid) (xs : List (List ℕ)) (fs gs : List Layout) → length xs ≡ length fs → length gs ≡ length fs → ((k : ℕ) (d : Layout) → k < length fs → IsPushedInto v (get_or fs k d) (get_or gs k d)) → AreMasked v (columns_of xs fs) (columns_of xs gs)
 masked_columns v [] [] [] e f h = refl
 masked_columns v xs [] (b ∷ gs) e f h = absurd (cc (f))
 masked_columns v (x ∷ xs) [] [] e f h = absurd (cc (e))
@@ -43,12 +44,12 @@ masked_columns v (x ∷ xs) (a ∷ fs) (b ∷ gs) e f h = (refl, h 0 a (omega ar
 
 pub all_masked : (v : Valid) (xs : List (List ℕ)) (fs gs : List Layout) (n i : ℕ) → length xs ≡ length fs → HaveLength (columns_of xs fs) n → AreFirstMasked v fs gs i → i ≡ length fs → AreMasked v (columns_of xs fs) (columns_of xs gs) × HaveLength (columns_of xs gs) n
 all_masked v xs fs gs n i e s h f =
-    let each : (k : ℕ) (d : Layout) → k < length fs → IsMasked v (get_or fs k d) (get_or gs k d) = λ k d l. h.each k d (subst (λ m. k < m) (sym f) l) in
+    let each : (k : ℕ) (d : Layout) → k < length fs → IsPushedInto v (get_or fs k d) (get_or gs k d) = λ k d l. h.each k d (subst (λ m. k < m) (sym f) l) in
     let many : length gs ≡ length fs = h.many ∙ f in (
       masked_columns v xs fs gs e many each,
       have_length xs gs n
-          (λ k d l. let m = each k d (subst (λ j. k < j) many l) in m.sound)
-          (λ k d l. let w : k < length fs = subst (λ j. k < j) many l in let m = each k d w in m.len ∙ each_length xs fs n k d s w),
+          (λ k d l. let m = each k d (subst (λ j. k < j) many l) in m.0.sound)
+          (λ k d l. let w : k < length fs = subst (λ j. k < j) many l in let m = each k d w in m.0.len ∙ each_length xs fs n k d s w),
     )
 
 pub field_fits : (xs : List (List ℕ)) (fs : List Layout) (n k : ℕ) (v : Valid) (a : Layout) → HasLength v n → HaveLength (columns_of xs fs) n → a ≡ get_or fs k a → k < length fs → HasLength v (len_of a)

@@ -32,6 +32,23 @@ pub struct StructDataParts {
     pub validity: Validity,
 }
 
+impl Clone for StructDataParts {
+    ghost is_clone = { λ old new. (new.names.value ≡ old.names.value)
+        × (new.fields.items ≡ old.fields.items)
+        × (valid_of new.validity ≡ valid_of old.validity) };
+
+    fn clone(&self) -> Result<StructDataParts, AllocError> {
+        let names = self.names.clone()?;
+        let fields = shared_fields(*self.fields.allocator(), &self.fields)?;
+        let validity = self.validity.clone()?;
+        Ok(StructDataParts {
+            names,
+            fields,
+            validity,
+        })
+    }
+}
+
 impl StructArray {
     // The parts, of which there are as many names as fields.
     fn parts(&self) -> (&Rc<FieldNames>, &[ArrayRef], &Validity)
@@ -158,9 +175,11 @@ impl StructArray {
 
     /// The names, the arrays and the validity.
     pub fn into_data_parts(self, alloc: Global) -> Result<StructDataParts, AllocError>
-        ensures { IfOk result (λ parts. self
+        ensures parts { IfOk result (λ parts. self
             ≡ records (columns_of parts.names.value parts.fields.items) (len_of self)
             (valid_of parts.validity)) }
+        ensures named { IfOk result
+            (λ parts. length parts.names.value ≡ length parts.fields.items) }
     {
         let (names, fields, validity) = self.parts();
         let names = names.clone()?;

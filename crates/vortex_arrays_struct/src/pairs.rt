@@ -1,6 +1,7 @@
 //! Records from pairs of a name and an array.
-ghost use Rattle.std.specs.Prelude.{◌≡◌, ℕ, List, IfOk, IfErr};
+ghost use Rattle.std.specs.Prelude.{◌≡◌, ◌⊎◌, ℕ, List, IfOk, IfErr};
 ghost use Rattle.std.specs.Iterator.{Drains, IsFinite};
+ghost use Rattle.vortex_arrays_view.specs.declared.error.ArrayError.TheVariants.{Memory};
 ghost use Rattle.vortex_arrays_model.specs.Layout.{Layout, required};
 ghost use Rattle.vortex_arrays_core.specs.LayoutOf.{valid_of};
 ghost use Rattle.vortex_arrays_struct.specs.Pairs.{names_of, arrays_of, IsOfPairs, IsPairsFault};
@@ -37,6 +38,9 @@ impl StructArray {
         ensures made { IfOk result (λ r. (it : I.IntoIter) × (pairs : List (List ℕ × Layout))
             × I.into_iter_gives iter it × Drains I.IntoIter.next_gives it pairs
             × IsOfPairs pairs required r) }
+        ensures refused { IfErr result (λ e. (e ≡ Memory)
+            ⊎ ((it : I.IntoIter) × (pairs : List (List ℕ × Layout)) × I.into_iter_gives iter it
+            × Drains I.IntoIter.next_gives it pairs × IsPairsFault e pairs required)) }
     {
         let items = Vec::from_iter(alloc, iter)?;
         StructArray::of_pairs(alloc, items.as_slice(), Validity::NonNullable)
@@ -57,6 +61,9 @@ impl StructArray {
         ensures made { IfOk result (λ r. (it : I.IntoIter) × (pairs : List (List ℕ × Layout))
             × I.into_iter_gives iter it × Drains I.IntoIter.next_gives it pairs
             × IsOfPairs pairs (valid_of validity) r) }
+        ensures refused { IfErr result (λ e. (e ≡ Memory)
+            ⊎ ((it : I.IntoIter) × (pairs : List (List ℕ × Layout)) × I.into_iter_gives iter it
+            × Drains I.IntoIter.next_gives it pairs × IsPairsFault e pairs (valid_of validity))) }
     {
         let items = Vec::from_iter(alloc, iter)?;
         StructArray::of_pairs(alloc, items.as_slice(), validity)

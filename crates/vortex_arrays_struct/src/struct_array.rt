@@ -128,14 +128,16 @@ impl StructArray {
 
     /// The array of any layout that it is.
     pub fn into_array(self) -> ArrayRef
-        ensures { result ≡ self }
+        ensures array { result ≡ self }
+        ensures layout { AreRecords result }
     {
         self.array
     }
 
     /// The array of any layout that it is.
     pub fn as_array(&self) -> &ArrayRef
-        ensures { result.now ≡ self.now }
+        ensures array { result.now ≡ self.now }
+        ensures layout { AreRecords result.now }
     {
         &self.array
     }

@@ -1,6 +1,7 @@
 //! The iterator of the fields of records. It is seen as the list of the arrays that are left.
-ghost use Rattle.std.specs.Prelude.{◌≡◌};
-ghost use Rattle.std.specs.Iterator.{YieldsFirstRef, item_count};
+ghost use Rattle.std.specs.Prelude.{◌≡◌, length, Some, IfSome};
+ghost use Rattle.std.specs.Iterator.{YieldsFirstRef, UpTo, item_count};
+ghost use Rattle.std.specs.Iterator.SizeHint.{IsWithinCount};
 
 use std::iter::ExactSizeIterator;
 use std::marker::Model;
@@ -47,7 +48,11 @@ impl<'a> Iterator for UnmaskedFieldsIter<'a> {
         Some(first)
     }
 
-    fn size_hint(&self) -> (usize, Option<usize>) {
+    fn size_hint(&self) -> (usize, Option<usize>)
+        ensures lower { IsWithinCount result.0 (item_count (λ rest. rest) self.now) }
+        ensures upper { IfSome result.1 (UpTo (item_count (λ rest. rest) self.now)) }
+        ensures exact { (result.0 ≡ length self.now) × (result.1 ≡ Some result.0) }
+    {
         let len = self.fields.len();
         (len, Some(len))
     }

@@ -1,3 +1,4 @@
 pub mod Overwritten
+pub mod Patches
 pub mod PlaceLemmas
 pub mod Rows

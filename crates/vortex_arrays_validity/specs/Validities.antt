@@ -62,9 +62,8 @@ IsByBits (by_array (bools bits v)) = v ≡ required
 IsByBits (by_array a) = ⊥
 IsByBits v = Unit {0}
 
--- some row is null that none may be
+-- Some row is null that none may be. The cast takes no memory.
 abbrev pub IsCastFault : ArrayError → Valid → Nullability → ℕ → Type 0
-IsCastFault Memory v m n = Unit {0}
 IsCastFault NullInNonNullable v m n = (m ≡ non_nullable) × (¬ NoneNull v n)
 IsCastFault e v m n = ⊥
 
@@ -96,13 +95,17 @@ pub record CanPatch (n : ℕ) (places : Layout) (q : Valid) : Type 0 where
   pub within : AreWithin places n
   pub fits : HasLength q (len_of places)
 
--- The types go first.
+-- the places or the array of the patches are of another type
+abbrev pub IsPatchTypeFault : Layout → Valid → Type 0
+IsPatchTypeFault places q = (¬ IsUnsigned (array_type_of places)) ⊎
+    IsValidityFault WrongType q (len_of places)
+
+-- The types go first, then the places.
 abbrev pub IsPatchFault : ArrayError → ℕ → Layout → Valid → Type 0
 IsPatchFault Memory n places q = Unit {0}
-IsPatchFault WrongType n places q = (¬ IsUnsigned (array_type_of places)) ⊎
-    IsValidityFault WrongType q (len_of places)
-IsPatchFault OutOfRange n places q = IsUnsigned (array_type_of places) × (¬ AreWithin places n)
-IsPatchFault LengthMismatch n places q = IsUnsigned (array_type_of places) × AreWithin places n ×
+IsPatchFault WrongType n places q = IsPatchTypeFault places q
+IsPatchFault OutOfRange n places q = (¬ IsPatchTypeFault places q) × (¬ AreWithin places n)
+IsPatchFault LengthMismatch n places q = (¬ IsPatchTypeFault places q) × AreWithin places n ×
     IsValidityFault LengthMismatch q (len_of places)
 IsPatchFault e n places q = ⊥
 

@@ -1,7 +1,8 @@
 //! Rows overwritten at places.
-ghost use Rattle.std.specs.Prelude.{◌≡◌, ◌<◌, ◌↔◌, ℕ, length, IsTrue, slice_index_or, false, IfOk, OnOk, IfErr};
+ghost use Rattle.std.specs.Prelude.{◌≡◌, ◌≢◌, ◌<◌, ◌↔◌, ℕ, length, IsTrue, slice_index_or, false, IfOk, OnOk, IfErr};
 ghost use Rattle.vortex_model.specs.LogicalType.{either_nullable, nullable};
 ghost use Rattle.vortex_arrays_model.specs.Layout.{nullability_by, HasLength};
+ghost use Rattle.vortex_arrays_view.specs.declared.error.ArrayError.TheVariants.{Memory};
 ghost use Rattle.vortex_arrays_core.specs.LayoutOf.{valid_of};
 ghost use Rattle.vortex_arrays_validity.specs.Places.{IsNamedLast, IsUnnamed};
 ghost use Rattle.vortex_arrays_validity.specs.Validities.{valid_rows, CanPatch, IsPatched, IsPatchFault};
@@ -14,10 +15,12 @@ use vortex_arrays_core::array::{ArrayRef, Validity};
 use vortex_arrays_view::error::ArrayError;
 
 /// Tests that rows of so many can be overwritten so, as `ValidityExt::patch` does.
+#[tactic(auto, using(crate::proofs::Patches::types))]
 pub fn check_patches(len: usize, places: &ArrayRef, patches: &Validity) -> Result<(), ArrayError>
     ensures fits { OnOk result (CanPatch len places.now (valid_of patches.now)) }
     ensures refused { IfErr result
         (λ e. IsPatchFault e len places.now (valid_of patches.now)) }
+    ensures memory { IfErr result (λ e. e ≢ Memory) }
 {
     if !places.is_unsigned() {
         return Err(ArrayError::WrongType);

@@ -1,5 +1,5 @@
 -- What is built from bytes and lengths, and what refuses them.
-use Rattle.std.specs.Prelude.{◌≡◌, ◌≤◌, ◌<◌, ◌+◌, ◌^◌, ◌⊎◌, ◌++◌, ℕ, ℤ, List, [], length, slice_index_or, Any, min}
+use Rattle.std.specs.Prelude.{◌≡◌, ◌≤◌, ◌<◌, ◌+◌, ◌^◌, ◌⊎◌, ◌++◌, ℕ, ℤ, List, [], length, slice_index_or, All, Any, min}
 use Rattle.vortex_arrays_view.specs.Views.{value_of, HasValue}
 use Rattle.vortex_arrays_view.specs.Made.{short_view}
 use Rattle.vortex_arrays_view.specs.declared.error.ArrayError.{ArrayError}
@@ -29,6 +29,10 @@ pub record IsBuilt (bytes lengths : List ℕ) (first limit : ℕ) (buffers views
   pub fewest : IsFewest bytes lengths limit buffers
   pub indices : first + length buffers ≤ 2 ^ 32
   pub viewed : AreViews bytes lengths first buffers views
+
+-- no value is longer than a buffer may be
+abbrev pub AreWithin : ℕ → List ℕ → Type 0
+AreWithin limit lengths = All (λ count. count ≤ limit) lengths
 
 -- each cutting has a buffer whose index is past 32 bits
 abbrev pub IsTooMany : List ℕ → List ℕ → ℕ → ℕ → Type 0

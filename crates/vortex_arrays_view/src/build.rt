@@ -1,7 +1,7 @@
 //! Bytes in the fewest buffers, and views of the values.
-ghost use Rattle.std.specs.Prelude.{◌≡◌, ◌≤◌, length, map, sum, All, IfOk, OnOk, IfErr};
+ghost use Rattle.std.specs.Prelude.{◌≡◌, ◌≤◌, length, map, sum, IfOk, OnOk, IfErr};
 ghost use Rattle.vortex_arrays_view.specs.Lengths.{counts_of, lengths_between, AddUp};
-ghost use Rattle.vortex_arrays_view.specs.Built.{limit_of, IsBuilt, IsPlaceFault, IsLimitFault, IsBuildFault};
+ghost use Rattle.vortex_arrays_view.specs.Built.{limit_of, AreWithin, IsBuilt, IsPlaceFault, IsLimitFault, IsBuildFault};
 
 use crate::error::ArrayError;
 use crate::lengths::{counts, counts_between};
@@ -29,6 +29,8 @@ pub fn build_views<P: NativePType>(
     lengths: &[P],
 ) -> Result<(Vec<Bytes>, Vec<BinaryView>), ArrayError>
     ensures add_up { OnOk result (AddUp (map P.integer lengths.now) (length bytes)) }
+    ensures within { OnOk result (AreWithin (limit_of max_buffer_len)
+        (counts_of (map P.integer lengths.now))) }
     ensures built { IfOk result (λ made.
         IsBuilt bytes (counts_of (map P.integer lengths.now)) start_buffer_index
         (limit_of max_buffer_len) made.0.items made.1.items) }
@@ -51,6 +53,8 @@ pub fn build_views_from_offsets<P: NativePType>(
 ) -> Result<(Vec<Bytes>, Vec<BinaryView>), ArrayError>
     ensures add_up { OnOk result
         (AddUp (lengths_between (map P.integer offsets.now)) (length bytes)) }
+    ensures within { OnOk result (AreWithin (limit_of max_buffer_len)
+        (counts_of (lengths_between (map P.integer offsets.now)))) }
     ensures built { IfOk result (λ made.
         IsBuilt bytes (counts_of (lengths_between (map P.integer offsets.now))) start_buffer_index
         (limit_of max_buffer_len) made.0.items made.1.items) }
@@ -71,6 +75,7 @@ fn build_within(
     lengths: &[usize],
 ) -> Result<(Vec<Bytes>, Vec<BinaryView>), ArrayError>
     requires { sum lengths.now ≡ length bytes.now }
+    ensures within { OnOk result (AreWithin (limit_of max_buffer_len) lengths.now) }
     ensures built { IfOk result
         (λ made. IsBuilt bytes.now lengths.now first (limit_of max_buffer_len) made.0.items
         made.1.items) }
@@ -93,7 +98,7 @@ fn place_values(
     lengths: &[usize],
 ) -> Result<(Vec<Bytes>, Vec<BinaryView>), ArrayError>
     requires limit { limit ≤ 2147483647 }
-    requires within { All (λ count. count ≤ limit) lengths.now }
+    requires within { AreWithin limit lengths.now }
     requires whole { sum lengths.now ≡ length bytes.now }
     ensures built { IfOk result
         (λ made. IsBuilt bytes.now lengths.now first limit made.0.items made.1.items) }

@@ -1,5 +1,17 @@
 //! Laws of views. Each function's clause is a law.
+ghost use Rattle.std.specs.Prelude.{◌≡◌};
 ghost use Rattle.vortex_arrays_view.specs.Laws.{InlinedEquality, InlinedOrder, PrefixOrder, ShortViewsAreZeroPadded, ViewsHaveTheirParts, ViewsReadBack};
+
+use crate::build::MAX_BUFFER_LEN;
+use crate::view::MAX_INLINED_SIZE;
+
+/// `MAX_BUFFER_LEN` and `MAX_INLINED_SIZE`, of which no clause can speak by name.
+pub fn limits() -> (usize, usize)
+    ensures buffer { result.0 ≡ 2147483647 }
+    ensures inlined { result.1 ≡ 12 }
+{
+    (MAX_BUFFER_LEN, MAX_INLINED_SIZE)
+}
 
 /// Zero-padded views compare by prefix, tail and size as their values do byte by byte.
 pub fn inlined_views_are_in_order()

@@ -80,5 +80,20 @@ fn joined(alloc: Global, checks: &mut Checks<'_>) -> Result<(), DTypeError> {
         Err(ArrayError::Memory) => return Err(DTypeError::Memory),
         Err(error) => checks.holds("concat of too many rows", error == ArrayError::Total),
     }
+    without_nulls(alloc, checks)
+}
+
+/// No part has a null, so that nothing but the count of rows can be refused.
+fn without_nulls(alloc: Global, checks: &mut Checks<'_>) -> Result<(), DTypeError> {
+    let mut parts = Vec::new(alloc);
+    parts.push((Validity::NonNullable, usize::MAX))?;
+    let all = answered(Validity::concat(alloc, &parts))?;
+    checks.holds("concat of as many rows as can be", all.is_some());
+    parts.push((Validity::NonNullable, 1))?;
+    match Validity::concat(alloc, &parts) {
+        Ok(_all) => checks.holds("concat of one row more", false),
+        Err(ArrayError::Memory) => return Err(DTypeError::Memory),
+        Err(error) => checks.holds("concat of one row more", error == ArrayError::Total),
+    }
     Ok(())
 }

@@ -65,6 +65,8 @@ fn fields(alloc: Global, checks: &mut Checks<'_>) -> Result<(), DTypeError> {
     );
     let parts = array.into_data_parts(alloc)?;
     checks.holds("into_data_parts", parts.names.len() == 2 && parts.fields.len() == 2);
+    let copy = parts.clone()?;
+    checks.holds("clone of the parts", copy.names.len() == 2 && copy.fields.len() == 2);
     Ok(())
 }
 
@@ -104,6 +106,19 @@ fn paired(alloc: Global, checks: &mut Checks<'_>) -> Result<(), DTypeError> {
         Err(error) => checks.holds(
             "try_from_iter of unequal lengths",
             error == ArrayError::LengthMismatch,
+        ),
+    }
+    let mut pairs = Vec::new(alloc);
+    pairs.push(pair(alloc, "a", &[1, 2])?)?;
+    pairs.push(pair(alloc, "b", &[3])?)?;
+    let (_name, untyped) = pair(alloc, "v", &[1, 1])?;
+    let validity = Validity::Array(untyped);
+    match StructArray::try_from_iter_with_validity(alloc, pairs, validity) {
+        Ok(_array) => checks.holds("try_from_iter_with_validity of no truths", false),
+        Err(ArrayError::Memory) => return Err(DTypeError::Memory),
+        Err(error) => checks.holds(
+            "try_from_iter_with_validity of no truths",
+            error == ArrayError::WrongType,
         ),
     }
     Ok(())

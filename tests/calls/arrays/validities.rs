@@ -173,6 +173,13 @@ fn patched(alloc: Global, checks: &mut Checks<'_>) -> Result<(), DTypeError> {
     checks.holds("patch, signed", is_fault(&type_fault, ArrayError::WrongType));
     checks.holds("patch, no row", is_fault(&range_fault, ArrayError::OutOfRange));
     checks.holds("patch, length", is_fault(&length_fault, ArrayError::LengthMismatch));
+    let untyped = Validity::Array(numbers(alloc, &[1u8, 0], Validity::NonNullable)?);
+    let (type_first, range_first) = (
+        rows.patch(alloc, 4, &far, &untyped),
+        rows.patch(alloc, 4, &far, &by(alloc, &[true])?),
+    );
+    checks.holds("patch, no row and no truths", is_fault(&type_first, ArrayError::WrongType));
+    checks.holds("patch, no row and a length", is_fault(&range_first, ArrayError::OutOfRange));
     Ok(())
 }
 

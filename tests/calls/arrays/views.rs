@@ -4,7 +4,8 @@ use crate::checks::Checks;
 use crate::refusing::{refuse_all, took_none};
 use bytes::Bytes;
 use std::alloc::Global;
-use vortex_arrays::{BinaryView, MAX_INLINED_SIZE, Ref};
+use vortex_arrays::laws::limits;
+use vortex_arrays::{BinaryView, MAX_BUFFER_LEN, MAX_INLINED_SIZE, Ref};
 use vortex_dtype::DTypeError;
 
 const LONG: &[u8] = b"abcdefghijklm";
@@ -35,6 +36,7 @@ pub fn run(alloc: Global, checks: &mut Checks<'_>) -> Result<(), DTypeError> {
 }
 
 fn short(checks: &mut Checks<'_>) {
+    checks.holds("limits", limits() == (MAX_BUFFER_LEN, MAX_INLINED_SIZE));
     let view = BinaryView::make_view(b"ab", 7, 9);
     checks.holds(
         "make_view of a short value",

@@ -1,4 +1,4 @@
-use Rattle.std.proofs.Common.{arith, ◌≡◌, ◌∙◌, ◌<◌, true, map, get_or, sym, ap, subst}
+use Rattle.std.proofs.Common.{arith, ◌≡◌, ◌∙◌, ◌<◌, ◌≤◌, ◌+◌, true, length, map, get_or, sym, ap, subst}
 use Rattle.std.specs.List.{flat_map, All}
 use Rattle.vortex_model.specs.LogicalType.{list, fixed_list, nullable}
 use Rattle.vortex_dtype_ptype.specs.View.{nullability_of_flag}
@@ -8,9 +8,9 @@ use Rattle.vortex_dtype_core.proofs.Sizes.{type_size, fields_size, field_smaller
 use Rattle.vortex_scalar_value.specs.View.{raw_at}
 use Rattle.vortex_arrays_builder.specs.Items.{raw_items, fixed_items}
 use Rattle.vortex_arrays_builder.specs.Types.{HasPlain}
-use Rattle.vortex_arrays_builder.specs.Plain.{is_held, parts_at, IsPlain, IsPlainFault}
+use Rattle.vortex_arrays_builder.specs.Plain.{is_held, parts_at, IsPlain, IsPlainFault, IsTooLarge}
 use Rattle.vortex_arrays_builder.proofs.FixedLemmas.{all_items_held}
-use Rattle.vortex_arrays_builder.proofs.PlainLemmas.{items_held, fixed_fault, field_fault_there}
+use Rattle.vortex_arrays_builder.proofs.PlainLemmas.{items_held, fixed_fault, field_fault_there, none_more, none_too_large}
 use Rattle.vortex_arrays_builder.proofs.RecordLemmas.{first_more, first_all, kind_held, parts_held}
 use Rattle.vortex_arrays_builder.proofs.plain.+plain.Goals as goal
 
@@ -46,12 +46,17 @@ field_arrays-loop-i-preserved t c =
     let column : map raw_at c.as_slice.result.now ≡ parts_at i (map raw_at c.args.values.now) = ap (map raw_at) c.as_slice.ensures.value ∙ c.in_ok-column.ensures in
     let plain : IsPlain (type_of f.dtype) (map raw_at c.as_slice.result.now) c.in_ok-plain_of.field-0 =
     subst (λ g. IsPlain (type_of g.dtype) (map raw_at c.as_slice.result.now) c.in_ok-plain_of.field-0) (sym c.index-fields-i.is) c.in_ok-plain_of.ensures.plain in
-    first_more fs i (map raw_at c.args.values.now) c.loop-i.arrays.items c.push.new.self.items f c.in_ok-plain_of.field-0 c.loop-i.invariant c.loop-i-test.true c.index-fields-i.is
-    (subst (λ rs. IsPlain (type_of f.dtype) rs c.in_ok-plain_of.field-0) column plain) c.in_ok-push.ensures.items
+    let fits : ¬ IsTooLarge (type_of f.dtype) (map raw_at c.as_slice.result.now) =
+    subst (λ g. ¬ IsTooLarge (type_of g.dtype) (map raw_at c.as_slice.result.now)) (sym c.index-fields-i.is) c.in_ok-plain_of.ensures.accepted in (
+      first_more fs i (map raw_at c.args.values.now) c.loop-i.arrays.items c.push.new.self.items f c.in_ok-plain_of.field-0 c.loop-i.invariant.0 c.loop-i-test.true c.index-fields-i.is
+          (subst (λ rs. IsPlain (type_of f.dtype) rs c.in_ok-plain_of.field-0) column plain) c.in_ok-push.ensures.items,
+      none_more fs i f (map raw_at c.args.values.now) c.loop-i.invariant.1 c.loop-i-test.true c.index-fields-i.is
+          (subst (λ rs. ¬ IsTooLarge (type_of f.dtype) rs) column fits),
+    )
 
 pub field_arrays-returns-clause-plain : goal.field_arrays-returns-clause-plain
 field_arrays-returns-clause-plain t c =
-    first_all c.args.fields.now c.loop-i.i (map raw_at c.args.values.now) c.loop-i.arrays.items c.loop-i.invariant (omega (arith, c.loop-i-test.false, c.loop-i.auto.i-end))
+    first_all c.args.fields.now c.loop-i.i (map raw_at c.args.values.now) c.loop-i.arrays.items c.loop-i.invariant.0 (omega (arith, c.loop-i-test.false, c.loop-i.auto.i-end))
 
 pub plain_of-plain_of-requires : goal.plain_of-plain_of-requires
 plain_of-plain_of-requires t c =
@@ -103,3 +108,8 @@ plain_of-returns-in_err-elements-in-FixedSizeList-clause-refused t c =
     subst (IsPlainFault e k) items (subst (λ x. IsPlainFault e (type_of x) (map raw_at c.as_slice-in-FixedSizeList.result.now)) c.deref-in-FixedSizeList.ensures c.in_err-elements-in-FixedSizeList.ensures.refused) in
     let fault : IsPlainFault e (type_of c.args.dtype.now) rs = subst (λ x. IsPlainFault e x rs) (sym whole) (fixed_fault e k m n rs inside) in
     grind (arith, fault)
+
+pub field_arrays-returns-clause-accepted : goal.field_arrays-returns-clause-accepted
+field_arrays-returns-clause-accepted t c =
+    let all : length c.args.fields.now ≤ c.loop-i.i = omega (arith, c.loop-i-test.false, c.loop-i.auto.i-end) in
+    none_too_large c.args.fields.now 0 (map raw_at c.args.values.now) (λ j f l e. subst (λ n. ¬ IsTooLarge (type_of f.dtype) (parts_at n (map raw_at c.args.values.now))) (let s : j ≡ 0 + j = omega arith in s) (c.loop-i.invariant.1 j f (omega (arith, all, l)) e))
