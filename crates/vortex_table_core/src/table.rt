@@ -74,6 +74,7 @@ impl Table {
     ghost use Rattle.vortex_table_layout.specs.TooLarge.{AreTooLarge};
     ghost use Rattle.vortex_table_schema.specs.Error.{Explains};
     ghost use Rattle.vortex_table_schema.specs.Lengths.{entries_in};
+    ghost use Rattle.vortex_table_core.specs.Kept.{AddsAChunk, ShowsTheSame};
     ghost use Rattle.vortex_table_core.specs.TableView.{table_of};
 
     /// A table without rows. A bound of a leaf column that is a text or bytes of more bytes than
@@ -114,7 +115,8 @@ impl Table {
     }
 
     /// Converts the rows, each a value of the batch's type or null, to the table's type and keeps
-    /// them as one new chunk. No rows make none. After an error the table is as before.
+    /// them as one new chunk, in a group of its own. No rows make none. After an error the table is
+    /// as before.
     ///
     /// `layouts` has a hint for each column, in the order of the table's fields, of how it is to be
     /// laid out: columns without one are plain, and hints behind the last column are ignored. So is
@@ -135,6 +137,8 @@ impl Table {
             (table_of self.new) }
         ensures layout { OnOk result (AddsArray (HasHintedColumns layouts.now)
             (arrays_of self.old) (arrays_of self.new)) }
+        ensures added { OnOk result (AddsAChunk self.old self.new) }
+        ensures unchanged { OnErr result (ShowsTheSame self.old self.new) }
     {
         self.append_rows(batch_dtype, CowSlice::Borrowed(values), layouts)
     }
@@ -150,6 +154,8 @@ impl Table {
             (table_of self.new) }
         ensures layout { OnOk result (AddsArray (HasHintedColumns layouts.now)
             (arrays_of self.old) (arrays_of self.new)) }
+        ensures added { OnOk result (AddsAChunk self.old self.new) }
+        ensures unchanged { OnErr result (ShowsTheSame self.old self.new) }
     {
         self.append_rows(batch_dtype, CowSlice::Owned(values), layouts)
     }
@@ -164,6 +170,8 @@ impl Table {
             (cow_slice_items values.entry) result (table_of self.new) }
         ensures layout { OnOk result (AddsArray (HasHintedColumns layouts.now)
             (arrays_of self.old) (arrays_of self.new)) }
+        ensures added { OnOk result (AddsAChunk self.old self.new) }
+        ensures unchanged { OnErr result (ShowsTheSame self.old self.new) }
     {
         let alloc = *self.chunks.allocator();
         check_batch(alloc, batch_dtype, values.as_slice())?;
@@ -207,7 +215,8 @@ impl Table {
         ensures refused { IfErr result
             (λ e. Explains (2 ^ 64 ≤ length (table_rows (table_of self.old)) + len_of array) None
             e) }
-        ensures unchanged { OnErr result (table_of self.new ≡ table_of self.old) }
+        ensures added { OnOk result (AddsAChunk self.old self.new) }
+        ensures unchanged { OnErr result (ShowsTheSame self.old self.new) }
     {
         let rows = array.len();
         let Some(len) = self.len.checked_add(rows) else {
