@@ -45,17 +45,15 @@ impl Table {
     /// the rows don't have counts for statistics.
     ///
     /// Refused, in this order: where a table can't hold the array's type; `NotConvertible` with the
-    /// first row that the table's type can't hold; `Total` as in `append`, though the rows of a
-    /// layout that stays are only counted.
+    /// first row that the table's type can't hold; `Total` as in `append`. A layout that stays is
+    /// only counted.
     pub fn append_array(&mut self, array: ArrayRef) -> Result<(), TableError>
         ensures appends { AppendsArray (table_of self.old) (array_type_of array) (rows_of array)
             result (table_of self.new) }
-        ensures layout { OnOk result
-            (AddsArray (IsTakenAs (type_of self.old.dtype) array) (arrays_of self.old)
-            (arrays_of self.new)) }
-        ensures kept { KeepsLayout (type_of self.old.dtype) array → IsErrOf result Total
-            → RowsPass (Some (table_of self.old)) (append_array (array_type_of array)
-            (rows_of array)) }
+        ensures layout { OnOk result (AddsArray (IsTakenAs (type_of self.old.dtype) array)
+            (arrays_of self.old) (arrays_of self.new)) }
+        ensures kept { KeepsLayout (type_of self.old.dtype) array → IsErrOf result Total → RowsPass
+            (Some (table_of self.old)) (append_array (array_type_of array) (rows_of array)) }
         ensures added { OnOk result (AddsAChunk self.old self.new) }
         ensures unchanged { OnErr result (ShowsTheSame self.old self.new) }
     {
@@ -71,12 +69,10 @@ impl Table {
     pub fn append_hinted(&mut self, array: ArrayRef, layouts: &[Layout]) -> Result<(), TableError>
         ensures appends { AppendsArray (table_of self.old) (array_type_of array) (rows_of array)
             result (table_of self.new) }
-        ensures layout { OnOk result
-            (AddsArray (IsTakenBy (type_of self.old.dtype) layouts.now array)
-            (arrays_of self.old) (arrays_of self.new)) }
-        ensures kept { KeepsLayout (type_of self.old.dtype) array → IsErrOf result Total
-            → RowsPass (Some (table_of self.old)) (append_array (array_type_of array)
-            (rows_of array)) }
+        ensures layout { OnOk result (AddsArray (IsTakenBy (type_of self.old.dtype) layouts.now
+            array) (arrays_of self.old) (arrays_of self.new)) }
+        ensures kept { KeepsLayout (type_of self.old.dtype) array → IsErrOf result Total → RowsPass
+            (Some (table_of self.old)) (append_array (array_type_of array) (rows_of array)) }
         ensures added { OnOk result (AddsAChunk self.old self.new) }
         ensures unchanged { OnErr result (ShowsTheSame self.old self.new) }
     {
@@ -87,8 +83,7 @@ impl Table {
         Ok(())
     }
 
-    // The rows of the array, which is of a type that a table can hold, as an array of the table's
-    // type.
+    // The rows of the array, of a type that a table can hold, as an array of the table's type.
     fn take_array(
         &self,
         alloc: Global,

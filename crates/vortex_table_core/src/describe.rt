@@ -30,9 +30,8 @@ impl Table {
     ghost use Rattle.vortex_table_core.specs.TableView.{table_of};
     ghost use Rattle.vortex_table_schema.specs.Description.{IsDescription};
 
-    /// What is known of the leaf column that the path leads to, in the rows of a group. The bounds
-    /// are nullable and of the column's type, the sum a nullable `i64` or `u64`; the null count, a
-    /// `u64`, and the constancy are never null.
+    /// What is known of the leaf column that the path leads to, in the rows of a group.
+    /// Its bounds and its sum are of nullable types.
     ///
     /// Refused, in this order: `UnknownPath` or `ElementStep` by the first step of the path at
     /// fault, with the index 0; `NotALeaf`; `NoSuchGroup`.
@@ -46,8 +45,7 @@ impl Table {
             × Describes (table_of self.now)
             (positions_of (table_of self.now).kind (steps_of path.now)) group z
             × IsDescription d z) }
-        ensures statistics { IfOk result (λ d. (b : ColumnBounds)
-            × (statistics_at self.now
+        ensures statistics { IfOk result (λ d. (b : ColumnBounds) × (statistics_at self.now
             (positions_of (table_of self.now).kind (steps_of path.now)) group ≡ Some b)
             × IsDescribedBy b d) }
         ensures accepted { OnOk result

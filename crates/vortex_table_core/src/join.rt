@@ -41,8 +41,7 @@ impl Table {
     fn joined_group(&self, alloc: Global, index: usize) -> Result<Group, AllocError>
         requires { index + 1 < length self.now.groups }
         ensures group { IfOk result (λ group. IsOneGroup (type_of self.now.dtype)
-            (length_in self.now.bound_lengths) self.now.groups index
-            self.now.chunks.items group) }
+            (length_in self.now.bound_lengths) self.now.groups index self.now.chunks.items group) }
         ensures merged { IfOk result (λ group. IsMergedGroup (type_of self.now.dtype)
             self.now.groups index self.now.chunks.items group) }
     {
@@ -57,9 +56,8 @@ impl Table {
         })
     }
 
-    /// Joins the group at the index with the one behind it: a scan then looks at them as one, by
-    /// statistics that are merged of theirs. The chunks and the other groups stay. After an error
-    /// the table is as before.
+    /// Joins the group at the index with the one behind it: a scan then looks at them as one. The
+    /// chunks and the other groups stay. After an error the table is as before.
     ///
     /// Refused where there aren't both groups: `NoSuchGroup`.
     pub fn join(&mut self, index: usize) -> Result<(), TableError>

@@ -113,8 +113,7 @@ impl Table {
         Ok(groups)
     }
 
-    // The chunks and the groups with their rows converted to the type, which has these leaf columns
-    // and bound lengths.
+    // The chunks and groups converted to the type, which has these leaf columns and bound lengths.
     fn converted(
         &self,
         alloc: Global,

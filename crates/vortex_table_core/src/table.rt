@@ -115,8 +115,7 @@ impl Table {
     }
 
     /// Converts the rows, each a value of the batch's type or null, to the table's type and keeps
-    /// them as one new chunk, in a group of its own. No rows make none. After an error the table is
-    /// as before.
+    /// them as one new chunk. No rows make none. After an error the table is as before.
     ///
     /// `layouts` has a hint for each column, in the order of the table's fields, of how it is to be
     /// laid out: columns without one are plain, and hints behind the last column are ignored. So is
@@ -212,9 +211,8 @@ impl Table {
             (table_of self.new ≡ appended (table_of self.old) (rows_of array)) }
         ensures array { OnOk result
             (AddsArray (λ a. a ≡ array) (arrays_of self.old) (arrays_of self.new)) }
-        ensures refused { IfErr result
-            (λ e. Explains (2 ^ 64 ≤ length (table_rows (table_of self.old)) + len_of array) None
-            e) }
+        ensures refused { IfErr result (λ e. Explains
+            (2 ^ 64 ≤ length (table_rows (table_of self.old)) + len_of array) None e) }
         ensures added { OnOk result (AddsAChunk self.old self.new) }
         ensures unchanged { OnErr result (ShowsTheSame self.old self.new) }
     {
