@@ -1,6 +1,7 @@
 -- Why rows and arrays are not appended, and what an append leaves.
 use Rattle.std.proofs.Common.{◌≡◌, ◌≤◌, ◌<◌, ◌+◌, ◌^◌, ◌++◌, ◌∷◌, [], ℕ, suc, true, refl, sym, ap, subst, ◌∙◌, List, length, map, Option, Some, None, inl, inr, if◌then◌else◌, arith}
 use Rattle.std.specs.List.{All}
+use Rattle.std.specs.Prelude.{Result, Ok, Err, IsErrAnd, IsErrOf}
 use Rattle.std.proofs.lemmas.List.{length-map}
 use Rattle.vortex_model.specs.LogicalType.{LogicalType}
 use Rattle.vortex_model.specs.Content.{Content, content_of, Raw}
@@ -10,6 +11,7 @@ use Rattle.vortex_scalar_value.specs.View.{raw_in, content_in}
 use Rattle.vortex_scalar_value.specs.declared.scalar_value.ScalarValue.{ScalarValue}
 use Rattle.vortex_model.specs.Kept.{type_fault}
 use Rattle.vortex_model_table.specs.Table as model
+use Rattle.vortex_model_table.specs.Reply.{RowsPass}
 use Rattle.vortex_model_table.specs.Command.{append, append_array, refusal, after, appended, first_invalid, first_unconvertible}
 use Rattle.vortex_arrays_model.specs.Layout.{Layout, len_of, rows_of}
 use Rattle.vortex_arrays_model.proofs.RowsLemmas.{row_count}
@@ -114,3 +116,21 @@ adds_wider P Q old new f (inr h) = inr (h.0, h.1, f h.0 h.2)
 -- an array that is taken without hints is taken as it is where its layout is kept
 pub taken_as : (k : LogicalType) (a b : Layout) → IsTakenBy k [] a b → IsTakenAs k a b
 taken_as k a b t = record { kept = λ h. unhinted a b (t.kept h); plain = t.anew }
+
+-- ---- when a total is passed
+
+-- the error that `?` passes on is a total where the result is
+pub total_of : {A : Type 0} (r : Result A TableError) (e : TableError) → IsErrAnd r (λ x. x ≡ e) → IsErrOf r error.Total → e ≡ error.Total
+total_of (Ok a) e g is = absurd g
+total_of (Err x) e g is = let same : x ≡ error.Total = cc (is) in sym g ∙ same
+
+-- what a refusal explains is no total
+pub no_total : {A : Type 0} (r : Result A TableError) (e : TableError) (o : Option Refusal) → IsErrAnd r (λ x. x ≡ e) → Explains ⊥ o e → IsErrOf r error.Total → ⊥
+no_total r e o g h is = subst (Explains ⊥ o) (total_of r e g is) h
+
+-- a chunk more is a total only where the rows can't be counted
+pub rows_pass_only : {A : Type 0} (t : model.Table) (s : LogicalType) (rows : List Content) (r : Result A TableError) (e : TableError) (a : Layout) → rows_of a ≡ rows → IsErrAnd r (λ x. x ≡ e) →
+    Explains (2 ^ 64 ≤ length (model.rows_of t) + len_of a) None e → IsErrOf r error.Total → RowsPass (Some t) (append_array s rows)
+rows_pass_only t s rows r e a same g h is =
+    subst (λ n. 2 ^ 64 ≤ length (model.rows_of t) + n) (sym (row_count a) ∙ ap length same)
+    (subst (Explains (2 ^ 64 ≤ length (model.rows_of t) + len_of a) None) (total_of r e g is) h)

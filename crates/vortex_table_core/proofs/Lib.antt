@@ -4,6 +4,7 @@ pub mod ByProofs
 pub mod Counts
 pub mod Found
 pub mod JoinedGroups
+pub mod Merged
 pub mod Progress
 pub mod Proven
 pub mod PushedGroups

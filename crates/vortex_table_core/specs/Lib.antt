@@ -1,10 +1,12 @@
 pub mod Append
 pub mod Arrays
 pub mod Group
+pub mod Kept
 pub mod Outcome
 pub mod Plan
 pub mod Progress
 pub mod Retyped
+pub mod Statistics
 pub mod TableView
 pub mod Totals
 pub mod Truths

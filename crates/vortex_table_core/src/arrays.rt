@@ -24,14 +24,17 @@ use vortex_table_schema::layout::Layout;
 
 impl Table {
     ghost use Rattle.std.specs.Prelude.{◌≡◌, None, Some, map, option_map, slice_get, IfOk, OnOk, IfErr, OnErr, IsErrOf};
-    ghost use Rattle.vortex_model_table.specs.Command.{compact, refusal, after, first_unconvertible};
+    ghost use Rattle.vortex_model_table.specs.Command.{append_array, compact, refusal, after, first_unconvertible};
+    ghost use Rattle.vortex_model_table.specs.Reply.{RowsPass};
     ghost use Rattle.vortex_dtype_core.specs.View.{type_of};
     ghost use Rattle.vortex_arrays_model.specs.Layout.{array_type_of, rows_of};
+    ghost use Rattle.vortex_table_layout.specs.Kept.{KeepsLayout};
     ghost use Rattle.vortex_table_layout.specs.TooLarge.{AreTooLarge};
     ghost use Rattle.vortex_table_schema.specs.Error.{Explains};
     ghost use Rattle.vortex_table_schema.specs.declared.error.TableError.TheVariants.{Total};
     ghost use Rattle.vortex_table_core.specs.Append.{AppendsArray};
     ghost use Rattle.vortex_table_core.specs.Arrays.{arrays_of, AddsArray, IsTakenAs, IsTakenBy, AreAllCompacted, AnyHasTooManyItems};
+    ghost use Rattle.vortex_table_core.specs.Kept.{AddsAChunk, ShowsTheSame};
     ghost use Rattle.vortex_table_core.specs.TableView.{table_of};
 
     /// Keeps the rows of an array of records as one new chunk, as `append` does: no rows make none,
@@ -42,13 +45,17 @@ impl Table {
     /// the rows don't have counts for statistics.
     ///
     /// Refused, in this order: where a table can't hold the array's type; `NotConvertible` with the
-    /// first row that the table's type can't hold; `Total` as in `append`.
+    /// first row that the table's type can't hold; `Total` as in `append`. A layout that stays is
+    /// only counted.
     pub fn append_array(&mut self, array: ArrayRef) -> Result<(), TableError>
         ensures appends { AppendsArray (table_of self.old) (array_type_of array) (rows_of array)
             result (table_of self.new) }
-        ensures layout { OnOk result
-            (AddsArray (IsTakenAs (type_of self.old.dtype) array) (arrays_of self.old)
-            (arrays_of self.new)) }
+        ensures layout { OnOk result (AddsArray (IsTakenAs (type_of self.old.dtype) array)
+            (arrays_of self.old) (arrays_of self.new)) }
+        ensures kept { KeepsLayout (type_of self.old.dtype) array → IsErrOf result Total → RowsPass
+            (Some (table_of self.old)) (append_array (array_type_of array) (rows_of array)) }
+        ensures added { OnOk result (AddsAChunk self.old self.new) }
+        ensures unchanged { OnErr result (ShowsTheSame self.old self.new) }
     {
         self.append_hinted(array, &[])
     }
@@ -62,9 +69,12 @@ impl Table {
     pub fn append_hinted(&mut self, array: ArrayRef, layouts: &[Layout]) -> Result<(), TableError>
         ensures appends { AppendsArray (table_of self.old) (array_type_of array) (rows_of array)
             result (table_of self.new) }
-        ensures layout { OnOk result
-            (AddsArray (IsTakenBy (type_of self.old.dtype) layouts.now array)
-            (arrays_of self.old) (arrays_of self.new)) }
+        ensures layout { OnOk result (AddsArray (IsTakenBy (type_of self.old.dtype) layouts.now
+            array) (arrays_of self.old) (arrays_of self.new)) }
+        ensures kept { KeepsLayout (type_of self.old.dtype) array → IsErrOf result Total → RowsPass
+            (Some (table_of self.old)) (append_array (array_type_of array) (rows_of array)) }
+        ensures added { OnOk result (AddsAChunk self.old self.new) }
+        ensures unchanged { OnErr result (ShowsTheSame self.old self.new) }
     {
         let alloc = *self.chunks.allocator();
         check_type(alloc, array.dtype())?;
@@ -73,8 +83,7 @@ impl Table {
         Ok(())
     }
 
-    // The rows of the array, which is of a type that a table can hold, as an array of the table's
-    // type.
+    // The rows of the array, of a type that a table can hold, as an array of the table's type.
     fn take_array(
         &self,
         alloc: Global,
@@ -92,6 +101,7 @@ impl Table {
             (array_type_of array) (type_of self.now.dtype) (rows_of array)) e) }
         ensures total { IsErrOf result Total → first_unconvertible 0 (array_type_of array)
             (type_of self.now.dtype) (rows_of array) ≡ None }
+        ensures kept { KeepsLayout (type_of self.now.dtype) array → ¬ IsErrOf result Total }
     {
         if keeps_layout(&self.dtype, &array) {
             // Both tell the proof that the rows are of the array's type.

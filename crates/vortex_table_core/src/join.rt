@@ -17,6 +17,8 @@ impl Table {
     ghost use Rattle.vortex_table_schema.specs.Error.{Explains};
     ghost use Rattle.vortex_table_schema.specs.Lengths.{length_in};
     ghost use Rattle.vortex_table_core.specs.Group.{IsGroup, IsOneGroup, chunks_of};
+    ghost use Rattle.vortex_table_core.specs.Kept.{HasChunksOf};
+    ghost use Rattle.vortex_table_core.specs.Statistics.{statistics_in, statistics_of, AreMergedAt, IsMergedGroup};
     ghost use Rattle.vortex_table_core.specs.TableView.{table_of};
 
     // The statistics of each leaf column in the rows of a group.
@@ -24,9 +26,10 @@ impl Table {
         requires inside { group.now.first < length self.now.chunks.items }
         requires group { IsGroup (type_of self.now.dtype) (length_in self.now.bound_lengths)
             group.now (chunks_of self.now.chunks.items group.now) }
-        ensures { ∥ AreJoined (type_of self.now.dtype) (length_in self.now.bound_lengths)
+        ensures joined { ∥ AreJoined (type_of self.now.dtype) (length_in self.now.bound_lengths)
             (leaf_positions (type_of self.now.dtype)) result.now
             (map chunk_rows (chunks_of self.now.chunks.items group.now)) ∥₁ }
+        ensures own { result.now ≡ statistics_in self.now.chunks.items group.now }
     {
         match &group.joined {
             Some(bounds) => bounds.as_slice(),
@@ -37,9 +40,10 @@ impl Table {
     // The group at the index and the one behind it, as one.
     fn joined_group(&self, alloc: Global, index: usize) -> Result<Group, AllocError>
         requires { index + 1 < length self.now.groups }
-        ensures { IfOk result (λ group. IsOneGroup (type_of self.now.dtype)
-            (length_in self.now.bound_lengths) self.now.groups index
-            self.now.chunks.items group) }
+        ensures group { IfOk result (λ group. IsOneGroup (type_of self.now.dtype)
+            (length_in self.now.bound_lengths) self.now.groups index self.now.chunks.items group) }
+        ensures merged { IfOk result (λ group. IsMergedGroup (type_of self.now.dtype)
+            self.now.groups index self.now.chunks.items group) }
     {
         let left = self.groups.item(index);
         let right = self.groups.item(index + 1);
@@ -53,15 +57,19 @@ impl Table {
     }
 
     /// Joins the group at the index with the one behind it: a scan then looks at them as one. The
-    /// chunks and their rows stay. After an error the table is as before.
+    /// chunks and the other groups stay. After an error the table is as before.
     ///
     /// Refused where there aren't both groups: `NoSuchGroup`.
     pub fn join(&mut self, index: usize) -> Result<(), TableError>
         ensures joined { OnOk result (table_of self.new ≡ after (table_of self.old) (join index)) }
+        ensures chunks { OnOk result (HasChunksOf self.old self.new) }
+        ensures zones { OnOk result (self.new.zones ≡ self.old.zones) }
+        ensures statistics { OnOk result (AreMergedAt (type_of self.old.dtype) index
+            (statistics_of self.old) (statistics_of self.new)) }
         ensures accepted { OnOk result (refusal (table_of self.old) (join index) ≡ None) }
         ensures refused { IfErr result
             (λ e. Explains ⊥ (refusal (table_of self.old) (join index)) e) }
-        ensures unchanged { OnErr result (table_of self.new ≡ table_of self.old) }
+        ensures unchanged { OnErr result (self.new ≡ self.old) }
     {
         let alloc = *self.chunks.allocator();
         if self.groups.len() < 2 || index > self.groups.len() - 2 {

@@ -83,6 +83,7 @@ impl Table {
     ghost use Rattle.vortex_table_chunk.specs.Formed.{is_formed};
     ghost use Rattle.vortex_table_layout.specs.Retyping.{target_of, lengths_of};
     ghost use Rattle.vortex_table_core.specs.Retyped.{AreRegrouped};
+    ghost use Rattle.vortex_table_core.specs.Statistics.{HasMergedInOrder};
     ghost use Rattle.vortex_table_layout.specs.AnyTooLarge.{AnyTooLarge};
     ghost use Rattle.vortex_table_core.specs.TableView.{table_of};
     ghost use Rattle.vortex_table_core.specs.Totals.{PassesTotal};
@@ -112,8 +113,7 @@ impl Table {
         Ok(groups)
     }
 
-    // The chunks and the groups with their rows converted to the type, which has these leaf columns
-    // and bound lengths.
+    // The chunks and groups converted to the type, which has these leaf columns and bound lengths.
     fn converted(
         &self,
         alloc: Global,
@@ -153,10 +153,10 @@ impl Table {
         Ok((chunks, groups))
     }
 
-    /// Converts all rows to the type, which becomes the table's. A leaf column that stays one at
-    /// its positions keeps its bounds and null counts in each chunk. All other statistics are
-    /// taken anew, those of a group from its chunks, from the first to the last. To the table's
-    /// own type nothing changes, and after an error the table is as before.
+    /// Converts all rows to the type, which becomes the table's, and lays them out plain. A leaf
+    /// column that stays one at its positions keeps its bounds and null counts in each chunk. All
+    /// other statistics are taken anew, those of a group from its chunks, from the first to the
+    /// last. To the table's own type nothing changes, and after an error the table is as before.
     ///
     /// Refused, in this order: where a table can't hold the type, `NotARecord`, `RepeatedName`,
     /// `UnkeptType`; `NotConvertible` with the first row that the type can't hold, counted over the
@@ -165,6 +165,8 @@ impl Table {
     pub fn retype(&mut self, dtype: DType) -> Result<(), TableError>
         ensures retyped { OnOk result
             (table_of self.new ≡ after (table_of self.old) (retype (type_of dtype))) }
+        ensures statistics { OnOk result ((¬ (type_of dtype ≡ (table_of self.old).kind))
+            → HasMergedInOrder self.new) }
         ensures accepted { OnOk result
             (refusal (table_of self.old) (retype (type_of dtype)) ≡ None) }
         ensures refused { IfErr result

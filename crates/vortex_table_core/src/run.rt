@@ -1,6 +1,5 @@
 //! The run of a scan, group by group: the chunks of a group are looked at unless its statistics
-//! prove that none of their rows is selected. Those that are skipped one behind the other are added
-//! at once.
+//! prove that none of their rows is selected. Neighbours that are skipped are added at once.
 ghost use Rattle.std.specs.Prelude.{◌≡◌, ◌≤◌, ◌<◌, ◌+◌, ◌^◌, ◌++◌, OnOk, false, length, slice_index_or};
 ghost use Rattle.vortex_table_core.specs.Progress.{numbers_from};
 ghost use Rattle.vortex_table_core.specs.Truths.{is_block, AreTrue};

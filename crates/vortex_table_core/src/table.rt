@@ -74,6 +74,7 @@ impl Table {
     ghost use Rattle.vortex_table_layout.specs.TooLarge.{AreTooLarge};
     ghost use Rattle.vortex_table_schema.specs.Error.{Explains};
     ghost use Rattle.vortex_table_schema.specs.Lengths.{entries_in};
+    ghost use Rattle.vortex_table_core.specs.Kept.{AddsAChunk, ShowsTheSame};
     ghost use Rattle.vortex_table_core.specs.TableView.{table_of};
 
     /// A table without rows. A bound of a leaf column that is a text or bytes of more bytes than
@@ -135,6 +136,8 @@ impl Table {
             (table_of self.new) }
         ensures layout { OnOk result (AddsArray (HasHintedColumns layouts.now)
             (arrays_of self.old) (arrays_of self.new)) }
+        ensures added { OnOk result (AddsAChunk self.old self.new) }
+        ensures unchanged { OnErr result (ShowsTheSame self.old self.new) }
     {
         self.append_rows(batch_dtype, CowSlice::Borrowed(values), layouts)
     }
@@ -150,6 +153,8 @@ impl Table {
             (table_of self.new) }
         ensures layout { OnOk result (AddsArray (HasHintedColumns layouts.now)
             (arrays_of self.old) (arrays_of self.new)) }
+        ensures added { OnOk result (AddsAChunk self.old self.new) }
+        ensures unchanged { OnErr result (ShowsTheSame self.old self.new) }
     {
         self.append_rows(batch_dtype, CowSlice::Owned(values), layouts)
     }
@@ -164,6 +169,8 @@ impl Table {
             (cow_slice_items values.entry) result (table_of self.new) }
         ensures layout { OnOk result (AddsArray (HasHintedColumns layouts.now)
             (arrays_of self.old) (arrays_of self.new)) }
+        ensures added { OnOk result (AddsAChunk self.old self.new) }
+        ensures unchanged { OnErr result (ShowsTheSame self.old self.new) }
     {
         let alloc = *self.chunks.allocator();
         check_batch(alloc, batch_dtype, values.as_slice())?;
@@ -204,10 +211,10 @@ impl Table {
             (table_of self.new ≡ appended (table_of self.old) (rows_of array)) }
         ensures array { OnOk result
             (AddsArray (λ a. a ≡ array) (arrays_of self.old) (arrays_of self.new)) }
-        ensures refused { IfErr result
-            (λ e. Explains (2 ^ 64 ≤ length (table_rows (table_of self.old)) + len_of array) None
-            e) }
-        ensures unchanged { OnErr result (table_of self.new ≡ table_of self.old) }
+        ensures refused { IfErr result (λ e. Explains
+            (2 ^ 64 ≤ length (table_rows (table_of self.old)) + len_of array) None e) }
+        ensures added { OnOk result (AddsAChunk self.old self.new) }
+        ensures unchanged { OnErr result (ShowsTheSame self.old self.new) }
     {
         let rows = array.len();
         let Some(len) = self.len.checked_add(rows) else {

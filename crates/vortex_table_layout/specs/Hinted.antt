@@ -5,7 +5,7 @@ use Rattle.vortex_model.specs.Content.{Content, content_of, Raw}
 use Rattle.vortex_arrays_model.specs.Layout.{Layout, constant, records, Columns, no_columns, column, array_type_of, rows_of, IsSound}
 use Rattle.vortex_arrays_builder.specs.Fits.{fits_constant, fits_dictionary}
 use Rattle.vortex_arrays_builder.specs.Plain.{parts_at, IsTooLarge}
-use Rattle.vortex_arrays_builder.specs.Types.{IsPlainLayout}
+pub use Rattle.vortex_arrays_builder.specs.Types.{IsPlainLayout}
 use Rattle.vortex_arrays_dictionary.specs.Distinct.{distinct}
 use Rattle.vortex_arrays_dictionary.specs.Dictionary.{IsDictionaryOf}
 use Rattle.vortex_table_schema.specs.declared.layout.Layout as hint

@@ -36,9 +36,10 @@ pub struct Retyping<'a> {
 
 impl Retyping<'_> {
     ghost use Rattle.std.specs.Prelude.{◌≡◌, ◌<◌, ◌+◌, ◌^◌, None, map, flat_map, IfOk, OnOk, IfErr, IsErrOf, IsTrue};
-    ghost use Rattle.std.specs.List.{list_all};
+    ghost use Rattle.std.specs.List.{All, list_all};
     ghost use Rattle.vortex_model_table.specs.Command.{first_unconvertible};
     ghost use Rattle.vortex_arrays_model.specs.Layout.{len_of};
+    ghost use Rattle.vortex_arrays_builder.specs.Types.{IsPlainLayout};
     ghost use Rattle.vortex_table_chunk.specs.Chunk.{chunk_rows, row_count};
     ghost use Rattle.vortex_table_chunk.specs.Formed.{is_formed};
     ghost use Rattle.vortex_table_schema.specs.Error.{Explains};
@@ -65,6 +66,7 @@ impl Retyping<'_> {
         ensures formed { IfOk result
             (λ new. IsTrue (is_formed (lengths_of self.now) (target_of self.now) new)) }
         ensures rows { IfOk result (λ new. chunk_rows new ≡ chunk_rows chunk.now) }
+        ensures layout { IfOk result (λ new. IsPlainLayout new.array) }
         ensures converts { OnOk result (first_unconvertible first (source_of self.now)
             (target_of self.now) (chunk_rows chunk.now) ≡ None) }
         ensures refused { IfErr result (λ e. Explains
@@ -120,6 +122,7 @@ impl Retyping<'_> {
             (list_all (is_formed (lengths_of self.now) (target_of self.now)) new.items)) }
         ensures rows { IfOk result
             (λ new. map chunk_rows new.items ≡ map chunk_rows chunks.now) }
+        ensures layout { IfOk result (λ new. All (λ c. IsPlainLayout c.array) new.items) }
         ensures converts { OnOk result (first_unconvertible 0 (source_of self.now)
             (target_of self.now) (flat_map (λ chunk. chunk) (map chunk_rows chunks.now)) ≡ None) }
         ensures refused { IfErr result (λ e. Explains
@@ -139,8 +142,8 @@ impl Retyping<'_> {
         Ok(converted)
     }
 
-    /// The chunks, one for each, with their rows converted and the statistics of the target's leaf
-    /// columns. `NotConvertible` has the index of the first row that the target can't hold, counted
+    /// The chunks, one for each, with their rows converted and laid out plain, and the statistics of
+    /// the target's leaf columns. `NotConvertible` has the index of the first row that the target can't hold, counted
     /// over all chunks. `Total` where the texts or the bytes of a column of a chunk can't be held
     /// by its views and buffers.
     pub fn retype_chunks(&self, alloc: Global, chunks: &[Chunk]) -> Result<Vec<Chunk>, TableError>
@@ -152,6 +155,7 @@ impl Retyping<'_> {
             (list_all (is_formed (lengths_of self.now) (target_of self.now)) new.items)) }
         ensures rows { IfOk result
             (λ new. map chunk_rows new.items ≡ map chunk_rows chunks.now) }
+        ensures layout { IfOk result (λ new. All (λ c. IsPlainLayout c.array) new.items) }
         ensures converts { OnOk result (first_unconvertible 0 (source_of self.now)
             (target_of self.now) (flat_map (λ chunk. chunk) (map chunk_rows chunks.now)) ≡ None) }
         ensures refused { IfErr result (λ e. Explains

@@ -1,12 +1,13 @@
 use Rattle.std.below.core.proofs.iter.Serving.{as_err}
 use Rattle.std.proofs.Common.{◌≡◌, None, rules, subst, sym, arith}
 use Rattle.vortex_model.specs.Kept.{type_fault}
+use Rattle.vortex_table_schema.specs.declared.error.TableError.TheVariants as error
 use Rattle.vortex_model_table.specs.Command.{append_array, refusal}
 use Rattle.vortex_dtype_core.specs.View.{type_of}
 use Rattle.vortex_arrays_model.specs.Layout.{array_type_of, rows_of}
 use Rattle.vortex_table_core.specs.Arrays.{arrays_of, IsTakenBy}
 use Rattle.vortex_table_core.specs.TableView.{table_of}
-use Rattle.vortex_table_core.proofs.Appended.{take_refused, push_array_refused, array_accepted, why_array, adds_wider}
+use Rattle.vortex_table_core.proofs.Appended.{total_of, no_total, rows_pass_only, take_refused, push_array_refused, array_accepted, why_array, adds_wider}
 use Rattle.vortex_table_core.proofs.table.Table.append_hinted.Goals as goal
 
 pub returns-in_err-taken-clause-appends : goal.returns-in_err-taken-clause-appends
@@ -47,3 +48,17 @@ returns-clause-layout c =
     let k = type_of c.args.self.now.dtype in
     adds_wider (λ a. a ≡ c.in_ok-taken.taken) (IsTakenBy k c.args.layouts.now c.args.array) (arrays_of c.args.self.now) (arrays_of c.push_array.new.self)
     (λ a e. subst (IsTakenBy k c.args.layouts.now c.args.array) (sym e) c.in_ok-taken.ensures.layout) c.in_ok-push_array.ensures.array
+
+pub returns-in_err-check_type-clause-kept : goal.returns-in_err-check_type-clause-kept
+returns-in_err-check_type-clause-kept c = λ h is.
+    absurd (no_total _ c.in_err-check_type.field-0.0 (type_fault (type_of c.dtype.result.now)) c.from_residual.ensures.1 c.in_err-check_type.ensures.refused is)
+
+pub returns-in_err-taken-clause-kept : goal.returns-in_err-taken-clause-kept
+returns-in_err-taken-clause-kept c = λ h is.
+    let same : c.in_err-taken.field-0.0 ≡ error.Total = total_of _ c.in_err-taken.field-0.0 c.from_residual-in_err-taken.ensures.1 is in
+    absurd (c.in_err-taken.ensures.kept h (cc (same)))
+
+pub returns-in_err-push_array-clause-kept : goal.returns-in_err-push_array-clause-kept
+returns-in_err-push_array-clause-kept c = λ h is.
+    rows_pass_only (table_of c.args.self.now) (array_type_of c.args.array) (rows_of c.args.array) _ c.in_err-push_array.field-0.0 c.in_ok-taken.taken c.in_ok-taken.ensures.rows
+    c.from_residual-in_err-push_array.ensures.1 c.in_err-push_array.ensures.refused is

@@ -9,6 +9,7 @@ use Rattle.vortex_table_core.specs.Group.{chunks_of}
 use Rattle.vortex_table_core.proofs.Described.{leaf_has_bounds, leaf_joined}
 use Rattle.vortex_table_chunk.proofs.EqualLeaves.{leaves_so}
 use Rattle.vortex_table_core.proofs.JoinedGroups.{group_at, group_within, same_at}
+use Rattle.vortex_table_core.proofs.Merged.{found_at}
 use Rattle.vortex_table_schema.proofs.LeafPlaces.{leaf_part}
 use Rattle.vortex_table_schema.specs.Lengths.{length_in}
 use Rattle.vortex_table_core.proofs.table.Table.leaf_statistics.Goals as goal
@@ -31,11 +32,11 @@ unreachable-requires c =
     let leaves = c.deref-2.ensures.value ∙ ap (λ v. v.items) c.deref.ensures ∙ leaves_so t.leaves.value.items (leaf_positions k) t.led in
     let none : bounds_at (leaf_positions k) c.statistics.result.now place ≡ None =
     ap (λ ls. bounds_at ls c.statistics.result.now place) (sym leaves) ∙ sym c.bounds_at.ensures ∙ ap (option_map (λ found. found.now)) c.in_default.is in
-    let some = leaf_has_bounds k (length_in t.bound_lengths) c.statistics.result.now (map chunk_rows (chunks_of t.chunks.items c.item-group.result.now)) place leaf.part leaf.there leaf.leaf c.statistics.ensures in
+    let some = leaf_has_bounds k (length_in t.bound_lengths) c.statistics.result.now (map chunk_rows (chunks_of t.chunks.items c.item-group.result.now)) place leaf.part leaf.there leaf.leaf c.statistics.ensures.joined in
     absurd (cc (some, ap is_some none))
 
-pub returns : goal.returns
-returns c = λ d.
+pub returns-clause-joined : goal.returns-clause-joined
+returns-clause-joined c = λ d.
     let t = c.args.self.now in let k = type_of t.dtype in let place = c.args.place.now in let g = c.item-group.result.now in
     let b = c.in-Some.bounds.now in
     let leaf = leaf_part k place c.requires.leaf in
@@ -44,4 +45,13 @@ returns c = λ d.
     ap (λ ls. bounds_at ls c.statistics.result.now place) (sym leaves) ∙ sym c.bounds_at.ensures ∙ ap (option_map (λ found. found.now)) c.in-Some.is in
     subst (λ x. ∥ IsJoined k (length_in t.bound_lengths) place b (map chunk_rows (chunks_of t.chunks.items x)) ∥₁)
     (same_at t.groups c.args.group g g d c.requires.group c.item-group.ensures)
-    (leaf_joined k (length_in t.bound_lengths) c.statistics.result.now (map chunk_rows (chunks_of t.chunks.items g)) place leaf.part leaf.there leaf.leaf c.statistics.ensures b found)
+    (leaf_joined k (length_in t.bound_lengths) c.statistics.result.now (map chunk_rows (chunks_of t.chunks.items g)) place leaf.part leaf.there leaf.leaf c.statistics.ensures.joined b found)
+
+pub returns-clause-own : goal.returns-clause-own
+returns-clause-own c =
+    let t = c.args.self.now in let k = type_of t.dtype in let place = c.args.place.now in let g = c.item-group.result.now in
+    let b = c.in-Some.bounds.now in
+    let leaves = c.deref-2.ensures.value ∙ ap (λ v. v.items) c.deref.ensures ∙ leaves_so t.leaves.value.items (leaf_positions k) t.led in
+    let found : bounds_at (leaf_positions k) c.statistics.result.now place ≡ Some b =
+    ap (λ ls. bounds_at ls c.statistics.result.now place) (sym leaves) ∙ sym c.bounds_at.ensures ∙ ap (option_map (λ found. found.now)) c.in-Some.is in
+    found_at (leaf_positions k) place t.chunks.items t.groups c.args.group g c.statistics.result.now b c.requires.group c.item-group.ensures c.statistics.ensures.own found

@@ -1,4 +1,4 @@
-use Rattle.std.proofs.Common.{◌≡◌, ◌<◌, refl, sym, ap, subst, ◌∙◌, ◌+◌, ◌++◌, ◌∷◌, ◌&&◌, [], arith, length, map, ℕ, true, None}
+use Rattle.std.proofs.Common.{◌≡◌, ◌<◌, refl, sym, ap, subst, ◌∙◌, ◌+◌, ◌++◌, ◌∷◌, ◌&&◌, [], arith, length, map, ℕ, true, None, inl, inr}
 use Rattle.std.specs.List.{list_all}
 use Rattle.std.proofs.lemmas.List.{length-map, map-append}
 use Rattle.std.proofs.lemmas.List.Folds.{list_all-append}
@@ -103,3 +103,26 @@ returns-clause-appended c =
       chunks = chunks i;
       groups = groups i;
     }) ∙ sym (appended_some (table_of t) rows some)
+
+pub returns-then-rows-eq0-clause-added : goal.returns-then-rows-eq0-clause-added
+returns-then-rows-eq0-clause-added c = inl (record { chunks = record { dtype = refl; bound_lengths = refl; chunks = refl }; groups = refl })
+
+pub returns-clause-added : goal.returns-clause-added
+returns-clause-added c =
+    let t = c.args.self.now in let chunk = c.in_ok-chunk.chunk in
+    let g : Group = record { first = c.len-index.result; chunks = 1; rows = c.len-rows.result; joined = None } in
+    let size = c.len-index.ensures in let same = t.chunks.ok.0 in
+    let first : c.len-index.result ≡ length t.chunks.items = omega (arith, size, same) in
+    inr (
+      chunk,
+      g,
+      record {
+        dtype = refl;
+        bound_lengths = refl;
+        chunks = c.in_ok-push-2.ensures.items ∙ ap (λ cs. cs ++ chunk ∷ []) c.in_ok-reserve.ensures.items;
+        groups = c.in_ok-push.ensures.pushed;
+        first = first;
+        alone = refl;
+        own = refl;
+      },
+    )

@@ -11,6 +11,7 @@ use Rattle.vortex_table_schema.specs.Lengths.{length_in}
 use Rattle.vortex_table_schema.proofs.Explained.{none_so, none_both}
 use Rattle.vortex_table_zonemaps.specs.Zones.{zone_of, AreZoneMaps}
 use Rattle.vortex_table_core.specs.TableView.{table_of}
+use Rattle.vortex_table_core.proofs.Merged.{groups_in_order}
 use Rattle.vortex_table_core.proofs.OwnType.{chunks_convert}
 use Rattle.vortex_table_core.proofs.Regrouped.{groups_again, sizes_again, counted_again}
 use Rattle.vortex_table_core.proofs.Rezoned.{zones_stay, none_made}
@@ -77,3 +78,16 @@ returns-in_default-clause-retyped c =
       chunks = made.rows i;
       groups = sizes_again s k (length_in t.bound_lengths) t.chunks.items c.in_ok-chunks.chunks.items made.rows t.groups c.in_ok-chunks.groups made.groups i;
     }
+
+pub returns-in-Some-clause-statistics : goal.returns-in-Some-clause-statistics
+returns-in-Some-clause-statistics c =
+    let t = c.args.self.now in let made = c.in_ok-chunks.ensures in
+    λ differs. groups_in_order (type_of c.args.dtype) (length_in t.bound_lengths) c.in_ok-chunks.chunks.items made.formed t.groups c.in_ok-chunks.groups made.groups
+
+pub returns-in_default-clause-statistics : goal.returns-in_default-clause-statistics
+returns-in_default-clause-statistics c =
+    let t = c.args.self.now in let made = c.in_ok-chunks.ensures in
+    λ differs. groups_in_order (type_of c.args.dtype) (length_in t.bound_lengths) c.in_ok-chunks.chunks.items made.formed t.groups c.in_ok-chunks.groups made.groups
+
+pub returns-then-eq-clause-statistics : goal.returns-then-eq-clause-statistics
+returns-then-eq-clause-statistics c = λ differs. absurd (differs (c.eq.ensures.equal.0 c.if-eq.true))

@@ -69,3 +69,9 @@ returns-clause-total c =
     let same : map content_of (map raw_in c.in_ok-values.values.items) ≡ rows = contents_in c.in_ok-values.values.items ∙ c.in_ok-values.ensures.rows in
     let converts : first_unconvertible 0 s k rows ≡ None = subst (λ cs. first_unconvertible 0 s k cs ≡ None) same (subst (λ x. first_unconvertible 0 x k (map content_of (map raw_in c.in_ok-values.values.items)) ≡ None) c.dtype.ensures c.in_ok-rows.ensures.converts) in
     λ h. converts
+
+pub returns-in_err-rows-clause-kept : goal.returns-in_err-rows-clause-kept
+returns-in_err-rows-clause-kept c = λ h is. absurd (cc (c.keeps_layout.ensures.1 h, c.if-keeps_layout.false))
+
+pub returns-clause-kept : goal.returns-clause-kept
+returns-clause-kept c = λ h is. absurd (cc (c.keeps_layout.ensures.1 h, c.if-keeps_layout.false))

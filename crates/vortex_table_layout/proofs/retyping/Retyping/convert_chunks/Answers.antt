@@ -1,8 +1,12 @@
-use Rattle.std.proofs.Common.{ap, ◌∙◌, ◌+◌, drop, map, rules, arith}
+use Rattle.std.proofs.Common.{ap, sym, subst, ◌++◌, ◌∷◌, [], ◌∙◌, ◌+◌, drop, map, rules, arith}
+use Rattle.std.specs.List.{All}
+use Rattle.std.proofs.lemmas.List.Elements.{All-nil, All-push}
 use Rattle.vortex_model_table.specs.Command.{first_unconvertible}
+use Rattle.vortex_arrays_builder.specs.Types.{IsPlainLayout}
 use Rattle.vortex_table_schema.specs.Error.{Explains}
 use Rattle.vortex_table_chunk.specs.Chunk.{chunk_rows}
 use Rattle.vortex_table_chunk.specs.Formed.{is_formed}
+use Rattle.vortex_table_chunk.specs.declared.chunk.Chunk.{Chunk}
 use Rattle.vortex_table_layout.specs.Retyping.{source_of, target_of, lengths_of}
 use Rattle.vortex_table_layout.specs.AnyTooLarge.{AnyTooLarge}
 use Rattle.vortex_table_layout.proofs.ConvertedRows.{all_pushed, all_rows, within, count_more, chunk_refused, chunk_passed, chunk_kept}
@@ -33,6 +37,8 @@ loop-chunk-preserved c =
       counted = ap (λ n. at.first + n) size ∙ count_more s t chunks i chunk inside is at.first counted;
       formed = all_pushed (is_formed (lengths_of r) t) old new made c.in_ok-push.ensures.items at.invariant.formed c.in_ok-new.ensures.formed;
       rows = chunk_kept s t chunks i chunk inside is at.first counted old new made c.in_ok-push.ensures.items at.invariant.rows c.in_ok-new.ensures.rows;
+      plain = subst (All (λ (x : Chunk). IsPlainLayout x.array)) (sym c.in_ok-push.ensures.items)
+          (All-push (λ (x : Chunk). IsPlainLayout x.array) old made at.invariant.plain c.in_ok-new.ensures.layout);
       left = ap (λ n. first_unconvertible (at.first + n) s t (all_rows (drop (i + 1) chunks))) size
           ∙ chunk_passed s t chunks i chunk inside is at.first counted (first_unconvertible 0 s t (all_rows chunks)) c.in_ok-new.ensures.converts at.invariant.left;
     }

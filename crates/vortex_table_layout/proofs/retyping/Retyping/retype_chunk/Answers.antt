@@ -7,6 +7,7 @@ use Rattle.vortex_table_chunk.specs.Bounds.{are_sums_of}
 use Rattle.vortex_table_chunk.specs.Chunk.{chunk_rows}
 use Rattle.vortex_table_chunk.proofs.Formed.{some_rows, of_type, formed_so}
 use Rattle.vortex_table_layout.specs.Retyping.{source_of, target_of, lengths_of}
+use Rattle.vortex_arrays_builder.specs.Types.{IsPlainLayout}
 use Rattle.vortex_arrays_builder.specs.TooLarge.{AreTooLarge}
 use Rattle.vortex_table_layout.proofs.retyping.Retyping.retype_chunk.Goals as goal
 
@@ -34,3 +35,6 @@ pub returns-clause-converts : goal.returns-clause-converts
 returns-clause-converts c =
     let r = c.args.self.now in let chunk = c.args.chunk.now in
     ap (λ k. first_unconvertible c.args.first k (target_of r) (chunk_rows chunk)) (sym (of_type (lengths_of r) (source_of r) chunk c.requires.formed)) ∙ c.in_ok-array.ensures.converts
+
+pub returns-clause-layout : goal.returns-clause-layout
+returns-clause-layout c = subst IsPlainLayout (sym c.in_ok-new.ensures.array) c.in_ok-array.ensures.layout

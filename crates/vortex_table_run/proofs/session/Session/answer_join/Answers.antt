@@ -19,7 +19,7 @@ pub returns-in-Err : goal.returns-in-Err
 returns-in-Err c = λ out.
     let e = c.in-Err.error in
     let there = ap (option_map table_of) c.in-Some.is in
-    let same = ap Some c.in-Err.ensures.unchanged in (
+    let same = ap (λ t. Some (table_of t)) c.in-Err.ensures.unchanged in (
       error_answer e,
       refused_there (table_in c.args.self.now) (Some (table_of c.join.new.self)) (table_of c.in-Some.table) (join c.args.group) e there same c.in-Err.ensures.refused,
       c.fault.ensures out (no_rule _ _ e c.in-Err.ensures.refused),

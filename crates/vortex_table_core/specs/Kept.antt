@@ -1,0 +1,30 @@
+-- What calls leave of a table.
+use Rattle.std.specs.Prelude.{◌≡◌, ◌⊎◌, [], ◌∷◌, ◌++◌, length, None}
+use Rattle.vortex_table_chunk.specs.declared.chunk.Chunk.{Chunk}
+use Rattle.vortex_table_core.specs.declared.group.Group.{Group}
+use Rattle.vortex_table_core.specs.declared.table.Table.{Table}
+
+-- no call tells the type, the bound lengths or the chunks of both apart
+pub record HasChunksOf (old new : Table) : Type 0 where
+  pub dtype : new.dtype ≡ old.dtype
+  pub bound_lengths : new.bound_lengths ≡ old.bound_lengths
+  pub chunks : new.chunks.items ≡ old.chunks.items
+
+-- no call tells both apart: not by their groups either, each with its statistics
+pub record ShowsTheSame (old new : Table) : Type 0 where
+  pub chunks : HasChunksOf old new
+  pub groups : new.groups ≡ old.groups
+
+-- the chunk stands behind all others, in a group of its own
+pub record HasOneMore (c : Chunk) (g : Group) (old new : Table) : Type 0 where
+  pub dtype : new.dtype ≡ old.dtype
+  pub bound_lengths : new.bound_lengths ≡ old.bound_lengths
+  pub chunks : new.chunks.items ≡ old.chunks.items ++ c ∷ []
+  pub groups : new.groups ≡ old.groups ++ g ∷ []
+  pub first : g.first ≡ length old.chunks.items
+  pub alone : g.chunks ≡ 1
+  pub own : g.joined ≡ None
+
+-- Nothing is added, or one chunk.
+abbrev pub AddsAChunk : Table → Table → Type 0
+AddsAChunk old new = ShowsTheSame old new ⊎ ((c : Chunk) × (g : Group) × HasOneMore c g old new)
