@@ -5,7 +5,7 @@ use crate::checks::Checks;
 use std::alloc::Global;
 use vortex_scalar::{PValue, ScalarValue};
 use vortex_stats::Precision::{Absent, Exact, Inexact};
-use vortex_stats::{Precision, Stat, StatsError, StatsSet};
+use vortex_stats::{Precision, Stat, StatsArray, StatsError, StatsSet};
 
 /// A statistic with what is known of it.
 type Pair = (Stat, Precision<ScalarValue>);
@@ -59,7 +59,7 @@ fn made(alloc: Global, checks: &mut Checks<'_>) -> Done {
     checks.holds("get of empty", none.get(Stat::Sum)?.is_absent());
     let one = StatsSet::of(alloc, Stat::Sum, Exact(number(3)));
     checks.holds("of", has_rows(&one, &[(Stat::Sum, Exact(3))]));
-    let mut values = Vec::new(alloc);
+    let mut values = StatsArray::new(alloc);
     values.push((Stat::NaNCount, Absent))?;
     values.push((Stat::Max, Exact(number(4))))?;
     let set = StatsSet::new_unchecked(values);
