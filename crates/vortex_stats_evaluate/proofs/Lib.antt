@@ -1,5 +1,6 @@
 mod Adding
 mod Binding
+mod Faults
 mod Found
 mod RowTruths
 mod Telling

@@ -1,3 +1,5 @@
+pub mod Faults
+pub mod Finding
 pub mod Meters
 pub mod Placeholders
 pub mod Refusals

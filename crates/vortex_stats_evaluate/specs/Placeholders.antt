@@ -6,6 +6,7 @@ use Rattle.vortex_dtype_core.specs.View.{type_of}
 use Rattle.vortex_stats_bind.specs.Bound.{placeholder}
 use Rattle.vortex_stats_expr.specs.declared.error.StatsError.{StatsError}
 use Rattle.vortex_stats_expr.specs.declared.error.StatsError.TheVariants as error
+use Rattle.vortex_stats_evaluate.specs.Faults.{unless_truth}
 use Rattle.vortex_stats_evaluate.specs.declared.bind.BoundExpression.{BoundExpression}
 
 -- The placeholder for a statistic of the input's values. It has a truth where the input has one,
@@ -16,6 +17,7 @@ pub record IsPlaceholderOf (a : Aggregate) (input : BoundExpression) (b : BoundE
   pub dtype : type_of_aggregate a (type_of input.dtype) ≡ Some (type_of b.dtype)
   pub truth : b.has_truth ≡ input.has_truth
   pub columns : b.reads_columns ≡ false
+  pub fault : b.proof_fault ≡ unless_truth input.has_truth
 
 -- For want of memory, or since the function doesn't take the type of the input's values.
 abbrev pub IsPlaceholderFault : Aggregate → BoundExpression → StatsError → Type 0

@@ -1,9 +1,10 @@
 -- Why a bound expression isn't evaluated.
-use Rattle.std.specs.Prelude.{◌≡◌, true, false}
+use Rattle.std.specs.Prelude.{◌≡◌, true, false, Option, Some, None, if◌then◌else◌}
 use Rattle.vortex_dtype_core.specs.Parts.{is_boolean_type}
 use Rattle.vortex_dtype_core.specs.View.{type_of}
 use Rattle.vortex_stats_expr.specs.declared.error.StatsError.{StatsError}
 use Rattle.vortex_stats_expr.specs.declared.error.StatsError.TheVariants as error
+use Rattle.vortex_stats_evaluate.specs.Faults.{or_first}
 use Rattle.vortex_stats_evaluate.specs.declared.bind.BoundExpression.{BoundExpression}
 
 -- its value is a truth value at each row
@@ -19,12 +20,16 @@ IsTruthFault b error.NotBoolean =
     (b.has_truth ≡ true) × (is_boolean_type (type_of b.dtype) ≡ false)
 IsTruthFault b e = ⊥
 
--- it is evaluable, and has a value without a row
-pub record IsProvable (b : BoundExpression) : Type 0 where
-  pub truth : IsEvaluable b
-  pub columns : b.reads_columns ≡ false
+-- Why it is no proof: the first fault of a part, and else that it is no truth value.
+abbrev pub refusal_of : BoundExpression → Option StatsError
+refusal_of b = or_first b.proof_fault
+    (if is_boolean_type (type_of b.dtype) then None else Some error.NotBoolean)
 
--- for one of these reasons, or since it reads a column outside placeholders
+-- it is a proof
+abbrev pub IsProvable : BoundExpression → Type 0
+IsProvable b = refusal_of b ≡ None
+
+-- for want of memory, or for this
 abbrev pub IsProofFault : BoundExpression → StatsError → Type 0
-IsProofFault b error.RuleFault = IsEvaluable b × (b.reads_columns ≡ true)
-IsProofFault b e = IsTruthFault b e
+IsProofFault b error.Memory = Unit {0}
+IsProofFault b e = refusal_of b ≡ Some e

@@ -7,10 +7,12 @@ ghost use Rattle.vortex_model_table.specs.Typing.{expression_type};
 ghost use Rattle.vortex_model_rules.specs.Faults.{binding_fault};
 ghost use Rattle.vortex_dtype_core.specs.View.{type_of};
 ghost use Rattle.vortex_stats_bind.specs.Bound.{Provided, evaluate_bound, by_names};
+ghost use Rattle.vortex_stats_evaluate.specs.Faults.{first_fault};
 ghost use Rattle.vortex_stats_evaluate.specs.Scopes.{at_row, over_rows, given_at, given_over};
 ghost use Rattle.vortex_stats_evaluate.specs.declared.column.ColumnStats.{ColumnStats};
 ghost use Rattle.vortex_stats_rewrite.specs.Typed.{IsReason};
 
+use crate::fault::first_fault;
 use std::alloc::Global;
 use vortex_dtype_core::dtype::DType;
 use vortex_stats_bind::bind::bind_proof;
@@ -32,6 +34,9 @@ pub struct BoundExpression {
     pub has_truth: bool,
     /// Whether it reads a column outside placeholders.
     pub reads_columns: bool,
+    /// The first fault by which it is no proof, children before their parent, left before right:
+    /// `RuleFault` of a column outside placeholders, `NotEvaluable` of a part that has no truth.
+    pub proof_fault: Option<StatsError>,
 }
 
 /// Resolves the columns of an expression over rows of this type, as Vortex's `Expression::bind`.
@@ -57,13 +62,17 @@ pub fn bind(alloc: Global, e: &Expression, dtype: &DType) -> Result<BoundExpress
     ensures truth { IfOk result
         (λ bound. bound.has_truth ≡ has_truth (type_of dtype.now) e.now) }
     ensures columns { IfOk result (λ bound. bound.reads_columns ≡ reads_columns e.now) }
+    ensures fault { IfOk result
+        (λ bound. bound.proof_fault ≡ first_fault (type_of dtype.now) e.now) }
 {
     let typed = type_expression(alloc, dtype, e)?;
     let tree = bind_proof(alloc, e, dtype)?;
+    let proof_fault = first_fault(alloc, dtype, e)?;
     Ok(BoundExpression {
         tree,
         dtype: typed.dtype,
         has_truth: typed.has_truth,
         reads_columns: reads_columns(e),
+        proof_fault,
     })
 }

@@ -10,6 +10,7 @@ ghost use Rattle.vortex_stats_evaluate.specs.Placeholders.{IsPlaceholderOf, IsPl
 ghost use Rattle.vortex_stats_expr.specs.Aggregate.{aggregate_of};
 
 use crate::bind::BoundExpression;
+use crate::fault::unless_truth;
 use std::alloc::Global;
 use vortex_stats_bind::bound::{BoundNode, BoundTree};
 use vortex_stats_expr::aggregate::AggregateFn;
@@ -37,6 +38,7 @@ pub fn stat(
         dtype,
         has_truth: input.has_truth,
         reads_columns: false,
+        proof_fault: unless_truth(input.has_truth),
     })
 }
 

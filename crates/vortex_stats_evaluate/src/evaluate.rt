@@ -47,8 +47,9 @@ pub fn evaluate(
 /// The truth of a proof about the scope's rows, as far as its statistics tell, where `None` is
 /// null. It is counted, and the array isn't looked at.
 ///
-/// `NotEvaluable` where it has no truth, else `NotBoolean` where it is no truth value, and else
-/// `RuleFault` where it reads a column outside placeholders. A refused call counts nothing.
+/// The first fault decides the refusal, children before their parent, left before right:
+/// `RuleFault` of a column outside placeholders, `NotEvaluable` of a part that has no truth, and
+/// last `NotBoolean` where it is no truth value. A refused call counts nothing.
 #[tactic(auto, using(crate::proofs::RowTruths::proved))]
 pub fn prove(
     alloc: Global,
@@ -63,10 +64,7 @@ pub fn prove(
     ensures counted { OnOk result (meter.new ≡ proved meter.old) }
     ensures uncounted { OnErr result (meter.new ≡ meter.old) }
 {
-    check_truth(e)?;
-    if e.reads_columns {
-        return Err(StatsError::RuleFault);
-    }
+    check_proof(e)?;
     let tree = bind_stats(alloc, &e.tree, scope)?;
     let truth = truth_over(&tree, scope.rows as u64);
     meter.proofs = meter.proofs.saturating_add(1);
@@ -80,6 +78,21 @@ fn check_truth(e: &BoundExpression) -> Result<(), StatsError>
 {
     if !e.has_truth {
         return Err(StatsError::NotEvaluable);
+    }
+    if !e.dtype.is_boolean() {
+        return Err(StatsError::NotBoolean);
+    }
+    Ok(())
+}
+
+// Whether each part may stand in a proof, and then whether it is a boolean.
+#[tactic(auto, using(crate::proofs::Faults::of_proofs))]
+fn check_proof(e: &BoundExpression) -> Result<(), StatsError>
+    ensures provable { OnOk result (IsProvable e.now) }
+    ensures refused { IfErr result (IsProofFault e.now) }
+{
+    if let Some(fault) = e.proof_fault {
+        return Err(fault);
     }
     if !e.dtype.is_boolean() {
         return Err(StatsError::NotBoolean);

@@ -11,6 +11,7 @@ pub mod bind;
 pub mod bound;
 pub mod column;
 pub mod evaluate;
+mod fault;
 pub mod markers;
 pub mod provider;
 pub mod provider_ext;

@@ -20,6 +20,7 @@ pub fn bind_stats<B: StatBinder>(
     ensures dtype { IfOk result (λ bound. type_of bound.dtype ≡ type_of e.now.dtype) }
     ensures truth { IfOk result (λ bound. bound.has_truth ≡ e.now.has_truth) }
     ensures columns { IfOk result (λ bound. bound.reads_columns ≡ e.now.reads_columns) }
+    ensures fault { IfOk result (λ bound. bound.proof_fault ≡ e.now.proof_fault) }
 {
     let tree = bind_tree(alloc, &e.tree, binder)?;
     let dtype = e.dtype.clone()?;
@@ -28,5 +29,6 @@ pub fn bind_stats<B: StatBinder>(
         dtype,
         has_truth: e.has_truth,
         reads_columns: e.reads_columns,
+        proof_fault: e.proof_fault,
     })
 }

@@ -1,7 +1,8 @@
 //! Statistics written as bits, which is how a file says which of them it holds.
 ghost use Rattle.std.specs.Prelude.{◌≡◌, ◌≢◌, ◌<◌, ◌*◌, ℕ, true, length, IfOk, IfErr};
 ghost use Rattle.vortex_stats_expr.specs.declared.error.StatsError.TheVariants.{Memory};
-ghost use Rattle.vortex_stats_expr.specs.Stats.{number_of_stat};
+ghost use Rattle.vortex_stats_expr.specs.declared.bitset.TheConstants.{PRUNING_STATS};
+ghost use Rattle.vortex_stats_expr.specs.Stats.{number_of_stat, pruning_stats};
 ghost use Rattle.vortex_stats_expr.specs.Bitsets.{IsBitset, has_bit, stats_in, distinct_by_number};
 
 use crate::error::StatsError;
@@ -16,6 +17,11 @@ pub const PRUNING_STATS: &[Stat] = &[
     Stat::NullCount,
     Stat::NaNCount,
 ];
+
+/// `PRUNING_STATS` has these five, in this order.
+pub fn pruning_statistics_are_five()
+    ensures { PRUNING_STATS.now ≡ pruning_stats }
+{}
 
 /// Two bytes with a bit for each statistic, the lowest bit first, as Vortex's
 /// `as_stat_bitset_bytes`.

@@ -42,6 +42,15 @@ pub enum Stat {
     NaNCount = 8,
 }
 
+/// The statistic of number 0. Lists that keep some of their items inline fill free places with it.
+impl Default for Stat {
+    ghost is_default = { λ stat. number_of_stat stat ≡ 0 };
+
+    fn default() -> Stat {
+        Stat::IsConstant
+    }
+}
+
 const ALL: &[Stat] = &[
     Stat::IsConstant,
     Stat::IsSorted,

@@ -1,6 +1,7 @@
 //! The iterator of all statistics, seen as the list of those that are left.
-ghost use Rattle.std.specs.Prelude.{◌≡◌};
-ghost use Rattle.std.specs.Iterator.{YieldsFirst, item_count};
+ghost use Rattle.std.specs.Prelude.{◌≡◌, length, Some, IfSome};
+ghost use Rattle.std.specs.Iterator.{YieldsFirst, UpTo, item_count};
+ghost use Rattle.std.specs.Iterator.SizeHint.{IsWithinCount};
 
 use crate::stat::Stat;
 use std::iter::ExactSizeIterator;
@@ -42,7 +43,11 @@ impl Iterator for StatIter {
         Some(*first)
     }
 
-    fn size_hint(&self) -> (usize, Option<usize>) {
+    fn size_hint(&self) -> (usize, Option<usize>)
+        ensures lower { IsWithinCount result.0 (item_count (λ rest. rest) self.now) }
+        ensures upper { IfSome result.1 (UpTo (item_count (λ rest. rest) self.now)) }
+        ensures exact { (result.0 ≡ length self.now) × (result.1 ≡ Some result.0) }
+    {
         let len = self.stats.len();
         (len, Some(len))
     }

@@ -1,5 +1,6 @@
 mod Added
 mod Bounded
+mod Calls
 mod Examples
 mod Flags
 mod Known

@@ -1,4 +1,6 @@
-//! Laws over the definitions of merges and intersections of sets of statistics.
+//! Laws of merges and intersections of sets of statistics, and of unions of bounds.
 #![tactic(auto)]
 
 pub mod laws;
+pub mod merges;
+pub mod unions;

@@ -75,4 +75,8 @@ pub handed_to_satisfy : (k : LogicalType) (e : Expression) (rule : Rule) (f : Sc
     asked_of claim.EveryRow k e rule ≡ judged k (rule.satisfy k e)
 handed_to_satisfy k e rule f is h = by_root rule.root rule.satisfy k e f true is (same_by e f h)
 
-pub ruleset handed = (not_handed, handed_to_falsify, handed_to_satisfy)
+-- the root of a node that is handed to a rule is the rule's
+pub has_its_root : (e : Expression) (r : Root) (f : ScalarFnId) → root_in f ≡ r → f ≡ scalar_fn_of e → root_of e ≡ r
+has_its_root e r f is h = root_of_tree e ∙ ap root_in (sym h) ∙ is
+
+pub ruleset handed = (not_handed, handed_to_falsify, handed_to_satisfy, has_its_root)

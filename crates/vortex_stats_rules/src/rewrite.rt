@@ -5,7 +5,7 @@
 //! whose function is that of its root: for `falsify` the predicate itself, both sides of each AND
 //! and OR among the nodes that are handed over, and of each BETWEEN its AND with both comparisons;
 //! for `satisfy` the predicate alone.
-ghost use Rattle.std.specs.Prelude.{◌≡◌, length, IfOk, IfErr, OnOk};
+ghost use Rattle.std.specs.Prelude.{◌≡◌, length, IfOk, IfErr, OnOk, OnErr};
 ghost use Rattle.vortex_model_table.specs.Expression.{compare};
 ghost use Rattle.vortex_model_table.specs.Truth.{end_of};
 ghost use Rattle.vortex_model_rules.specs.Rules.{answer_of, falsifier_alone, falsifier_of_and, fals, sat, handed_over};
@@ -29,7 +29,8 @@ use vortex_stats_rewrite::rewrite::{falsifiers, satisfiers};
 
 /// The proof that no row satisfies a predicate over rows of this type, as Vortex's `falsify`, and
 /// `None` where no rule gives one. `NotBoolean` where the expression is no predicate; `RuleFault`
-/// where a rule answers an error other than `Memory`, or a proof that can't be used.
+/// where a rule answers an error other than `Memory`, or a proof that can't be used. A refused call
+/// counts no visit.
 #[tactic(auto, using(crate::proofs::Nodes::of_whole))]
 pub fn falsify(
     alloc: Global,
@@ -45,11 +46,14 @@ pub fn falsify(
         (fals (type_of dtype.now) (rules_of meaning rules.now) e.now)) }
     ensures visits { OnOk result
         (meter.new ≡ visited (length (handed_over e.now)) meter.old) }
+    ensures uncounted { OnErr result (meter.new ≡ meter.old) }
 {
     if !is_truth(dtype, e) {
         return Err(StatsError::NotBoolean);
     }
-    let proof = falsify_node(alloc, dtype, e, rules, meter)?;
+    let mut counted = *meter;
+    let proof = falsify_node(alloc, dtype, e, rules, &mut counted)?;
+    *meter = counted;
     Ok(proof)
 }
 
@@ -69,11 +73,14 @@ pub fn satisfy(
     ensures refused { IfErr result (IsRefusal (type_of dtype.now) e.now
         (sat (type_of dtype.now) (rules_of meaning rules.now) e.now)) }
     ensures visits { OnOk result (meter.new ≡ visited 1 meter.old) }
+    ensures uncounted { OnErr result (meter.new ≡ meter.old) }
 {
     if !is_truth(dtype, e) {
         return Err(StatsError::NotBoolean);
     }
-    let proof = satisfy_node(alloc, dtype, e, rules, meter)?;
+    let mut counted = *meter;
+    let proof = satisfy_node(alloc, dtype, e, rules, &mut counted)?;
+    *meter = counted;
     Ok(proof)
 }
 

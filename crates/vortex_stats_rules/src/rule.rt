@@ -1,5 +1,6 @@
 //! What a rewrite rule of a caller is.
 ghost use Rattle.std.specs.Prelude.{◌≡◌};
+ghost use Rattle.vortex_model_rules.specs.Rules.{root_of};
 ghost use Rattle.vortex_dtype_core.specs.View.{type_of};
 ghost use Rattle.vortex_stats_rules.specs.Meanings.{SoundRule, root_in, IsAnswer};
 
@@ -22,24 +23,27 @@ pub trait StatsRewriteRule: Drop {
     fn scalar_fn_id(&self) -> ScalarFnId
         ensures { root_in result ≡ (meaning self.now).rule.root };
 
-    /// A proof that no row of the type satisfies the node. Want of memory is answered by `Memory`,
-    /// a fault by any other error.
+    /// A proof that no row of the type satisfies the node, which has the rule's function at its
+    /// root. Want of memory is answered by `Memory`, a fault by any other error.
     fn falsify(
         &self,
         alloc: Global,
         dtype: &DType,
         expr: &Expression,
     ) -> Result<Option<Expression>, StatsError>
+        requires handed { root_of expr.now ≡ (meaning self.now).rule.root }
         ensures { IsAnswer result
             ((meaning self.now).rule.falsify (type_of dtype.now) expr.now) };
 
-    /// A proof that every row of the type satisfies the node, and errors as for `falsify`.
+    /// A proof that every row of the type satisfies the node, which has the rule's function at its
+    /// root, and errors as for `falsify`.
     fn satisfy(
         &self,
         alloc: Global,
         dtype: &DType,
         expr: &Expression,
     ) -> Result<Option<Expression>, StatsError>
+        requires handed { root_of expr.now ≡ (meaning self.now).rule.root }
         ensures { IsAnswer result
             ((meaning self.now).rule.satisfy (type_of dtype.now) expr.now) };
 }

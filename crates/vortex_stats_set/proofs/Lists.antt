@@ -1,13 +1,14 @@
 -- What becomes of a list of statistics that is set, cleared and looked up.
-use Rattle.std.proofs.Common.{◌≡◌, ℕ, zero, suc, ◌+◌, ◌<◌, ◌==◌, ◌&&◌, ◌||◌, ◌++◌, ◌⊎◌, inl, inr, List, [], ◌∷◌, Some, None, Bool, true, false, not, cond, if◌then◌else◌, IsTrue, length, map, filter, get_or, set, refl, sym, ap, ◌∙◌, arith}
+use Rattle.std.proofs.Common.{◌≡◌, ℕ, zero, suc, ◌+◌, ◌<◌, ◌==◌, ◌&&◌, ◌||◌, ◌++◌, ◌⊎◌, inl, inr, List, [], ◌∷◌, Some, None, Bool, true, false, not, cond, if◌then◌else◌, IsTrue, length, map, filter, get_or, set, refl, sym, ap, ◌∙◌, subst, arith}
 use Rattle.std.specs.List.{position, position_from, list_any}
+use Rattle.std.specs.List.Retain.{RetainsInTurn}
 use Rattle.std.proofs.lemmas.Bool.{cases_eq, eq-eqb, ne_eqb}
 use Rattle.std.proofs.lemmas.List.Folds.{list_any-append, list_any_at}
 use Rattle.std.proofs.lemmas.List.Quantifiers.{position-Some}
 use Rattle.std.proofs.lemmas.Iterator.Adapters.{position_from-zero}
 use Rattle.vortex_stats_expr.specs.declared.stat.Stat.{Stat}
 use Rattle.vortex_stats_expr.specs.Stats.{number_of_stat}
-use Rattle.vortex_stats_set.specs.Sets.{is_of, has_stat, is_set, with_value, set_in, set_in_turn, value_in}
+use Rattle.vortex_stats_set.specs.Sets.{is_of, has_stat, is_set, with_value, set_in, set_in_turn, value_in, HasNoPlace}
 
 -- ---- truths
 
@@ -137,10 +138,29 @@ placed_keeps xs i s a d u at is =
     let same : set xs i (d.0, a) ≡ set_in xs s a = ap (λ p. set xs i (p.0, a)) is ∙ placed xs i s a d u at in
     so (is_set (set xs i (d.0, a))) (ap is_set same ∙ said (is_set (set_in xs s a)) (set_keeps xs s a u))
 
+pub not_there : {A : Type 0} (xs : List (Stat × A)) (s : Stat) → position (is_of s) xs ≡ None → has_stat xs s ≡ false
+not_there xs s at = no_place (is_of s) xs 0 (sym (position_from-zero (is_of s) xs) ∙ at)
+
+pub place_within : {A : Type 0} (xs : List (Stat × A)) (i : ℕ) (s : Stat) → position (is_of s) xs ≡ Some i → i < length xs
+place_within [] i s at = absurd (cc (at))
+place_within (e ∷ es) i s at = (position-Some (is_of s) (e ∷ es) i e at).0
+
 pub nowhere : {A : Type 0} (xs : List (Stat × A)) (s : Stat) → position (is_of s) xs ≡ None → has_stat xs s ≡ true → ⊥
 nowhere xs s at h = never (sym h ∙ no_place (is_of s) xs 0 (sym (position_from-zero (is_of s) xs) ∙ at))
 
 -- ---- fewer pairs
+
+-- A closure that changes neither itself nor the items keeps those of which its test is true.
+module _ {X F : Type 0} (R : F → X → Bool → F → X → Type 0) (p : X → Bool) (f : F) (h : (x : X) (b : Bool) (g : F) (y : X) → R f x b g y → (b ≡ p x) × (g ≡ f) × (y ≡ x)) where
+  retained_from : (g : F) (xs ys : List X) → g ≡ f → RetainsInTurn R g xs ys → ys ≡ filter p xs
+  retained_from g [] ys e t = t
+  retained_from g (x ∷ xs) ys e t =
+      let one = h x t.0 t.1 t.2 (subst (λ (q : F). R q x t.0 t.1 t.2) e t.3) in
+      let rest : t.4 ≡ filter p xs = retained_from t.1 xs t.4 one.1 t.5 in
+      t.6 ∙ (λ i. cond (one.0 i) (one.2 i ∷ rest i) (rest i))
+
+  pub retained : (xs ys : List X) → RetainsInTurn R f xs ys → ys ≡ filter p xs
+  retained xs ys t = retained_from f xs ys refl t
 
 fewer : {A : Type 0} (p : Stat × A → Bool) (es : List (Stat × A)) (t : Stat) → has_stat es t ≡ false → has_stat (filter p es) t ≡ false
 fewer p [] t h = refl
@@ -188,7 +208,7 @@ absent_value (e ∷ es) s h = ap (λ b. if b then Some e.1 else value_in es s) (
 pub no_value : {A : Type 0} (xs : List (Stat × A)) (s : Stat) → position (is_of s) xs ≡ None → value_in xs s ≡ None
 no_value xs s h = absent_value xs s (no_place (is_of s) xs 0 (sym (position_from-zero (is_of s) xs) ∙ h))
 
-pub ruleset sets = (placed, pushed, set_keeps, only_keeps, found_value, no_value)
+pub ruleset sets = (placed, placed_keeps, place_within, pushed, not_there, set_keeps, only_keeps, found_value, no_value)
 
 -- one more of what is set in turn
 pub set_in_turn-push : {A : Type 0} (xs ys : List (Stat × A)) (e : Stat × A) → set_in_turn xs (ys ++ e ∷ []) ≡ set_in (set_in_turn xs ys) e.0 e.1
@@ -196,3 +216,7 @@ set_in_turn-push xs [] e = refl
 set_in_turn-push xs (y ∷ ys) e = set_in_turn-push (set_in xs y.0 y.1) ys e
 
 pub ruleset in_turn = (set_in_turn-push)
+
+-- the set that was set in turn has no place for it
+pub full_by : {A : Type 0} (xs ys : List (Stat × A)) (s : Stat) → ys ≡ xs → HasNoPlace ys s → HasNoPlace xs s
+full_by xs ys s is h = subst (λ zs. HasNoPlace zs s) is h

@@ -1,5 +1,5 @@
 -- Lists of statistics with what is known of each: what stands there, and how it changes.
-use Rattle.std.specs.Prelude.{List, [], ◌∷◌, ◌++◌, map, filter, Option, Some, None, Bool, true, not, ◌&&◌, ◌==◌, if◌then◌else◌}
+use Rattle.std.specs.Prelude.{◌≡◌, ◌≤◌, List, [], ◌∷◌, ◌++◌, length, map, filter, Option, Some, None, Bool, true, false, not, ◌&&◌, ◌==◌, if◌then◌else◌}
 use Rattle.std.specs.List.{list_any}
 use Rattle.vortex_stats_expr.specs.declared.stat.Stat.{Stat}
 use Rattle.vortex_stats_expr.specs.Stats.{number_of_stat}
@@ -30,6 +30,11 @@ set_in xs s a = if has_stat xs s then map (with_value s a) xs else xs ++ (s, a) 
 abbrev pub set_in_turn : {A : Type 0} → List (Stat × A) → List (Stat × A) → List (Stat × A)
 set_in_turn xs [] = xs
 set_in_turn xs (e ∷ es) = set_in_turn (set_in xs e.0 e.1) es
+
+-- The statistic isn't there and four others are, which is as many as are kept inline: one more wants
+-- memory.
+abbrev pub HasNoPlace : {A : Type 0} → List (Stat × A) → Stat → Type 0
+HasNoPlace xs s = (has_stat xs s ≡ false) × (4 ≤ length xs)
 
 -- all but that of the statistic
 abbrev pub without : {A : Type 0} → List (Stat × A) → Stat → List (Stat × A)

@@ -47,7 +47,7 @@ impl StatsSet {
         ensures refused { IfErr result (λ e. e ≢ NoOverlap → (e ≡ Memory)
             × (self.new ≡ self.old)) }
     {
-        let mut set = self.copy()?;
+        let mut set = self.clone()?;
         let overlap = set.combine_in_turn(other, one)?;
         *self = set;
         if overlap {

@@ -36,6 +36,7 @@ ghost use Rattle.vortex_stats_set.specs.Merge.{
 };
 
 use crate::stats_set::StatsSet;
+use std::alloc::AllocError;
 use std::cmp::Ordering;
 use vortex_dtype_core::dtype::DType;
 use vortex_scalar_ops::eq::eq_values;
@@ -201,9 +202,8 @@ impl StatsSet {
 
 pub(crate) fn clone_ref(
     known: Precision<&ScalarValue>,
-) -> Result<Precision<ScalarValue>, StatsError>
-    ensures value { IfOk result (λ copy. raw_precision copy ≡ raw_precision_at known.entry) }
-    ensures refused { IfErr result (λ e. e ≡ Memory) }
+) -> Result<Precision<ScalarValue>, AllocError>
+    ensures { IfOk result (λ copy. raw_precision copy ≡ raw_precision_at known.entry) }
 {
     match known {
         Precision::Exact(value) => Ok(Precision::Exact(value.clone()?)),

@@ -1,25 +1,27 @@
 //! What is known of a column: statistics, each with its value.
-ghost use Rattle.std.specs.Prelude.{◌≡◌, ◌++◌, [], ◌∷◌, List, IsTrue, IfOk, IfErr, OnOk, OnErr, IsOk, length, position, true, ◌↔◌, option_map};
+ghost use Rattle.std.specs.Prelude.{◌≡◌, ◌≤◌, ◌++◌, [], ◌∷◌, List, IsTrue, Some, IfSome, IfOk, IfErr, OnOk, OnErr, IsOk, length, position, true, ◌↔◌, option_map};
 ghost use Rattle.vortex_stats_expr.specs.declared.error.StatsError.TheVariants.{Memory};
 ghost use Rattle.vortex_stats_expr.specs.Stats.{number_of_stat};
 ghost use Rattle.vortex_stats_expr.specs.Bitsets.{has_number};
-ghost use Rattle.vortex_stats_set.specs.Sets.{is_of, has_stat, is_set, set_in, set_in_turn, without, only};
-ghost use Rattle.std.specs.Iterator.{YieldsFirst, item_count};
+ghost use Rattle.vortex_stats_set.specs.Sets.{is_of, has_stat, is_set, set_in, set_in_turn, without, only, HasNoPlace};
+ghost use Rattle.std.specs.Iterator.{YieldsFirst, UpTo, item_count};
+ghost use Rattle.std.specs.Iterator.SizeHint.{IsWithinCount};
 ghost use Rattle.std.specs.Slice.Iter.{iter_rest};
 ghost use Rattle.vortex_stats_set.specs.Known.{raw_precision, raw_precision_at, known_in, raw_pairs};
 ghost use Rattle.vortex_stats_set.specs.Pairs.{known, put};
 
-use std::alloc::Global;
+use smallvec::{IntoIter, SmallVec};
+use std::alloc::{AllocError, Global};
+use std::iter::ExactSizeIterator;
 use std::marker::Model;
 use std::slice::Iter;
-use std::vec;
 use vortex_scalar_value::scalar_value::ScalarValue;
 use vortex_stats_bound::precision::Precision;
 use vortex_stats_expr::error::StatsError;
 use vortex_stats_expr::stat::Stat;
 
-/// What a `StatsSet` keeps its pairs in. Vortex's keeps four of them inline.
-pub type StatsArray = Vec<(Stat, Precision<ScalarValue>)>;
+/// What a `StatsSet` keeps its pairs in, as Vortex's `StatsArray`: four of them inline.
+pub type StatsArray = SmallVec<(Stat, Precision<ScalarValue>), 4>;
 
 /// Statistics of a column, each with its value, as Vortex's `StatsSet`. No statistic stands twice;
 /// one that is `Absent` is kept and counted.
@@ -31,7 +33,7 @@ pub struct StatsSet {
 impl Model for StatsSet {
     ghost use Rattle.std.specs.Coded.{codes};
     ghost use Rattle.vortex_scalar_value.specs.contracts.scalar_value.ScalarValue as value;
-    ghost use Rattle.std.specs.Prelude.{List, IsTrue};
+    ghost use Rattle.std.specs.Prelude.{List, IsTrue, ◌≤◌};
     ghost use Rattle.vortex_stats_set.specs.Sets.{is_set};
     ghost use Rattle.vortex_scalar_value.specs.declared.scalar_value.ScalarValue.{ScalarValue};
     ghost use Rattle.vortex_stats_bound.specs.declared.precision.Precision.{Precision};
@@ -43,7 +45,7 @@ impl Model for StatsSet {
 
     ghost view = { λ set. set.values.items };
 
-    ghost invariant = { λ set. IsTrue (is_set set.values.items) };
+    ghost invariant = { λ set. IsTrue (is_set set.values.items) × (4 ≤ set.values.capacity) };
 }
 
 impl StatsSet {
@@ -52,11 +54,11 @@ impl StatsSet {
         ensures { result ≡ [] }
     {
         StatsSet {
-            values: Vec::new(alloc),
+            values: SmallVec::new(alloc),
         }
     }
 
-    /// The set of these pairs. That no statistic stands twice is not tested.
+    /// The set of these pairs. That no statistic is there twice is not tested.
     pub fn new_unchecked(values: StatsArray) -> StatsSet
         requires { IsTrue (is_set values.items) }
         ensures { result ≡ values.items }
@@ -81,19 +83,28 @@ impl StatsSet {
     fn position(&self, stat: Stat) -> Option<usize>
         ensures { result ≡ position (is_of stat) self.now }
     {
-        self.values.iter().position(|pair| pair.0 == stat)
+        self.values
+            .as_slice()
+            .iter()
+            .position(|pair| pair.0 == stat)
     }
 
-    /// Gives the statistic this value, in its place if it is there and else behind the others.
+    /// Gives the statistic this value, in its place if it is there and else after the others. A set
+    /// of fewer than four statistics takes no memory for one more.
     #[tactic(auto, using(crate::proofs::Lists::sets))]
     pub fn set(&mut self, stat: Stat, value: Precision<ScalarValue>) -> Result<(), StatsError>
         ensures ok { OnOk result (self.new ≡ set_in self.old stat value) }
         ensures err { OnErr result (self.new ≡ self.old) }
         ensures in_place { has_stat self.old stat ≡ true → IsOk result }
+        ensures no_place { OnErr result (HasNoPlace self.old stat) }
         ensures refused { IfErr result (λ e. e ≡ Memory) }
     {
         match self.position(stat) {
-            Some(i) => self.values[i].1 = value,
+            Some(i) => {
+                if let Some(pair) = self.values.get_mut(i) {
+                    pair.1 = value;
+                }
+            }
             None => self.values.push((stat, value))?,
         }
         Ok(())
@@ -120,7 +131,7 @@ impl StatsSet {
         ensures refused { IfErr result (λ e. e ≡ Memory) }
     {
         match self.position(stat) {
-            Some(i) => clone_precision(&self.values[i].1),
+            Some(i) => Ok(clone_precision(&self.values[i].1)?),
             None => Ok(Precision::Absent),
         }
     }
@@ -161,7 +172,7 @@ impl StatsSet {
         ensures pairs { iter_rest result ≡ self.now }
         ensures distinct { IsTrue (is_set self.now) }
     {
-        self.values.iter()
+        self.values.as_slice().iter()
     }
 }
 
@@ -184,9 +195,8 @@ fn ref_of(known: &Precision<ScalarValue>) -> Precision<&ScalarValue>
 
 pub(crate) fn clone_precision(
     known: &Precision<ScalarValue>,
-) -> Result<Precision<ScalarValue>, StatsError>
-    ensures value { IfOk result (λ copy. raw_precision copy ≡ raw_precision known.now) }
-    ensures refused { IfErr result (λ e. e ≡ Memory) }
+) -> Result<Precision<ScalarValue>, AllocError>
+    ensures { IfOk result (λ copy. raw_precision copy ≡ raw_precision known.now) }
 {
     match known {
         Precision::Exact(value) => Ok(Precision::Exact(value.clone()?)),
@@ -199,11 +209,12 @@ pub(crate) fn clone_precision(
 fn clone_pairs(
     alloc: Global,
     pairs: &[(Stat, Precision<ScalarValue>)],
-) -> Result<StatsArray, StatsError>
-    ensures value { IfOk result (λ copies. raw_pairs copies.items ≡ raw_pairs pairs.now) }
-    ensures refused { IfErr result (λ e. e ≡ Memory) }
+) -> Result<StatsArray, AllocError>
+    ensures pairs { IfOk result (λ copies. raw_pairs copies.items ≡ raw_pairs pairs.now) }
+    ensures inline { IfOk result (λ copies. 4 ≤ copies.capacity) }
 {
-    let mut copies = Vec::with_capacity(alloc, pairs.len())?;
+    let mut copies = SmallVec::new(alloc);
+    copies.reserve(pairs.len())?;
     for pair in pairs {
         let copy = clone_precision(&pair.1)?;
         copies.push((pair.0, copy))?;
@@ -212,10 +223,9 @@ fn clone_pairs(
 }
 
 impl StatsSet {
-    // The set again.
-    pub(crate) fn copy(&self) -> Result<StatsSet, StatsError>
-        ensures value { IfOk result (λ copy. raw_pairs copy ≡ raw_pairs self.now) }
-        ensures refused { IfErr result (λ e. e ≡ Memory) }
+    /// The set once more. It takes memory for strings, and for a fifth statistic.
+    pub fn clone(&self) -> Result<StatsSet, AllocError>
+        ensures { IfOk result (λ copy. raw_pairs copy ≡ raw_pairs self.now) }
     {
         let values = clone_pairs(*self.values.allocator(), self.values.as_slice())?;
         Ok(StatsSet { values })
@@ -223,12 +233,13 @@ impl StatsSet {
 }
 
 impl StatsSet {
-    ghost use Rattle.std.specs.Iterator.{IsFinite, Drains, Yields};
+    ghost use Rattle.std.specs.Iterator.{IsFinite, Drains, YieldsThen};
     ghost use Rattle.vortex_scalar_value.specs.declared.scalar_value.ScalarValue.{ScalarValue};
     ghost use Rattle.vortex_stats_bound.specs.declared.precision.Precision as known;
     ghost use Rattle.vortex_stats_expr.specs.declared.stat.Stat.{Stat};
 
-    /// Sets these in turn. Without memory those stay that were set before.
+    /// Sets these one after another. Where there is no memory for one, it is dropped with those
+    /// after it, and those before it stay set.
     #[tactic(auto, using(crate::proofs::Lists::in_turn))]
     pub fn extend<I: Iterator<Item = (Stat, Precision<ScalarValue>)> + Drop>(
         &mut self,
@@ -238,8 +249,10 @@ impl StatsSet {
         requires ends { IsFinite (I.remaining pairs) }
         ensures ok { OnOk result ((xs : List (Stat × known.Precision ScalarValue))
             × Drains I.next_gives pairs xs × (self.new ≡ set_in_turn self.old xs)) }
-        ensures err { OnErr result ((xs : List (Stat × known.Precision ScalarValue)) × (t : I)
-            × Yields I.next_gives pairs xs t × (self.new ≡ set_in_turn self.old xs)) }
+        ensures err { OnErr result ((xs : List (Stat × known.Precision ScalarValue))
+            × (x : Stat × known.Precision ScalarValue) × (rest : I)
+            × YieldsThen I.next_gives pairs xs (Some x) rest
+            × (self.new ≡ set_in_turn self.old xs) × HasNoPlace self.new x.0) }
         ensures refused { IfErr result (λ e. e ≡ Memory) }
     {
         for pair in pairs {
@@ -249,7 +262,8 @@ impl StatsSet {
         Ok(())
     }
 
-    /// The set after these are set in turn.
+    /// The set after these are set one after another. It is refused where there is no memory for
+    /// one, never before a fifth statistic.
     pub fn try_from_iter<I: Iterator<Item = (Stat, Precision<ScalarValue>)> + Drop>(
         alloc: Global,
         pairs: I,
@@ -258,6 +272,10 @@ impl StatsSet {
         requires ends { IsFinite (I.remaining pairs) }
         ensures ok { IfOk result (λ set. (xs : List (Stat × known.Precision ScalarValue))
             × Drains I.next_gives pairs xs × (set ≡ set_in_turn [] xs)) }
+        ensures err { OnErr result ((xs : List (Stat × known.Precision ScalarValue))
+            × (x : Stat × known.Precision ScalarValue) × (rest : I)
+            × YieldsThen I.next_gives pairs xs (Some x) rest
+            × HasNoPlace (set_in_turn [] xs) x.0) }
         ensures refused { IfErr result (λ e. e ≡ Memory) }
     {
         let mut set = StatsSet::empty(alloc);
@@ -265,32 +283,26 @@ impl StatsSet {
         Ok(set)
     }
 
-    /// The set of this statistic alone.
-    pub fn of(
-        alloc: Global,
-        stat: Stat,
-        value: Precision<ScalarValue>,
-    ) -> Result<StatsSet, StatsError>
-        ensures value { IfOk result (λ set. set ≡ (stat, value) ∷ []) }
-        ensures refused { IfErr result (λ e. e ≡ Memory) }
+    /// The set of this statistic alone. It takes no memory.
+    pub fn of(alloc: Global, stat: Stat, value: Precision<ScalarValue>) -> StatsSet
+        ensures { result ≡ (stat, value) ∷ [] }
     {
-        let mut set = StatsSet::empty(alloc);
-        set.set(stat, value)?;
-        Ok(set)
+        let mut values = SmallVec::new(alloc);
+        values.push_reserved((stat, value));
+        StatsSet { values }
     }
 }
 
 /// The pairs one after the other, by value, as Vortex's `StatsSetIntoIter`.
 #[derive(Drop)]
 pub struct StatsSetIntoIter {
-    values: vec::IntoIter<(Stat, Precision<ScalarValue>)>,
+    values: IntoIter<(Stat, Precision<ScalarValue>), 4>,
 }
 
 impl Model for StatsSetIntoIter {
     ghost use Rattle.std.specs.Coded.{codes};
     ghost use Rattle.vortex_scalar_value.specs.contracts.scalar_value.ScalarValue as value;
     ghost use Rattle.std.specs.Prelude.{List};
-    ghost use Rattle.std.specs.Vec.Iter.{into_iter_items};
     ghost use Rattle.vortex_scalar_value.specs.declared.scalar_value.ScalarValue.{ScalarValue};
     ghost use Rattle.vortex_stats_bound.specs.declared.precision.Precision.{Precision};
     ghost use Rattle.vortex_stats_expr.specs.declared.stat.Stat.{Stat};
@@ -299,7 +311,7 @@ impl Model for StatsSetIntoIter {
 
     ghost coded = { Prim.hlevel (codes, value.the_row.coded) };
 
-    ghost view = { λ rest. into_iter_items rest.values };
+    ghost view = { λ rest. rest.values };
 }
 
 impl Iterator for StatsSetIntoIter {
@@ -313,9 +325,19 @@ impl Iterator for StatsSetIntoIter {
         self.values.next()
     }
 
-    fn size_hint(&self) -> (usize, Option<usize>) {
+    fn size_hint(&self) -> (usize, Option<usize>)
+        ensures lower { IsWithinCount result.0 (item_count (λ rest. rest) self.now) }
+        ensures upper { IfSome result.1 (UpTo (item_count (λ rest. rest) self.now)) }
+        ensures exact { (result.0 ≡ length self.now) × (result.1 ≡ Some result.0) }
+    {
         let len = self.values.len();
         (len, Some(len))
+    }
+}
+
+impl ExactSizeIterator for StatsSetIntoIter {
+    fn len(&self) -> usize {
+        self.values.len()
     }
 }
 

@@ -3,7 +3,7 @@ ghost use Rattle.std.specs.Prelude.{◌≡◌, ◌≢◌, IfOk, IfErr, OnOk, OnE
 ghost use Rattle.vortex_dtype_core.specs.View.{type_of};
 ghost use Rattle.vortex_stats_expr.specs.declared.error.StatsError.TheVariants.{Memory, NoOverlap};
 ghost use Rattle.vortex_model.specs.LogicalType.{equal_ignoring_nullability};
-ghost use Rattle.vortex_stats_set.specs.Sets.{has_stat, set_in, without};
+ghost use Rattle.vortex_stats_set.specs.Sets.{has_stat, set_in, without, HasNoPlace};
 ghost use Rattle.vortex_stats_set.specs.Known.{raw_pairs};
 ghost use Rattle.vortex_stats_set.specs.Merge.{merged_ordered, merged_unordered};
 ghost use Rattle.vortex_stats_set.specs.Combine.{combined_in_turn};
@@ -56,13 +56,15 @@ impl StatsSet {
 }
 
 impl MutTypedStatsSetRef<'_, '_> {
-    /// Gives the statistic this value, in its place if it is there and else behind the others.
+    /// Gives the statistic this value, in its place if it is there and else after the others. A set
+    /// of fewer than four statistics takes no memory for one more.
     pub fn set(&mut self, stat: Stat, value: Precision<ScalarValue>) -> Result<(), StatsError>
         ensures same_reference { self.new.values.ghost_name ≡ self.old.values.ghost_name }
         ensures dtype { self.new.dtype.now ≡ self.old.dtype.now }
         ensures ok { OnOk result (self.new.values.now ≡ set_in self.old.values.now stat value) }
         ensures err { OnErr result (self.new.values.now ≡ self.old.values.now) }
         ensures in_place { has_stat self.old.values.now stat ≡ true → IsOk result }
+        ensures no_place { OnErr result (HasNoPlace self.old.values.now stat) }
         ensures refused { IfErr result (λ e. e ≡ Memory) }
     {
         self.values.set(stat, value)
@@ -91,7 +93,7 @@ impl MutTypedStatsSetRef<'_, '_> {
         ensures refused { IfErr result (λ e. e ≡ Memory) }
     {
         let one = self.dtype.eq_ignore_nullability(other.dtype);
-        let mut set = self.values.copy()?;
+        let mut set = self.values.clone()?;
         set.merge_in_turn(other.values, true, one)?;
         *self.values = set;
         Ok(())
@@ -110,7 +112,7 @@ impl MutTypedStatsSetRef<'_, '_> {
         ensures refused { IfErr result (λ e. e ≡ Memory) }
     {
         let one = self.dtype.eq_ignore_nullability(other.dtype);
-        let mut set = self.values.copy()?;
+        let mut set = self.values.clone()?;
         set.merge_in_turn(other.values, false, one)?;
         *self.values = set;
         Ok(())

@@ -36,10 +36,10 @@ fn counts(alloc: Global, checks: &mut Checks<'_>) -> Done {
     let dtype = DType::Primitive(PType::U64, WITH);
     for (i, (known, wanted)) in rows.iter().enumerate() {
         let wanted = wanted.map(count);
-        let set = StatsSet::of(alloc, Stat::NullCount, known.map(count))?;
+        let set = StatsSet::of(alloc, Stat::NullCount, known.map(count));
         let value = stat_scalar(alloc, AggregateFn::NullCount, &set, &integers(), 3)?;
         checks.holds_at("a count of nulls", i, is_of(&value, &dtype, wanted.as_ref()));
-        let set = StatsSet::of(alloc, Stat::NaNCount, known.map(count))?;
+        let set = StatsSet::of(alloc, Stat::NaNCount, known.map(count));
         let value = stat_scalar(alloc, AggregateFn::NanCount, &set, &floats(WITH), 3)?;
         checks.holds_at("a count of NaN", i, is_of(&value, &dtype, wanted.as_ref()));
     }
@@ -48,7 +48,7 @@ fn counts(alloc: Global, checks: &mut Checks<'_>) -> Done {
 
 /// Bounds, sums and sizes are told whether they are exact or not.
 fn of_inexact(alloc: Global, checks: &mut Checks<'_>) -> Done {
-    let mut set = StatsSet::of(alloc, Stat::Max, Inexact(ScalarValue::Primitive(PValue::I32(7))))?;
+    let mut set = StatsSet::of(alloc, Stat::Max, Inexact(ScalarValue::Primitive(PValue::I32(7))));
     set.set(Stat::Sum, Inexact(ScalarValue::Primitive(PValue::I64(9))))?;
     set.set(Stat::UncompressedSizeInBytes, Inexact(count(12)))?;
     let rows = [

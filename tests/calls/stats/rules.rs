@@ -3,8 +3,8 @@
 use crate::checks::Checks;
 use crate::values::{Done, WITHOUT, number, numbers, record, text};
 use std::alloc::{AllocError, Global};
-use vortex_dtype::{DType, FieldName, FieldNames};
-use vortex_scalar::{Scalar, ScalarError};
+use vortex_dtype::{DType, FieldName, FieldNames, Nullability};
+use vortex_scalar::{Scalar, ScalarError, ScalarValue};
 use vortex_stats::{
     Expression, LikeOptions, Meter, Never, NotLiteral, ScalarFnId, StatsError, StatsRewriteRule,
     StatsRewriteRuleRef, and, between, col, falsify, gt, like, lit, not, or, satisfy,
@@ -161,6 +161,7 @@ pub fn run(alloc: Global, checks: &mut Checks<'_>) -> Done {
     for (i, fault) in faults.iter().enumerate() {
         faulty(alloc, checks, &dtype, i, *fault)?;
     }
+    constants(alloc, checks, &dtype)?;
     want_of_memory(alloc, checks, &dtype)
 }
 
@@ -237,10 +238,88 @@ fn faulty(
     checks.holds_at("a fault", number, none == StatsError::RuleFault);
     let all = judged(satisfy(alloc, dtype, &predicate, &rules, &mut meter))?;
     checks.holds_at("a fault for every row", number, all == StatsError::RuleFault);
+    let both = and(alloc, truth(true), predicate)?;
+    let none = judged(falsify(alloc, dtype, &both, &rules, &mut meter))?;
+    checks.holds_at("a fault behind other nodes", number, none == StatsError::RuleFault);
+    checks.holds_at("no visit of a refused call", number, meter == Meter::new());
     let other = gt(alloc, column(alloc, "a")?, constant(3)?)?;
     let other = judged(falsify(alloc, dtype, &other, &rules, &mut meter))?;
     checks.holds_at("another root", number, other == StatsError::NoOverlap);
     Ok(())
+}
+
+/// Answers a boolean, or null, at each NOT. Nothing here is proved, so the meaning is another's.
+#[derive(Drop)]
+struct Constant {
+    value: Option<bool>,
+}
+
+impl Constant {
+    fn answer(&self) -> Result<Option<Expression>, StatsError> {
+        let dtype = DType::Bool(Nullability::Nullable);
+        let answer = Scalar::try_new(dtype, self.value.map(ScalarValue::Bool));
+        match answer {
+            Ok(answer) => Ok(Some(lit(answer))),
+            Err(_) => Err(StatsError::Memory),
+        }
+    }
+}
+
+impl StatsRewriteRule for Constant {
+    ghost use Rattle.vortex_stats_rules.specs.Not.{never_is_sound};
+
+    ghost meaning = { λ _. never_is_sound };
+
+    fn scalar_fn_id(&self) -> ScalarFnId {
+        ScalarFnId::Not
+    }
+
+    fn falsify(
+        &self,
+        _alloc: Global,
+        _dtype: &DType,
+        _expr: &Expression,
+    ) -> Result<Option<Expression>, StatsError> {
+        self.answer()
+    }
+
+    fn satisfy(
+        &self,
+        _alloc: Global,
+        _dtype: &DType,
+        _expr: &Expression,
+    ) -> Result<Option<Expression>, StatsError> {
+        self.answer()
+    }
+}
+
+/// A rule may answer false, null or true: the proof is then the literal, and has this truth.
+fn constants(alloc: Global, checks: &mut Checks<'_>, dtype: &DType) -> Done {
+    let predicate = not(alloc, column(alloc, "b")?)?;
+    for (i, value) in [Some(false), None, Some(true)].into_iter().enumerate() {
+        let mut rules: Vec<StatsRewriteRuleRef> = Vec::new(alloc);
+        rules.push(Box::new(alloc, Constant { value })?)?;
+        let mut meter = Meter::new();
+        let none = settled(falsify(alloc, dtype, &predicate, &rules, &mut meter))?;
+        checks.holds_at("a constant falsifier", i, is_constant(&none, value));
+        let all = settled(satisfy(alloc, dtype, &predicate, &rules, &mut meter))?;
+        checks.holds_at("a constant satisfier", i, is_constant(&all, value));
+        checks.holds_at("a visit each", i, meter.visits == 2);
+        judged(none)?;
+        judged(all)?;
+    }
+    Ok(())
+}
+
+/// Whether the proof is the literal of this boolean, or of null.
+fn is_constant(answer: &Answer, wanted: Option<bool>) -> bool {
+    match answer {
+        Ok(Some(proof)) => match &proof.node {
+            Node::Literal(value) => value.value().and_then(|v| v.as_bool()) == wanted,
+            _ => false,
+        },
+        _ => false,
+    }
 }
 
 /// A rule that has no memory is no faulty rule.

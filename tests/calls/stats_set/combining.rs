@@ -153,9 +153,9 @@ fn by_rows(
     rows: &[Row<Option<Precision<i128>>>],
 ) -> Done {
     for (i, (left, right, wanted)) in rows.iter().enumerate() {
-        let other = of.set(alloc, *right)?;
+        let other = of.set(alloc, *right);
         for is_typed in [false, true] {
-            let mut set = of.set(alloc, *left)?;
+            let mut set = of.set(alloc, *left);
             let before = [(of.stat, of.known(*left))];
             let overlap = combine(checks, &mut set, (&other, &of.dtype), is_typed, &before)?;
             let holds = match wanted {
@@ -173,12 +173,12 @@ fn by_rows(
 fn missing(alloc: Global, checks: &mut Checks<'_>, of: &StatOf) -> Done {
     let number = of.stat as usize;
     for (i, known) in [Exact(1), Inexact(1), Absent].iter().enumerate() {
-        let other = of.set(alloc, *known)?;
+        let other = of.set(alloc, *known);
         let mut set = StatsSet::empty(alloc);
         let overlap = combine(checks, &mut set, (&other, &of.dtype), false, &[])?;
         let holds = overlap && of.is_all_of(&set, *known);
         checks.holds_at("missing here", 3 * number + i, holds);
-        let mut set = of.set(alloc, *known)?;
+        let mut set = of.set(alloc, *known);
         let before = [(of.stat, of.known(*known))];
         let none = StatsSet::empty(alloc);
         let overlap = combine(checks, &mut set, (&none, &of.dtype), false, &before)?;
@@ -273,7 +273,7 @@ fn sequences(alloc: Global, checks: &mut Checks<'_>) -> Done {
     )?;
     for is_typed in [false, true] {
         let before = [(Stat::Max, Inexact(sequence(alloc, [3])?))];
-        let mut set = StatsSet::of(alloc, Stat::Max, Inexact(sequence(alloc, [3])?))?;
+        let mut set = StatsSet::of(alloc, Stat::Max, Inexact(sequence(alloc, [3])?));
         let overlap = combine(checks, &mut set, (&other, &dtype), is_typed, &before)?;
         let wanted = [
             (Stat::Max, Inexact(sequence(alloc, [2, 9])?)),
@@ -289,8 +289,8 @@ fn sequences(alloc: Global, checks: &mut Checks<'_>) -> Done {
 fn incomparable(alloc: Global, checks: &mut Checks<'_>) -> Done {
     let dtype = DType::Variant(Nullability::NonNullable);
     for stat in [Stat::Max, Stat::Min] {
-        let other = StatsSet::of(alloc, stat, Inexact(variant(alloc, 1)?))?;
-        let mut set = StatsSet::of(alloc, stat, Exact(variant(alloc, 1)?))?;
+        let other = StatsSet::of(alloc, stat, Inexact(variant(alloc, 1)?));
+        let mut set = StatsSet::of(alloc, stat, Exact(variant(alloc, 1)?));
         let before = [(stat, Exact(variant(alloc, 1)?))];
         let overlap = combine(checks, &mut set, (&other, &dtype), false, &before)?;
         checks.holds("bounds that don't compare", !overlap && has(&set, &before));
@@ -315,7 +315,7 @@ fn other_types(alloc: Global, checks: &mut Checks<'_>) -> Done {
         (Stat::NullCount, Exact(count(2))),
     ];
     for (i, others) in [&nullable, &wider].iter().enumerate() {
-        let mut set = StatsSet::of(alloc, Stat::Max, Exact(integer(5)))?;
+        let mut set = StatsSet::of(alloc, Stat::Max, Exact(integer(5)));
         let mut typed = set.as_mut_typed_ref(&dtype);
         let overlaps = match typed.combine_sets(&other.as_typed_ref(others)) {
             Ok(()) => true,

@@ -7,6 +7,7 @@ mod bitsets;
 mod checks;
 mod combining;
 mod expressions;
+mod laws;
 mod layouts;
 mod make_arrays;
 mod merges;
@@ -45,6 +46,8 @@ fn run(alloc: Global, checks: &mut Checks<'_>) -> Done {
     checks.end_part("merges of sets");
     combining::run(alloc, checks)?;
     checks.end_part("combined sets");
+    laws::run(alloc, checks)?;
+    checks.end_part("laws that make the calls");
     providers::run(alloc, checks)?;
     checks.end_part("statistics that are provided");
     Ok(())

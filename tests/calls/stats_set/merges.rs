@@ -187,13 +187,13 @@ fn by_rows(
     rows: &[Row<Precision<i128>>],
 ) -> Done {
     for (i, (left, right, wanted)) in rows.iter().enumerate() {
-        let other = of.set(alloc, *right)?;
-        let merged = of.set(alloc, *left)?.merge_ordered(&other, &of.dtype)?;
+        let other = of.set(alloc, *right);
+        let merged = of.set(alloc, *left).merge_ordered(&other, &of.dtype)?;
         checks.holds_at(name, i, of.is_all_of(&merged, *wanted));
-        let merged = of.set(alloc, *left)?.merge_unordered(&other, &of.dtype)?;
+        let merged = of.set(alloc, *left).merge_unordered(&other, &of.dtype)?;
         checks.holds_at(name, i, of.is_all_of(&merged, *wanted));
         for is_ordered in [true, false] {
-            let mut set = of.set(alloc, *left)?;
+            let mut set = of.set(alloc, *left);
             let before = [(of.stat, of.known(*left))];
             merge(checks, &mut set, (&other, &of.dtype), is_ordered, &before)?;
             checks.holds_at(name, i, of.is_all_of(&set, *wanted));
@@ -252,13 +252,13 @@ fn sortedness(alloc: Global, checks: &mut Checks<'_>) -> Done {
 
 /// A side without a statistic has it absent.
 fn missing(alloc: Global, checks: &mut Checks<'_>) -> Done {
-    let left = StatsSet::of(alloc, Stat::Max, Exact(integer(1)))?;
+    let left = StatsSet::of(alloc, Stat::Max, Exact(integer(1)));
     let merged = left.merge_ordered(&StatsSet::empty(alloc), &integers())?;
     checks.holds("a bound that is missing there", merged.is_empty());
-    let right = StatsSet::of(alloc, Stat::NullCount, Exact(count(1)))?;
+    let right = StatsSet::of(alloc, Stat::NullCount, Exact(count(1)));
     let merged = StatsSet::empty(alloc).merge_ordered(&right, &integers())?;
     checks.holds("a count that is missing here", merged.is_empty());
-    let right = StatsSet::of(alloc, Stat::IsConstant, Exact(truth(false)))?;
+    let right = StatsSet::of(alloc, Stat::IsConstant, Exact(truth(false)));
     let merged = StatsSet::empty(alloc).merge_unordered(&right, &integers())?;
     let wanted = [(Stat::IsConstant, Exact(truth(false)))];
     checks.holds("not constant there", has(&merged, &wanted));

@@ -89,7 +89,7 @@ impl StatOf {
     }
 
     /// The statistic alone, which is listed if it is absent too.
-    pub fn set(&self, alloc: Global, known: Precision<i128>) -> Result<StatsSet, StatsError> {
+    pub fn set(&self, alloc: Global, known: Precision<i128>) -> StatsSet {
         StatsSet::of(alloc, self.stat, self.known(known))
     }
 

@@ -10,9 +10,9 @@ use vortex_arrays::{
 use vortex_dtype::{DType, DTypeError, Nullability, PType};
 use vortex_scalar::{Scalar, ScalarValue};
 use vortex_stats::{
-    BetweenOptions, Expression, Meter, Precision, Scope, Stat, StatsError, StatsSet,
+    AggregateFn, BetweenOptions, Expression, Meter, Precision, Scope, Stat, StatsError, StatsSet,
     StrictComparison, and, between, bind, eq, evaluate, gt, is_nan, is_null, null_count, or,
-    prove,
+    prove, stat,
 };
 
 /// Two rows of a nullable float f, which is null, and a text s.
@@ -47,6 +47,10 @@ fn check(
 const NOT_EVALUABLE: [Option<StatsError>; 2] =
     [Some(StatsError::NotEvaluable), Some(StatsError::NotEvaluable)];
 
+/// A proof of it reads a column first.
+const READS_BEFORE: [Option<StatsError>; 2] =
+    [Some(StatsError::NotEvaluable), Some(StatsError::RuleFault)];
+
 const NOT_BOOLEAN: [Option<StatsError>; 2] =
     [Some(StatsError::NotBoolean), Some(StatsError::NotBoolean)];
 
@@ -61,33 +65,34 @@ pub fn run(alloc: Global, checks: &mut Checks<'_>) -> Result<(), DTypeError> {
 /// Expressions without a truth.
 fn no_truths(alloc: Global, checks: &mut Checks<'_>) -> Result<(), DTypeError> {
     let nan = is_nan(alloc, column(alloc, "f")?)?;
-    check(alloc, checks, "a test for NaN", &nan, NOT_EVALUABLE)?;
+    check(alloc, checks, "a test for NaN", &nan, READS_BEFORE)?;
     let e = eq(alloc, column(alloc, "f")?, column(alloc, "f")?)?;
-    check(alloc, checks, "a comparison of floats", &e, NOT_EVALUABLE)?;
+    check(alloc, checks, "a comparison of floats", &e, READS_BEFORE)?;
     let options = BetweenOptions {
         lower_strict: StrictComparison::Strict,
         upper_strict: StrictComparison::Strict,
     };
     let f = column(alloc, "f")?;
     let e = between(alloc, f, column(alloc, "f")?, column(alloc, "f")?, options)?;
-    check(alloc, checks, "BETWEEN of floats", &e, NOT_EVALUABLE)?;
+    check(alloc, checks, "BETWEEN of floats", &e, READS_BEFORE)?;
     let e = matches(alloc, "s", "a\\%", false)?;
-    check(alloc, checks, "a backslash", &e, NOT_EVALUABLE)?;
+    check(alloc, checks, "a backslash", &e, READS_BEFORE)?;
     let e = matches(alloc, "s", "a", true)?;
-    check(alloc, checks, "a case that is ignored", &e, NOT_EVALUABLE)?;
+    check(alloc, checks, "a case that is ignored", &e, READS_BEFORE)?;
     let e = is_null(alloc, nan)?;
-    check(alloc, checks, "a part without a truth", &e, NOT_EVALUABLE)?;
+    check(alloc, checks, "a part without a truth", &e, READS_BEFORE)?;
     let plain = matches(alloc, "s", "a", false)?;
     let e = or(alloc, plain, matches(alloc, "s", "a", true)?)?;
-    check(alloc, checks, "a side without a truth", &e, NOT_EVALUABLE)
+    check(alloc, checks, "a side without a truth", &e, READS_BEFORE)
 }
 
-/// NotEvaluable before NotBoolean before RuleFault.
+/// The fault of a child before its parent's, that of the left before that of the right.
 fn orders(alloc: Global, checks: &mut Checks<'_>) -> Result<(), DTypeError> {
     let e = null_count(alloc, is_nan(alloc, column(alloc, "f")?)?)?;
     check(alloc, checks, "no truth, and no truth value", &e, NOT_EVALUABLE)?;
     let e = column(alloc, "s")?;
-    check(alloc, checks, "a text, which is a column", &e, NOT_BOOLEAN)?;
+    let refused = [Some(StatsError::NotBoolean), Some(StatsError::RuleFault)];
+    check(alloc, checks, "a text, which is a column", &e, refused)?;
     check(alloc, checks, "a number", &number(5), NOT_BOOLEAN)?;
     let e = matches(alloc, "s", "a", false)?;
     check(alloc, checks, "a column outside a placeholder", &e, READS)?;
@@ -99,7 +104,22 @@ fn orders(alloc: Global, checks: &mut Checks<'_>) -> Result<(), DTypeError> {
     let e = is_null(alloc, null_count(alloc, column(alloc, "s")?)?)?;
     check(alloc, checks, "a column in a placeholder", &e, [None, None])?;
     let e = gt(alloc, number(5), number(4))?;
-    check(alloc, checks, "no column", &e, [None, None])
+    check(alloc, checks, "no column", &e, [None, None])?;
+    sides(alloc, checks)
+}
+
+/// A side that reads a column beside one that has no truth.
+fn sides(alloc: Global, checks: &mut Checks<'_>) -> Result<(), DTypeError> {
+    let f = column(alloc, "f")?;
+    let least = stat(alloc, AggregateFn::Min, f.clone()?)?;
+    let greatest = stat(alloc, AggregateFn::Max, f)?;
+    let floats = gt(alloc, least, greatest)?;
+    check(alloc, checks, "a comparison of bounds of floats", &floats, NOT_EVALUABLE)?;
+    let read = is_null(alloc, column(alloc, "s")?)?;
+    let e = and(alloc, read.clone()?, floats.clone()?)?;
+    check(alloc, checks, "the column is on the left", &e, READS_BEFORE)?;
+    let e = or(alloc, floats, read)?;
+    check(alloc, checks, "the column is on the right", &e, NOT_EVALUABLE)
 }
 
 fn add(alloc: Global, name: &str, stat: Stat, value: ScalarValue) -> Result<Answer, DTypeError> {

@@ -5,7 +5,7 @@ use crate::checks::Checks;
 use std::alloc::Global;
 use vortex_scalar::{PValue, ScalarValue};
 use vortex_stats::Precision::{Absent, Exact, Inexact};
-use vortex_stats::{Precision, Stat, StatsError, StatsSet};
+use vortex_stats::{Precision, Stat, StatsArray, StatsError, StatsSet};
 
 /// A statistic with what is known of it.
 type Pair = (Stat, Precision<ScalarValue>);
@@ -19,7 +19,9 @@ pub fn run(alloc: Global, checks: &mut Checks<'_>) -> Done {
     cleared(alloc, checks)?;
     retained(alloc, checks)?;
     by_value(alloc, checks)?;
-    extended(alloc, checks)
+    extended(alloc, checks)?;
+    extended_past_four(alloc, checks)?;
+    cloned(alloc, checks)
 }
 
 fn number(value: i32) -> ScalarValue {
@@ -55,9 +57,9 @@ fn made(alloc: Global, checks: &mut Checks<'_>) -> Done {
     let none = StatsSet::empty(alloc);
     checks.holds("empty", has_rows(&none, &[]));
     checks.holds("get of empty", none.get(Stat::Sum)?.is_absent());
-    let one = StatsSet::of(alloc, Stat::Sum, Exact(number(3)))?;
+    let one = StatsSet::of(alloc, Stat::Sum, Exact(number(3)));
     checks.holds("of", has_rows(&one, &[(Stat::Sum, Exact(3))]));
-    let mut values = Vec::new(alloc);
+    let mut values = StatsArray::new(alloc);
     values.push((Stat::NaNCount, Absent))?;
     values.push((Stat::Max, Exact(number(4))))?;
     let set = StatsSet::new_unchecked(values);
@@ -113,7 +115,7 @@ fn by_value(alloc: Global, checks: &mut Checks<'_>) -> Done {
 
 fn extended(alloc: Global, checks: &mut Checks<'_>) -> Done {
     let mut set = max_and_min(alloc)?;
-    let mut more = StatsSet::of(alloc, Stat::Sum, Exact(number(6)))?;
+    let mut more = StatsSet::of(alloc, Stat::Sum, Exact(number(6)));
     more.set(Stat::Min, Exact(number(7)))?;
     set.extend(more.into_iter())?;
     let wanted = [
@@ -129,5 +131,40 @@ fn extended(alloc: Global, checks: &mut Checks<'_>) -> Done {
     let set = StatsSet::try_from_iter(alloc, twice.into_iter())?;
     let wanted = [(Stat::Max, Inexact(2)), (Stat::Min, Absent)];
     checks.holds("try_from_iter", has_rows(&set, &wanted));
+    Ok(())
+}
+
+/// Four statistics take no memory. Where there is none for a fifth, the four stay.
+fn extended_past_four(alloc: Global, checks: &mut Checks<'_>) -> Done {
+    let stats = [Stat::Max, Stat::Min, Stat::Max, Stat::Sum, Stat::NullCount, Stat::NaNCount];
+    let mut pairs = Vec::new(alloc);
+    for (i, stat) in stats.into_iter().enumerate() {
+        pairs.push((stat, Exact(number(i as i32))))?;
+    }
+    let mut set = StatsSet::empty(alloc);
+    let outcome = set.extend(pairs.into_iter());
+    let wanted = [
+        (Stat::Max, Exact(2)),
+        (Stat::Min, Exact(1)),
+        (Stat::Sum, Exact(3)),
+        (Stat::NullCount, Exact(4)),
+        (Stat::NaNCount, Exact(5)),
+    ];
+    if outcome.is_err() {
+        checks.stays("what a refused extend leaves", has_rows(&set, &wanted[..4]));
+        return outcome;
+    }
+    checks.holds("extend past four", has_rows(&set, &wanted));
+    let again = set.set(Stat::Max, Exact(number(9)));
+    checks.holds("in its place without memory", again.is_ok());
+    Ok(())
+}
+
+fn cloned(alloc: Global, checks: &mut Checks<'_>) -> Done {
+    let mut set = max_and_min(alloc)?;
+    let copy = set.clone()?;
+    set.clear(Stat::Max);
+    checks.holds("clone", has_rows(&copy, &[(Stat::Max, Inexact(2)), (Stat::Min, Absent)]));
+    checks.holds("what was cloned", has_rows(&set, &[(Stat::Min, Absent)]));
     Ok(())
 }

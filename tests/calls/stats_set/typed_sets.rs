@@ -138,7 +138,7 @@ fn one_value(alloc: Global, checks: &mut Checks<'_>) -> Done {
         (Stat::Sum, count(1), DType::Null, false),
     ];
     for (i, (stat, value, dtype, wanted)) in Vec::from_array(alloc, rows)?.into_iter().enumerate() {
-        let set = StatsSet::of(alloc, stat, Inexact(value))?;
+        let set = StatsSet::of(alloc, stat, Inexact(value));
         checks.holds_at("is_valid_for of one", i, set.is_valid_for(&dtype) == wanted);
     }
     Ok(())

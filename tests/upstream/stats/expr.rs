@@ -85,7 +85,7 @@ type Flag = (AggregateFn, usize, Precision<u64>, Option<bool>);
 /// Whether the flag of a column of this type has its value.
 fn is_flag(alloc: Global, dtype: &DType, stat: Stat, flag: &Flag) -> Result<bool, StatsError> {
     let (aggregate, rows, known, wanted) = flag;
-    let set = StatsSet::of(alloc, stat, known.map(count))?;
+    let set = StatsSet::of(alloc, stat, known.map(count));
     let value = stat_scalar(alloc, *aggregate, &set, dtype, *rows)?;
     let wanted = wanted.map(ScalarValue::Bool);
     Ok(is_of(&value, &DType::Bool(WITH), wanted.as_ref()))

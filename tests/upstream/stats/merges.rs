@@ -68,8 +68,8 @@ fn merges_of_one(alloc: Global, checks: &mut Checks<'_>) -> Done {
                      right: Precision<ScalarValue>,
                      wanted: Precision<ScalarValue>|
      -> Done {
-        let other = StatsSet::of(alloc, stat, right)?;
-        let merged = StatsSet::of(alloc, stat, left)?.merge_ordered(&other, &dtype())?;
+        let other = StatsSet::of(alloc, stat, right);
+        let merged = StatsSet::of(alloc, stat, left).merge_ordered(&other, &dtype())?;
         checks.holds(name, knows(&merged, stat, wanted)?);
         Ok(())
     };
@@ -82,9 +82,9 @@ fn merges_of_one(alloc: Global, checks: &mut Checks<'_>) -> Done {
     merge("merge_min_bound_bound_lower", min, lower, higher, wanted)?;
     merge("merge_scalars", Stat::Sum, Exact(sum(37)), Exact(sum(42)), Exact(sum(79)))?;
     let greatest = || Exact(sum(9_223_372_036_854_775_807));
-    let other = StatsSet::of(alloc, Stat::Sum, greatest())?;
+    let other = StatsSet::of(alloc, Stat::Sum, greatest());
     let long = DType::Primitive(PType::I64, Nullability::NonNullable);
-    let merged = StatsSet::of(alloc, Stat::Sum, greatest())?.merge_ordered(&other, &long)?;
+    let merged = StatsSet::of(alloc, Stat::Sum, greatest()).merge_ordered(&other, &long)?;
     checks.holds("merge_sums_overflow_clears", merged.get(Stat::Sum)?.is_absent());
     Ok(())
 }
@@ -102,7 +102,7 @@ fn merges_with_none(alloc: Global, checks: &mut Checks<'_>) -> Done {
         ),
     ];
     for (into, from, stat, value) in &rows {
-        let one = StatsSet::of(alloc, *stat, Exact(value.clone()?))?;
+        let one = StatsSet::of(alloc, *stat, Exact(value.clone()?));
         let merged = StatsSet::empty(alloc).merge_ordered(&one, &dtype())?;
         checks.holds(from, merged.get(*stat)?.is_absent());
         let merged = one.merge_ordered(&StatsSet::empty(alloc), &dtype())?;
@@ -153,7 +153,7 @@ fn sorted(
     bound: Stat,
     known: Precision<ScalarValue>,
 ) -> Result<StatsSet, StatsError> {
-    let mut set = StatsSet::of(alloc, Stat::IsStrictSorted, Exact(truth(sorted)))?;
+    let mut set = StatsSet::of(alloc, Stat::IsStrictSorted, Exact(truth(sorted)));
     set.set(bound, known)?;
     Ok(set)
 }
@@ -174,7 +174,7 @@ fn merges_of_sortedness(alloc: Global, checks: &mut Checks<'_>) -> Done {
     let merged = first.merge_ordered(&second, &dtype())?;
     checks.holds("merge_sortedness_only_one_sorted", merged.get(stat)?.is_absent());
     let first = sorted(alloc, true, Stat::Max, Exact(number(1)))?;
-    let second = StatsSet::of(alloc, stat, Exact(truth(true)))?;
+    let second = StatsSet::of(alloc, stat, Exact(truth(true)));
     let merged = first.merge_ordered(&second, &dtype())?;
     checks.holds("merge_sortedness_missing_min", merged.get(stat)?.is_absent());
     let first = sorted(alloc, true, Stat::Max, Exact(number(1)))?;
@@ -224,8 +224,8 @@ fn test_combine_is_constant(alloc: Global, checks: &mut Checks<'_>) -> Done {
     ];
     let stat = Stat::IsConstant;
     for (i, (left, right, wanted)) in rows.iter().enumerate() {
-        let mut stats = StatsSet::of(alloc, stat, left.map(truth))?;
-        let stats2 = StatsSet::of(alloc, stat, right.map(truth))?;
+        let mut stats = StatsSet::of(alloc, stat, left.map(truth));
+        let stats2 = StatsSet::of(alloc, stat, right.map(truth));
         let dtype = dtype();
         let mut stats_ref = stats.as_mut_typed_ref(&dtype);
         stats_ref.combine_sets(&stats2.as_typed_ref(&dtype))?;

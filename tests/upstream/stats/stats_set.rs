@@ -5,7 +5,7 @@ use crate::checks::Checks;
 use std::alloc::Global;
 use vortex_scalar::{PValue, ScalarValue};
 use vortex_stats::Precision::Exact;
-use vortex_stats::{Precision, Stat, StatsError, StatsSet};
+use vortex_stats::{Precision, Stat, StatsArray, StatsError, StatsSet};
 
 pub fn run(alloc: Global, checks: &mut Checks<'_>) -> Done {
     test_iter(alloc, checks)?;
@@ -28,7 +28,7 @@ fn numbers_of(known: &Precision<ScalarValue>) -> Precision<i32> {
 }
 
 fn max_and_min(alloc: Global) -> Result<StatsSet, StatsError> {
-    let mut values = Vec::new(alloc);
+    let mut values = StatsArray::new(alloc);
     values.push((Stat::Max, Exact(number(100))))?;
     values.push((Stat::Min, Exact(number(42))))?;
     Ok(StatsSet::new_unchecked(values))
