@@ -8,11 +8,13 @@ So in code a value of these names may be made only
 
 - in an `impl From<AllocError>` or `impl From<AllocFailed<..>>`;
 - in an arm of a `match`, a branch of an `if` or a closure, where the pattern, the condition or the
-  parameters say that there is such a value already (each alternative of the pattern);
-- in a place of EXCEPTIONS, of a call that can fail only for want of memory.
+  parameters say that there is such a value already (each alternative of the pattern).
 
-Clauses and ghost items are no code. Every other place is printed, and so is an exception that
-nothing needs; the last line counts, and the status is 1 if there is one.
+A body can also ask for more than there is: so no request may be of a number that is large whatever
+came in, as `usize::MAX` or a name that a `let` or `const` gives one.
+
+Clauses and ghost items are no code. Every other place is printed; the last line counts, and the
+status is 1 if there is one.
 """
 import re
 import sys
@@ -24,21 +26,12 @@ import sources
 NAMES = {"Memory", "NoMemory", "OutOfMemory", "AllocError", "AllocFailed"}
 # A call that asks an error whether it is one.
 TESTS = {"is_memory", "is_out_of_memory"}
-# Of a function, with its type before it if it has one: an arm, with what is matched, or a condition
-# that holds only where memory was lacking, though it doesn't say so; and why that is.
-EXCEPTIONS = {
-    ("Session::answer_scan", "write_found(alloc,&answer,out) is Err(_)"): (
-        "the call's only error is AllocError"
-    ),
-    ("Session::answer_describe", "write_described(&description,out) is Err(_)"): (
-        "the call's only error is AllocError"
-    ),
-    ("decide", "buffer.whole() is None"): "a line is lost only where there was no memory for it",
-    ("MemorySink::write", "self.bytes.extend_from_slice(&buf[..n]).is_err()"): (
-        "the call's only error is AllocError"
-    ),
-}
-TOKEN = re.compile(r"\w+|::|=>|->|==|!=|<=|>=|&&|\|\||\.\.=?|[^\w\s]")
+# The calls that ask for memory by a number of items.
+REQUESTS = {"with_capacity", "reserve", "reserve_exact", "resize"}
+# What makes a number large by itself: words, and the least literal.
+LARGE_WORDS = re.compile(r"MAX|<<|!|pow|wrapping_\w+|saturating_\w+")
+LARGE = 1 << 30
+TOKEN = re.compile(r"\w+|::|=>|->|==|!=|<=|>=|<<|&&|\|\||\.\.=?|[^\w\s]")
 CLOSES = {"(": ")", "[": "]", "{": "}"}
 CLAUSES = {"requires", "ensures"}
 # A `|` behind one of these, or at the beginning, begins a closure.
@@ -140,6 +133,12 @@ def tests_memory(nodes):
     return bool(equal or asked)
 
 
+def large_number(word):
+    """Whether the word is a literal of a large number."""
+    found = re.fullmatch(r"(0x[0-9a-fA-F_]+|[0-9][0-9_]*)([iu](8|16|32|64|size))?", word)
+    return bool(found) and int(found[1].replace("_", ""), 0 if found[1][:2] == "0x" else 10) >= LARGE
+
+
 class Walk:
     """A walk over the code of a file, which finds where want of memory is made."""
 
@@ -147,8 +146,8 @@ class Walk:
         self.crate, self.file, self.text = crate, file, text
         # Where it is made without being met: the place, the function, and what leads to it.
         self.found = []
-        # The exceptions that were needed.
-        self.used = set()
+        # The names that stand for a number that is large whatever came in.
+        self.large = set()
 
     def items(self, nodes, of="", is_from=False):
         """Walks over items: those of a file, of a module, of a trait or of an impl."""
@@ -167,6 +166,7 @@ class Walk:
             elif word in ("const", "static") and nodes[at + 1].text != "fn":
                 end = index_of(nodes, at, ";")
                 start = index_of(nodes, at, "=")
+                self.bind(nodes[at + 1], nodes[start + 1 : end])
                 self.code(nodes[start + 1 : end], of or self.file, [])
                 at = end + 1
             else:
@@ -190,7 +190,9 @@ class Walk:
         name = "::".join(it for it in (of, nodes[at + 1].text) if it)
         block, stop = block_after(nodes, at), index_of(nodes, at, ";")
         if block < stop and not is_from:
+            outside = {*self.large}
             self.code(nodes[block].inner, name, [])
+            self.large = outside
         return min(block, stop) + 1
 
     def code(self, nodes, name, met):
@@ -218,7 +220,9 @@ class Walk:
         elif word in ("if", "while"):
             return self.branch(nodes, at, name, met)
         elif word == "let":
-            return min(index_of(nodes, at, "="), index_of(nodes, at, ";")) + 1
+            start, end = index_of(nodes, at, "="), index_of(nodes, at, ";")
+            self.bind(nodes[at + (2 if nodes[at + 1].text == "mut" else 1)], nodes[start + 1 : end])
+            return min(start, end) + 1
         elif word == "for":
             return index_of(nodes, at, "in") + 1
         elif word in ("prove", "matches") and at + 2 < len(nodes) and nodes[at + 1].text == "!":
@@ -229,6 +233,9 @@ class Walk:
             return self.closure(nodes, at, name, met)
         elif word in NAMES and self.makes(nodes, at):
             self.made(node, name, met)
+        elif word in REQUESTS and at + 1 < len(nodes) and nodes[at + 1].text == "(":
+            if self.is_large(nodes[at + 1].inner):
+                self.report(node, "%s: %s of a large number" % (name, word))
         return at + 1
 
     def skip(self, nodes, at):
@@ -289,18 +296,35 @@ class Walk:
     def made(self, node, name, met):
         if any(tests for _, tests in met):
             return
-        for text, _ in met:
-            if (name, text) in EXCEPTIONS:
-                self.used.add((name, text))
-                return
-        line = sources.line_at(self.text, node.at)
         behind = " behind `%s`" % met[-1][0] if met else ""
-        place = "crates/%s/src/%s:%d" % (self.crate, self.file, line)
-        self.found.append("%s: %s: %s is made%s" % (place, name, node.text, behind))
+        self.report(node, "%s: %s is made%s" % (name, node.text, behind))
+
+    def report(self, node, what):
+        line = sources.line_at(self.text, node.at)
+        self.found.append("crates/%s/src/%s:%d: %s" % (self.crate, self.file, line, what))
+
+    def bind(self, name, nodes):
+        """Notes whether the name stands for a large number from here on."""
+        self.large.discard(name.text)
+        if name.inner is None and self.is_large(nodes):
+            self.large.add(name.text)
+
+    def is_large(self, nodes):
+        """Whether an expression has a number that is large whatever came in. In a call it may be
+        anything, so what a group holds counts as what stands beside it."""
+        for node in nodes:
+            if node.inner is not None:
+                if not node.is_block() and self.is_large(node.inner):
+                    return True
+            elif LARGE_WORDS.fullmatch(node.text) or node.text in self.large:
+                return True
+            elif large_number(node.text):
+                return True
+        return False
 
 
 def main():
-    found, used = [], set()
+    found = []
     for crate in sources.crates():
         for file in sources.source_files(crate):
             text = sources.blanked(sources.read(crate, file))
@@ -310,12 +334,9 @@ def main():
             except ValueError as why:
                 walk.found.append("crates/%s/src/%s: not read: %s" % (crate, file, why))
             found += walk.found
-            used |= walk.used
-    for name, text in sorted({*EXCEPTIONS} - used):
-        found.append("tools/false_memory.py: %s, `%s`: nothing needs the exception" % (name, text))
     for it in found:
         print("false memory: " + it)
-    print("false memory: %d places, %d exceptions" % (len(found), len(EXCEPTIONS)))
+    print("false memory: %d places" % len(found))
     return 1 if found else 0
 
 

@@ -187,7 +187,8 @@ pub mod table {
 /// Commands in lines of JSON, and their answers.
 pub mod run {
     pub use vortex_table_io::{
-        LineHandler, MemorySink, MemorySource, Response, RunError, ShortText, Sink, Source, Tap,
+        Call, LineHandler, MemorySink, MemorySource, Response, RunError, ShortText, Sink, Source,
+        Tap,
     };
     pub use vortex_table_run::commands::run;
     pub use vortex_table_run::session::Session;

@@ -1,3 +1,4 @@
+pub mod CallLemmas
 pub mod Fronts
 pub mod LineLemmas
 pub mod ReplyLemmas

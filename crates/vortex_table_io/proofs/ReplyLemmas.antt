@@ -1,10 +1,11 @@
 -- How answers to more and more lines go on.
-use Rattle.std.proofs.Common.{◌≡◌, ◌≢◌, ℕ, List, [], ◌∷◌, ◌++◌, refl, ap, ◌∙◌, sym, subst, map, flat_map, append_assoc, append-nil}
+use Rattle.std.proofs.Common.{◌≡◌, ◌≢◌, ℕ, List, [], ◌∷◌, ◌++◌, refl, ap, ◌∙◌, sym, subst, map, flat_map, append_assoc, append-nil, All}
 use Rattle.std.proofs.lemmas.Grind.{flat_map-append}
+use Rattle.std.proofs.lemmas.List.Elements.{All-nil, All-cons, All-append}
 use Rattle.vortex_model_table.specs.Reply.{Answers, Replies, lines}
 use Rattle.vortex_table_io.specs.Lines.{IsOneLine, with_lf}
-use Rattle.vortex_table_io.specs.Replies.{AnswersAll, AnswersPart, FeedOk, FeedErr, FinishOk, FinishErr, memory_text}
-use Rattle.vortex_table_io.proofs.LineLemmas.{lines-line, lines-last}
+use Rattle.vortex_table_io.specs.Replies.{AnswersAll, AnswersPart, AnswersWhole, FeedOk, FeedErr, FinishOk, FinishErr, memory_text}
+use Rattle.vortex_table_io.proofs.LineLemmas.{lines-last, lines-done}
 
 -- texts, written behind others
 join : (a b c d : List ℕ) (ts us : List (List ℕ)) → b ≡ a ++ flat_map with_lf ts → c ++ d ≡ b ++ flat_map with_lf us → c ++ d ≡ a ++ flat_map with_lf (ts ++ us)
@@ -52,19 +53,42 @@ module _ {S : Type 0} (answers : Answers S (List ℕ)) where
           ∙ ap (λ (y : List ℕ). v ++ y) (sym (flat_map-append with_lf texts (map (λ _. memory_text) later)));
     }
 
+-- lines with their LFs
+abbrev ended : List (List ℕ) → List ℕ
+ended ls = flat_map with_lf ls
+
+-- one more line
+lined : (done : List (List ℕ)) (l : List ℕ) → ended done ++ with_lf l ≡ ended (done ++ l ∷ [])
+lined done l = ap (λ (x : List ℕ). ended done ++ x) (one l) ∙ sym (flat_map-append with_lf done (l ∷ []))
+
+each_line : (done : List (List ℕ)) (l : List ℕ) → All IsOneLine done → IsOneLine l → All IsOneLine (done ++ l ∷ [])
+each_line done l h i = All-append IsOneLine done (l ∷ []) h (All-cons IsOneLine l [] i (All-nil IsOneLine))
+
+-- what was held came to its LF, and more follows
+parts_line : (h p l after : List ℕ) (done : List (List ℕ)) → h ++ p ≡ ended done ++ l → h ++ (p ++ 10 ∷ after) ≡ ended (done ++ l ∷ []) ++ after
+parts_line h p l after done e =
+    sym (append_assoc h p (10 ∷ after)) ∙ ap (λ (x : List ℕ). x ++ 10 ∷ after) e ∙ append_assoc (ended done) l (10 ∷ after)
+    ∙ ap (λ (x : List ℕ). ended done ++ x) (sym (append_assoc l (10 ∷ []) after)) ∙ sym (append_assoc (ended done) (with_lf l) after)
+    ∙ ap (λ (x : List ℕ). x ++ after) (lined done l)
+
+-- what was held and a piece are lines and what is left
+parts_more : (h p l q k : List ℕ) (done later : List (List ℕ)) → h ++ p ≡ ended done ++ l → l ++ q ≡ ended later ++ k → h ++ (p ++ q) ≡ ended (done ++ later) ++ k
+parts_more h p l q k done later e f =
+    sym (append_assoc h p q) ∙ ap (λ (x : List ℕ). x ++ q) e ∙ append_assoc (ended done) l q ∙ ap (λ (x : List ℕ). ended done ++ x) f
+    ∙ sym (append_assoc (ended done) (ended later) k) ∙ ap (λ (x : List ℕ). x ++ k) (sym (flat_map-append with_lf done later))
+
 module _ {S : Type 0} {answers : Answers S (List ℕ)} where
   -- nothing came
   pub FeedOk-none : {m : S} {h k w : List ℕ} → k ≡ h → FeedOk answers m h [] k w w m
-  FeedOk-none {w = w} e = record { done = []; texts = []; cut = λ more. ap (λ (x : List ℕ). lines (x ++ more)) (sym e); replies = refl; written = sym (append-nil w) }
+  FeedOk-none {h = h} {w = w} e = record { done = []; texts = []; each = All-nil IsOneLine; parts = append-nil h ∙ sym e; replies = refl; written = sym (append-nil w) }
 
   -- a piece came that is held
   pub FeedOk-more : {o m : S} {h p l k v w : List ℕ} (q : List ℕ) → k ≡ l ++ q → FeedOk answers o h p l v w m → FeedOk answers o h (p ++ q) k v w m
-  FeedOk-more {h = h} {p = p} {l = l} q e g = record {
+  FeedOk-more {h = h} {p = p} {l = l} {k = k} q e g = record {
     done = g.done;
     texts = g.texts;
-    cut = λ more.
-        ap (λ (x : List ℕ). lines (h ++ x)) (append_assoc p q more) ∙ g.cut (q ++ more)
-        ∙ ap (λ (x : List ℕ). g.done ++ lines x) (sym (append_assoc l q more) ∙ ap (λ (x : List ℕ). x ++ more) (sym e));
+    each = g.each;
+    parts = sym (append_assoc h p q) ∙ ap (λ (x : List ℕ). x ++ q) g.parts ∙ append_assoc (ended g.done) l q ∙ ap (λ (x : List ℕ). ended g.done ++ x) (sym e);
     replies = g.replies;
     written = g.written;
   }
@@ -74,10 +98,8 @@ module _ {S : Type 0} {answers : Answers S (List ℕ)} where
   FeedOk-line {o} {m} {n} {h} {p} {l} {k} {v} {w} {x} text i z a e g = record {
     done = g.done ++ l ∷ [];
     texts = g.texts ++ text ∷ [];
-    cut = λ more.
-        ap (λ (y : List ℕ). lines (h ++ y)) (append_assoc p (10 ∷ []) more) ∙ g.cut (10 ∷ more)
-        ∙ ap (λ (y : List (List ℕ)). g.done ++ y) (lines-line l more i) ∙ sym (append_assoc g.done (l ∷ []) (lines more))
-        ∙ ap (λ (y : List ℕ). (g.done ++ l ∷ []) ++ lines (y ++ more)) (sym z);
+    each = each_line g.done l g.each i;
+    parts = parts_line h p l [] g.done g.parts ∙ ap (λ (y : List ℕ). ended (g.done ++ l ∷ []) ++ y) (sym z);
     replies = Replies-append answers o g.done g.texts m (l ∷ []) (text ∷ []) n g.replies (Replies-one answers m n l text a);
     written = join_all v w x g.texts (text ∷ []) g.written (e ∙ ap (λ (y : List ℕ). w ++ y) (one text));
   }
@@ -88,11 +110,9 @@ module _ {S : Type 0} {answers : Answers S (List ℕ)} where
     done = g.done ++ l ∷ [];
     texts = g.texts ++ text ∷ [];
     final = n;
-    later = λ more. lines (after ++ more);
-    cut = λ more.
-        ap (λ (z : List ℕ). lines (h ++ (z ++ more))) (sym s)
-        ∙ ap (λ (z : List ℕ). lines (h ++ z)) (append_assoc p (10 ∷ after) more) ∙ g.cut (10 ∷ (after ++ more))
-        ∙ ap (λ (z : List (List ℕ)). g.done ++ z) (lines-line l (after ++ more) i) ∙ sym (append_assoc g.done (l ∷ []) (lines (after ++ more)));
+    later = after;
+    each = each_line g.done l g.each i;
+    parts = ap (λ (z : List ℕ). h ++ z) (sym s) ∙ parts_line h p l after g.done g.parts;
     replies = Replies-append answers o g.done g.texts m (l ∷ []) (text ∷ []) n g.replies (Replies-one answers m n l text a);
     rest = rest;
     begins = join v w x rest g.texts (text ∷ []) g.written (e ∙ ap (λ (z : List ℕ). w ++ z) (one text));
@@ -104,8 +124,9 @@ module _ {S : Type 0} {answers : Answers S (List ℕ)} where
     done = g.done;
     texts = g.texts;
     final = m;
-    later = λ more. lines (l ++ more);
-    cut = g.cut;
+    later = l;
+    each = g.each;
+    parts = g.parts;
     replies = g.replies;
     rest = rest;
     begins = e ∙ g.written;
@@ -116,9 +137,8 @@ module _ {S : Type 0} {answers : Answers S (List ℕ)} where
   FeedOk-append {o} {m} {n} {h} {p} {l} {q} {k} {u} {v} {w} f g = record {
     done = f.done ++ g.done;
     texts = f.texts ++ g.texts;
-    cut = λ more.
-        ap (λ (y : List ℕ). lines (h ++ y)) (append_assoc p q more) ∙ f.cut (q ++ more)
-        ∙ ap (λ (y : List (List ℕ)). f.done ++ y) (g.cut more) ∙ sym (append_assoc f.done g.done (lines (k ++ more)));
+    each = All-append IsOneLine f.done g.done f.each g.each;
+    parts = parts_more h p l q k f.done g.done f.parts g.parts;
     replies = Replies-append answers o f.done f.texts m g.done g.texts n f.replies g.replies;
     written = join_all u v w f.texts g.texts f.written g.written;
   }
@@ -129,9 +149,8 @@ module _ {S : Type 0} {answers : Answers S (List ℕ)} where
     texts = f.texts ++ g.texts;
     final = g.final;
     later = g.later;
-    cut = λ more.
-        ap (λ (y : List ℕ). lines (h ++ y)) (append_assoc p q more) ∙ f.cut (q ++ more)
-        ∙ ap (λ (y : List (List ℕ)). f.done ++ y) (g.cut more) ∙ sym (append_assoc f.done g.done (g.later more));
+    each = All-append IsOneLine f.done g.done f.each g.each;
+    parts = parts_more h p l q g.later f.done g.done f.parts g.parts;
     replies = Replies-append answers o f.done f.texts m g.done g.texts g.final f.replies g.replies;
     rest = g.rest;
     begins = join u v w g.rest f.texts g.texts f.written g.begins;
@@ -139,13 +158,17 @@ module _ {S : Type 0} {answers : Answers S (List ℕ)} where
 
   -- ---- whole runs
 
+  -- the lines of all that came
+  all_lines : {o m : S} {input l v w : List ℕ} (g : FeedOk answers o [] input l v w m) → lines input ≡ g.done ++ lines l
+  all_lines {l = l} g = ap lines g.parts ∙ lines-done g.done l g.each
+
   -- the input ended, and nothing is held
   all_whole : {o m : S} {r s input v w : List ℕ} → s ≡ r ++ input → FeedOk answers o [] input [] v w m → AnswersAll answers o r s v w m
   all_whole {o} {m} {input = input} e g = record {
     input = input;
     read = e;
     texts = g.texts;
-    replies = subst (λ (ls : List (List ℕ)). Replies answers o ls g.texts m) (sym (ap lines (sym (append-nil input)) ∙ g.cut [] ∙ append-nil g.done)) g.replies;
+    replies = subst (λ (ls : List (List ℕ)). Replies answers o ls g.texts m) (sym (all_lines g ∙ append-nil g.done)) g.replies;
     written = g.written;
   }
 
@@ -156,7 +179,7 @@ module _ {S : Type 0} {answers : Answers S (List ℕ)} where
     read = e;
     texts = g.texts ++ text ∷ [];
     replies = subst (λ (ls : List (List ℕ)). Replies answers o ls (g.texts ++ text ∷ []) n)
-        (sym (ap lines (sym (append-nil input)) ∙ g.cut [] ∙ ap (λ (y : List (List ℕ)). g.done ++ y) (ap lines (append-nil l) ∙ lines-last l i ne)))
+        (sym (all_lines g ∙ ap (λ (y : List (List ℕ)). g.done ++ y) (lines-last l i ne)))
         (Replies-append answers o g.done g.texts m (l ∷ []) (text ∷ []) n g.replies (Replies-one answers m n l text a));
     written = join_all v w x g.texts (text ∷ []) g.written (f ∙ ap (λ (y : List ℕ). w ++ y) (one text));
   }
@@ -167,23 +190,36 @@ module _ {S : Type 0} {answers : Answers S (List ℕ)} where
       subst (λ (k : S). AnswersAll answers o r s v x k) (sym h.1) (subst (λ (y : List ℕ). AnswersAll answers o r s v y m) (sym h.0) (all_whole e g))
   ends_all (b ∷ bs) e i g h = all_last h.0 e i (not_nil b bs) h.1 h.2 g
 
+  -- no more was read, and no write failed
+  pub whole_read : {o m : S} {r s input l v w : List ℕ} → s ≡ r ++ input → IsOneLine l → FeedOk answers o [] input l v w m → AnswersWhole answers o r s v w
+  whole_read {m = m} {r = r} {l = l} e i g = record {
+    done = g.done;
+    held = l;
+    lines = (g.each, i);
+    read = e ∙ ap (λ (x : List ℕ). r ++ x) g.parts;
+    texts = g.texts;
+    final = m;
+    replies = g.replies;
+    written = g.written;
+  }
+
   module _ (may : (now : S) (line : List ℕ) → answers now line memory_text now) where
     -- no more was read
     pub part_read : {o m : S} {r s input l v w : List ℕ} → s ≡ r ++ input → FeedOk answers o [] input l v w m → AnswersPart answers o r s v w
     part_read {o} {m} {r} {s} {input} {l} {v} {w} e g =
-        part answers may o m r s input v w [] g.done g.texts (lines (l ++ [])) e (ap lines (sym (append-nil input)) ∙ g.cut []) g.replies (append-nil w ∙ g.written)
+        part answers may o m r s input v w [] g.done g.texts (lines l) e (all_lines g) g.replies (append-nil w ∙ g.written)
 
     -- a write failed
     pub part_stopped : {o : S} {r s input v w : List ℕ} → s ≡ r ++ input → FeedErr answers o [] input v w → AnswersPart answers o r s v w
     part_stopped {o} {r} {s} {input} {v} {w} e g =
-        part answers may o g.final r s input v w g.rest g.done g.texts (g.later []) e (ap lines (sym (append-nil input)) ∙ g.cut []) g.replies g.begins
+        part answers may o g.final r s input v w g.rest g.done g.texts (lines g.later) e (ap lines g.parts ∙ lines-done g.done g.later g.each) g.replies g.begins
 
     -- a write failed after the input had ended, with a line held
     pub ends_part : {o m : S} {r s input v w x : List ℕ} (l : List ℕ) → s ≡ r ++ input → IsOneLine l → FeedOk answers o [] input l v w m → FinishErr answers m l w x → AnswersPart answers o r s v x
     ends_part {o} {r = r} {s = s} {v = v} [] e i g h = subst (λ (y : List ℕ). AnswersPart answers o r s v y) (sym h) (part_read e g)
     ends_part {o} {m} {r} {s} {input} {v} {w} {x} (b ∷ bs) e i g h =
         part answers may o h.2 r s input v x h.1 (g.done ++ (b ∷ bs) ∷ []) (g.texts ++ h.0 ∷ []) [] e
-        (ap lines (sym (append-nil input)) ∙ g.cut [] ∙ ap (λ (y : List (List ℕ)). g.done ++ y) (ap lines (append-nil (b ∷ bs)) ∙ lines-last (b ∷ bs) i (not_nil b bs)) ∙ sym (append-nil (g.done ++ (b ∷ bs) ∷ [])))
+        (all_lines g ∙ ap (λ (y : List (List ℕ)). g.done ++ y) (lines-last (b ∷ bs) i (not_nil b bs)) ∙ sym (append-nil (g.done ++ (b ∷ bs) ∷ [])))
         (Replies-append answers o g.done g.texts m ((b ∷ bs) ∷ []) (h.0 ∷ []) h.2 g.replies (Replies-one answers m h.2 (b ∷ bs) h.0 h.3))
         (join v w x h.1 g.texts (h.0 ∷ []) g.written (h.4 ∙ ap (λ (y : List ℕ). w ++ y) (one h.0)))
 

@@ -1,4 +1,4 @@
--- Steps of the two proofs by hand, and what a `Log` owns.
+-- Steps of the proofs by hand, and what a `Log` and a `CallLog` own.
 pub use Rattle.std.proofs.Common.{◌≡◌, List, ℕ, [], ◌∷◌, ◌++◌, refl}
 pub use Rattle.std.proofs.raw_atomic.Walks.{proved}
 pub use base.Fml.{ftrue}
@@ -18,6 +18,8 @@ use denote.Laws.{Is, Makes}
 use denote.Shadow.{makes_shadow}
 use Rattle.vortex_table_io.specs.contracts.log.Log.{the_row}
 use Rattle.vortex_table_io.specs.declared.log.Log.{Log}
+use Rattle.vortex_table_io.specs.contracts.log.CallLog as call_log
+use Rattle.vortex_table_io.specs.declared.log.CallLog.{CallLog}
 
 -- A log owns no memory, so that one of any bytes is had for nothing.
 pub log_Makes : {M : Type 1} {𝓤 : Ura M} (𝓛 : Logic 𝓤) → Makes 𝓛 the_row (Is the_row)
@@ -29,3 +31,9 @@ log_val = vstruct vnil
 
 pub log_is : (log : Log) → Is the_row log (log_val ∷ [])
 log_is log = ((tt, (refl, tt)), tt)
+
+pub calls_Makes : {M : Type 1} {𝓤 : Ura M} (𝓛 : Logic 𝓤) → Makes 𝓛 call_log.the_row (Is call_log.the_row)
+calls_Makes 𝓛 log vs p = makes_shadow 𝓛 (call_log.the_row.own_val log vs) ((λ _. (tt, tt)), tt) p
+
+pub calls_is : (log : CallLog) → Is call_log.the_row log (log_val ∷ [])
+calls_is log = ((tt, (refl, tt)), tt)

@@ -1,5 +1,6 @@
 -- What contracts see of a source and a sink in memory.
-use Rattle.std.specs.Prelude.{ℕ, List, Bool, take}
+use Rattle.std.specs.Prelude.{ℕ, List, Bool, take, drop}
+use Rattle.vortex_table_io.specs.declared.call.Call.{Call}
 use Rattle.vortex_table_io.specs.declared.memory.MemorySource.{MemorySource}
 use Rattle.vortex_table_io.specs.declared.memory.MemorySink.{MemorySink}
 
@@ -11,17 +12,34 @@ source_bytes s = s.all.now
 abbrev pub source_most : MemorySource → ℕ
 source_most s = s.most
 
+-- how many more reads don't fail
+abbrev pub source_good : MemorySource → ℕ
+source_good s = s.good
+
+-- the bytes that weren't read yet
+abbrev pub source_left : MemorySource → List ℕ
+source_left s = drop s.at s.all.now
+
 abbrev pub source_history : MemorySource → List ℕ
 source_history s = take s.at s.all.now
 
-abbrev pub source_has_ended : MemorySource → Bool
-source_has_ended s = s.ended
+abbrev pub source_calls : MemorySource → List Call
+source_calls s = s.calls.log.calls
 
-abbrev pub source_has_failed : MemorySource → Bool
-source_has_failed s = s.failed
+-- how many bytes one write takes at most
+abbrev pub sink_most : MemorySink → ℕ
+sink_most s = s.most
 
-abbrev pub sink_has_failed : MemorySink → Bool
-sink_has_failed s = s.failed
+-- how many more calls don't fail
+abbrev pub sink_good : MemorySink → ℕ
+sink_good s = s.good
+
+-- whether a flush can succeed
+abbrev pub sink_flushes : MemorySink → Bool
+sink_flushes s = s.flushes
+
+abbrev pub sink_calls : MemorySink → List Call
+sink_calls s = s.calls.log.calls
 
 -- the bytes that were there at the last flush that succeeded
 abbrev pub sink_flushed : MemorySink → List ℕ

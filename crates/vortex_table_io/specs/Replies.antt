@@ -1,7 +1,7 @@
 -- What is answered to the lines of an input, and what of it was written.
-use Rattle.std.specs.Prelude.{◌≡◌, ℕ, List, [], ◌∷◌, ◌++◌, flat_map, codes}
+use Rattle.std.specs.Prelude.{◌≡◌, ℕ, List, [], ◌∷◌, ◌++◌, flat_map, All, codes}
 use Rattle.vortex_model_table.specs.Reply.{Answers, Replies, lines}
-use Rattle.vortex_table_io.specs.Lines.{with_lf}
+use Rattle.vortex_table_io.specs.Lines.{IsOneLine, with_lf}
 
 -- error 1
 abbrev pub memory_text : List ℕ
@@ -30,13 +30,27 @@ pub record AnswersPart {S : Type 0} (answers : Answers S (List ℕ)) (old : S)
   pub rest : List ℕ
   pub begins : written_new ++ rest ≡ written_old ++ flat_map with_lf texts
 
+-- Each line that had come to its LF in what was read was answered, in order, by a line of text, and
+-- all of them were written.
+pub record AnswersWhole {S : Type 0} (answers : Answers S (List ℕ)) (old : S)
+    (read_old read_new written_old written_new : List ℕ) : Type 0 where
+  pub done : List (List ℕ)
+  pub held : List ℕ
+  pub lines : All IsOneLine done × IsOneLine held
+  pub read : read_new ≡ read_old ++ (flat_map with_lf done ++ held)
+  pub texts : List (List ℕ)
+  pub final : S
+  pub replies : Replies answers old done texts final
+  pub written : written_new ≡ written_old ++ flat_map with_lf texts
+
 -- For private clauses. Behind `held` came a piece, whole lines were answered, and `left` is held
 -- now.
 pub record FeedOk {S : Type 0} (answers : Answers S (List ℕ)) (old : S)
     (held piece left written_old written_new : List ℕ) (new : S) : Type 0 where
   pub done : List (List ℕ)
   pub texts : List (List ℕ)
-  pub cut : (more : List ℕ) → lines (held ++ (piece ++ more)) ≡ done ++ lines (left ++ more)
+  pub each : All IsOneLine done
+  pub parts : held ++ piece ≡ flat_map with_lf done ++ left
   pub replies : Replies answers old done texts new
   pub written : written_new ≡ written_old ++ flat_map with_lf texts
 
@@ -46,8 +60,9 @@ pub record FeedErr {S : Type 0} (answers : Answers S (List ℕ)) (old : S)
   pub done : List (List ℕ)
   pub texts : List (List ℕ)
   pub final : S
-  pub later : List ℕ → List (List ℕ)
-  pub cut : (more : List ℕ) → lines (held ++ (piece ++ more)) ≡ done ++ later more
+  pub later : List ℕ
+  pub each : All IsOneLine done
+  pub parts : held ++ piece ≡ flat_map with_lf done ++ later
   pub replies : Replies answers old done texts final
   pub rest : List ℕ
   pub begins : written_new ++ rest ≡ written_old ++ flat_map with_lf texts

@@ -1,27 +1,55 @@
--- What reads and writes do to the bytes that were read and written so far.
-use Rattle.std.specs.Prelude.{◌≡◌, ℕ, List, ◌++◌, take, Result, MatchResult, Bool, true, false, ◌&&◌, ◌==◌, nat_lt, Ok, Err}
+-- How the calls of a source and a sink ended, and what they do to the bytes so far.
+use Rattle.std.specs.Prelude.{◌≡◌, ℕ, List, [], ◌∷◌, ◌++◌, take, All, Result, MatchResult, Bool, true, false, ◌&&◌, ◌==◌, nat_lt, if◌then◌else◌, Ok, Err}
+use Rattle.std.specs.List.{list_any}
+use Rattle.vortex_table_io.specs.declared.call.Call.{Call}
+use Rattle.vortex_table_io.specs.declared.call.Call.TheVariants.{Passed, AtEnd, Flushed, Failed}
 
 -- At `Ok(n)` the first n bytes of the buffer went through, and at `Err` none.
 abbrev pub Adds : {E : Type 0} → List ℕ → List ℕ → Result ℕ E → List ℕ → Type 0
 Adds old new r buf = MatchResult r (λ n. new ≡ old ++ take n buf) (λ _. new ≡ old)
-
--- Whether this read, of a buffer of this length, found the end: there was room, and no byte came.
-abbrev pub finds_end : {E : Type 0} → Result ℕ E → ℕ → Bool
-finds_end (Ok n) room = n == 0 && nat_lt 0 room
-finds_end (Err e) room = false
-
--- Whether a call that returned this failed.
-abbrev pub is_failure : {T E : Type 0} → Result T E → Bool
-is_failure (Ok n) = false
-is_failure (Err e) = true
-
--- A write of `len` bytes also fails where it takes none of some.
-abbrev pub is_failed_write : {E : Type 0} → Result ℕ E → ℕ → Bool
-is_failed_write (Ok n) len = n == 0 && nat_lt 0 len
-is_failed_write (Err e) len = true
 
 -- What is flushed after a flush that returned this: at `Ok` all that was written, at `Err` what was
 -- flushed before.
 abbrev pub flushed_after : {T E : Type 0} → Result T E → List ℕ → List ℕ → List ℕ
 flushed_after (Ok u) written flushed = written
 flushed_after (Err e) written flushed = flushed
+
+-- How a read of a buffer of this length ended. It found the end where there was room, and no byte
+-- came.
+abbrev pub read_call : {E : Type 0} → Result ℕ E → ℕ → Call
+read_call (Ok n) room = if n == 0 && nat_lt 0 room then AtEnd else Passed
+read_call (Err e) room = Failed
+
+-- How a write of so many bytes ended. It also failed where it took none of some.
+abbrev pub write_call : {E : Type 0} → Result ℕ E → ℕ → Call
+write_call (Ok n) len = if n == 0 && nat_lt 0 len then Failed else Passed
+write_call (Err e) len = Failed
+
+-- how a flush ended
+abbrev pub flush_call : {T E : Type 0} → Result T E → Call
+flush_call (Ok u) = Flushed
+flush_call (Err e) = Failed
+
+abbrev pub is_end : Call → Bool
+is_end AtEnd = true
+is_end c = false
+
+abbrev pub is_failure : Call → Bool
+is_failure Failed = true
+is_failure c = false
+
+-- whether a read with room has given no byte
+abbrev pub has_ended : List Call → Bool
+has_ended calls = list_any is_end calls
+
+-- whether a call has failed, or a write has taken none of some bytes
+abbrev pub has_failed : List Call → Bool
+has_failed calls = list_any is_failure calls
+
+-- Since then only reads or writes were made by which bytes went through.
+abbrev pub OnlyPassed : List Call → List Call → Type 0
+OnlyPassed old new = (calls : List Call) × All (λ c. c ≡ Passed) calls × (new ≡ old ++ calls)
+
+-- Since then bytes went through, and one more call, the last, ended so.
+abbrev pub EndsIn : Call → List Call → List Call → Type 0
+EndsIn last old new = (before : List Call) × OnlyPassed old before × (new ≡ before ++ last ∷ [])

@@ -1,5 +1,6 @@
 -- What contracts see of a `Tap`.
-use Rattle.std.specs.Prelude.{ℕ, List, Bool}
+use Rattle.std.specs.Prelude.{ℕ, List}
+use Rattle.vortex_table_io.specs.declared.call.Call.{Call}
 use Rattle.vortex_table_io.specs.declared.tap.Tap.{Tap}
 
 -- the reader or writer
@@ -10,11 +11,8 @@ tap_inner t = t.inner
 abbrev pub tap_history : {T : Type 0} → Tap T → List ℕ
 tap_history t = t.log.bytes
 
-abbrev pub tap_has_ended : {T : Type 0} → Tap T → Bool
-tap_has_ended t = t.ended
-
-abbrev pub tap_has_failed : {T : Type 0} → Tap T → Bool
-tap_has_failed t = t.failed
+abbrev pub tap_calls : {T : Type 0} → Tap T → List Call
+tap_calls t = t.calls.log.calls
 
 -- the bytes that had gone through at the last flush that succeeded
 abbrev pub tap_flushed : {T : Type 0} → Tap T → List ℕ

@@ -1,20 +1,20 @@
 //! The line that is being read.
-ghost use Rattle.std.specs.Prelude.{◌≡◌, ◌<◌, ◌↔◌, ℕ, List, [], ◌++◌, length, true, false, IfSome, IsTrue};
+ghost use Rattle.std.specs.Prelude.{◌≡◌, ◌≢◌, ◌<◌, ◌↔◌, ℕ, List, [], ◌++◌, length, None, IfOk, IsTrue};
 ghost use Rattle.vortex_table_io.specs.Lines.{IsOneLine};
 
 use crate::log::{Log, Piece};
-use std::alloc::Global;
+use std::alloc::{AllocError, Global};
 
 /// A line so far. It is lost where memory was refused for it.
 #[derive(Drop)]
 pub(crate) struct LineBuffer {
     bytes: Vec<u8>,
-    lost: bool,
+    lost: Option<AllocError>,
     /// All of the line.
     line: Log,
-    ghost kept: { lost ≡ false → bytes.items ≡ line.bytes },
+    ghost kept: { lost ≡ None → bytes.items ≡ line.bytes },
     ghost one_line: { IsOneLine line.bytes },
-    ghost not_empty: { lost ≡ true → 0 < length line.bytes },
+    ghost not_empty: { lost ≢ None → 0 < length line.bytes },
 }
 
 impl LineBuffer {
@@ -23,7 +23,7 @@ impl LineBuffer {
     {
         LineBuffer {
             bytes: Vec::new(alloc),
-            lost: false,
+            lost: None,
             line: Log::new(),
         }
     }
@@ -36,8 +36,11 @@ impl LineBuffer {
             return;
         }
         self.line = self.line.then(&Piece { bytes: piece });
-        if !self.lost && self.bytes.extend_from_slice(piece).is_err() {
-            self.lost = true;
+        if self.lost.is_some() {
+            return;
+        }
+        if let Err(refusal) = self.bytes.extend_from_slice(piece) {
+            self.lost = Some(refusal);
             self.bytes = Vec::new(alloc);
         }
     }
@@ -46,20 +49,23 @@ impl LineBuffer {
         ensures { self.new.line.bytes ≡ [] }
     {
         self.bytes.clear();
-        self.lost = false;
+        self.lost = None;
         self.line = Log::new();
     }
 
     pub(crate) fn is_empty(&self) -> bool
         ensures { IsTrue result ↔ (self.now.line.bytes ≡ []) }
     {
-        !self.lost && self.bytes.is_empty()
+        self.lost.is_none() && self.bytes.is_empty()
     }
 
-    /// The line, unless it was lost.
-    pub(crate) fn whole(&self) -> Option<&[u8]>
-        ensures { IfSome result (λ line. line.now ≡ self.now.line.bytes) }
+    /// The line, or the refusal that lost it.
+    pub(crate) fn whole(&self) -> Result<&[u8], AllocError>
+        ensures { IfOk result (λ line. line.now ≡ self.now.line.bytes) }
     {
-        if self.lost { None } else { Some(&self.bytes) }
+        match self.lost {
+            None => Ok(&self.bytes),
+            Some(refusal) => Err(refusal),
+        }
     }
 }

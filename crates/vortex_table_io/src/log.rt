@@ -1,7 +1,9 @@
-//! A list of bytes that only clauses read.
-ghost use Rattle.std.specs.Prelude.{◌≡◌, ℕ, List, [], ◌++◌};
+//! Lists of bytes and of calls, which only clauses read.
+ghost use Rattle.std.specs.Prelude.{◌≡◌, ℕ, List, [], ◌∷◌, ◌++◌};
 ghost use Rattle.std.specs.Borrow.{ftrue};
+ghost use Rattle.vortex_table_io.specs.declared.call.Call.{Call};
 
+use crate::call::Call;
 use std::marker::Model;
 
 /// The bytes that went by. It takes no memory, and its methods do nothing at run time.
@@ -39,5 +41,34 @@ impl Log {
         ensures { result.bytes ≡ self.now.bytes ++ _piece.now.bytes.now }
     {
         Log {}
+    }
+}
+
+/// How the calls that were made ended. As a [`Log`] it takes no memory, and its methods do nothing
+/// at run time.
+#[derive(Drop)]
+pub struct CallLog {
+    pub ghost calls: { List Call },
+}
+
+impl Model for CallLog {
+    ghost also_owns = { λ _. ftrue };
+}
+
+impl CallLog {
+    /// A log of no calls.
+    #[inline(always)]
+    pub fn new() -> CallLog
+        ensures { result.calls ≡ [] }
+    {
+        CallLog {}
+    }
+
+    /// The log after this call too.
+    #[inline(always)]
+    pub fn then(&self, _call: &Call) -> CallLog
+        ensures { result.calls ≡ self.now.calls ++ _call.now ∷ [] }
+    {
+        CallLog {}
     }
 }

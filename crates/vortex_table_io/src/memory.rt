@@ -1,10 +1,14 @@
 //! A source and a sink in memory, that cut and fail as they are told.
-ghost use Rattle.std.specs.Prelude.{◌≡◌, ◌<◌, ◌≤◌, ◌+◌, length, take, [], ◌++◌, true, false, ◌||◌, IfOk};
-ghost use Rattle.std.specs.Io.{ReadsAtMost};
-ghost use Rattle.vortex_table_io.specs.Streams.{Adds, finds_end, is_failure};
+ghost use Rattle.std.specs.Prelude.{◌≡◌, ◌⊎◌, ◌<◌, ◌≤◌, ◌+◌, min, length, take, drop, [], ◌∷◌, ◌++◌, true, false, IfOk, IfErr, OnOk, OnErr};
+ghost use Rattle.std.specs.Io.{ReadsAtMost, WritesAtMost};
+ghost use Rattle.std.specs.IoError.{error_kind};
+ghost use Rattle.vortex_table_io.specs.Streams.{Adds, read_call, write_call, flush_call, flushed_after, has_ended};
 
+use crate::call::Call;
+use crate::calls::{Calls, read_call, write_call};
 use crate::log::{Log, Piece};
 use crate::traits::{Sink, Source};
+use std::alloc::AllocError;
 use std::io;
 use std::io::{Error, ErrorKind};
 
@@ -16,31 +20,29 @@ pub struct MemorySource<'a> {
     at: usize,
     most: usize,
     good: usize,
-    ended: bool,
-    failed: bool,
+    calls: Calls,
     ghost in_range: { at ≤ length all.now },
     /// It ends only where all was given.
-    ghost whole: { ended ≡ true → 0 < most → at ≡ length all.now },
+    ghost whole: { has_ended calls.log.calls ≡ true → 0 < most → at ≡ length all.now },
 }
 
 impl<'a> MemorySource<'a> {
-    ghost use Rattle.vortex_table_io.specs.Memory.{source_bytes, source_most, source_history, source_has_ended, source_has_failed};
+    ghost use Rattle.vortex_table_io.specs.Memory.{source_bytes, source_most, source_good, source_history, source_calls};
 
     /// A source of which nothing was read yet.
     pub fn new(all: &'a [u8], most: usize, good: usize) -> MemorySource<'a>
         ensures bytes { source_bytes result ≡ all.now }
         ensures most { source_most result ≡ most }
+        ensures good { source_good result ≡ good }
         ensures history { source_history result ≡ [] }
-        ensures ended { source_has_ended result ≡ false }
-        ensures failed { source_has_failed result ≡ false }
+        ensures calls { source_calls result ≡ [] }
     {
         MemorySource {
             all,
             at: 0,
             most,
             good,
-            ended: false,
-            failed: false,
+            calls: Calls::new(),
         }
     }
 }
@@ -55,14 +57,15 @@ fn put_front(from: &[u8], n: usize, buf: &mut [u8])
 impl MemorySource<'_> {
     fn give(&mut self, buf: &mut [u8]) -> usize
         ensures bound { result ≤ length buf.new }
-        ensures most { result ≤ self.old.most }
+        ensures count { result ≡ min (min self.old.most (length buf.new))
+            (length (drop self.old.at self.old.all.now)) }
         ensures bytes { take self.new.at self.new.all.now
             ≡ take self.old.at self.old.all.now ++ take result buf.new }
         ensures at { self.new.at ≡ self.old.at + result }
         ensures whole { result ≡ 0 → 0 < length buf.new → 0 < self.new.most
             → self.new.at ≡ length self.new.all.now }
         ensures same { (self.new.all.now ≡ self.old.all.now) × (self.new.most ≡ self.old.most)
-            × (self.new.ended ≡ self.old.ended) × (self.new.failed ≡ self.old.failed) }
+            × (self.new.good ≡ self.old.good) × (self.new.calls ≡ self.old.calls) }
     {
         let (_, rest) = self.all.split_at(self.at);
         let n = self.most.min(buf.len()).min(rest.len());
@@ -73,43 +76,40 @@ impl MemorySource<'_> {
 }
 
 impl Source for MemorySource<'_> {
-    ghost use Rattle.vortex_table_io.specs.Memory.{source_most, source_history, source_has_ended, source_has_failed};
+    ghost use Rattle.vortex_table_io.specs.Memory.{source_most, source_good, source_left, source_history, source_calls};
 
     ghost history = { source_history };
 
-    ghost has_ended = { source_has_ended };
+    ghost calls = { source_calls };
 
-    ghost has_failed = { source_has_failed };
-
-    // The clauses of the trait, and how many bytes one read gives at most.
+    // The clauses of the trait, how many bytes a read gives, and when it fails.
     fn read(&mut self, buf: &mut [u8]) -> io::Result<usize>
         ensures bound { ReadsAtMost result buf.new }
         ensures bytes { Adds (source_history self.old) (source_history self.new) result buf.new }
-        ensures ended { source_has_ended self.new
-            ≡ (source_has_ended self.old || finds_end result (length buf.new)) }
-        ensures failed { source_has_failed self.new
-            ≡ (source_has_failed self.old || is_failure result) }
-        ensures most { IfOk result (λ n. n ≤ source_most self.old) }
+        ensures call { source_calls self.new
+            ≡ source_calls self.old ++ read_call result (length buf.new) ∷ [] }
+        ensures count { IfOk result (λ n. n ≡ min (min (source_most self.old) (length buf.new))
+            (length (source_left self.old))) }
+        ensures good { OnOk result (source_good self.old ≡ source_good self.new + 1) }
+        ensures fails { OnErr result (source_good self.old ≡ 0) }
         ensures keeps { source_most self.new ≡ source_most self.old }
     {
         if self.good == 0 {
-            self.failed = true;
+            self.calls.note(Call::Failed);
             return Err(Error::from(ErrorKind::Interrupted));
         }
         self.good -= 1;
-        let n = self.give(buf);
-        if n == 0 && !buf.is_empty() {
-            self.ended = true;
-        }
-        Ok(n)
+        let outcome = Ok(self.give(buf));
+        self.calls.note(read_call(&outcome, buf.len()));
+        outcome
     }
 
     fn ended(&self) -> bool {
-        self.ended
+        self.calls.ended()
     }
 
     fn failed(&self) -> bool {
-        self.failed
+        self.calls.failed()
     }
 }
 
@@ -123,17 +123,19 @@ pub struct MemorySink {
     most: usize,
     good: usize,
     flushes: bool,
-    failed: bool,
+    calls: Calls,
 }
 
 impl MemorySink {
-    ghost use Rattle.vortex_table_io.specs.Memory.{sink_flushed, sink_has_failed};
+    ghost use Rattle.vortex_table_io.specs.Memory.{sink_flushed, sink_calls, sink_most, sink_good, sink_flushes};
 
     /// A sink that writes behind these bytes.
     pub fn new(bytes: Vec<u8>, most: usize, good: usize) -> MemorySink
         ensures bytes { result.bytes ≡ bytes }
         ensures flushed { sink_flushed result ≡ [] }
-        ensures failed { sink_has_failed result ≡ false }
+        ensures calls { sink_calls result ≡ [] }
+        ensures limits { (sink_most result ≡ most) × (sink_good result ≡ good)
+            × (sink_flushes result ≡ true) }
     {
         MemorySink {
             bytes,
@@ -141,7 +143,7 @@ impl MemorySink {
             most,
             good,
             flushes: true,
-            failed: false,
+            calls: Calls::new(),
         }
     }
 
@@ -149,7 +151,9 @@ impl MemorySink {
     pub fn failing_flush(bytes: Vec<u8>) -> MemorySink
         ensures bytes { result.bytes ≡ bytes }
         ensures flushed { sink_flushed result ≡ [] }
-        ensures failed { sink_has_failed result ≡ false }
+        ensures calls { sink_calls result ≡ [] }
+        ensures limits { (sink_most result ≡ usize.MAX) × (sink_good result ≡ usize.MAX)
+            × (sink_flushes result ≡ false) }
     {
         MemorySink {
             bytes,
@@ -157,48 +161,80 @@ impl MemorySink {
             most: usize::MAX,
             good: usize::MAX,
             flushes: false,
-            failed: false,
+            calls: Calls::new(),
+        }
+    }
+}
+
+impl MemorySink {
+    // Takes bytes from the front of the buffer.
+    fn take(&mut self, buf: &[u8]) -> io::Result<usize>
+        ensures bound { WritesAtMost result buf.now }
+        ensures bytes { Adds self.old.bytes.items self.new.bytes.items result buf.now }
+        ensures taken { IfOk result (λ n. n ≡ min self.old.most (length buf.now)) }
+        ensures good { OnOk result (self.old.good ≡ self.new.good + 1) }
+        ensures fails { IfErr result
+            (λ e. (self.old.good ≡ 0) ⊎ (error_kind e ≡ ErrorKind.OutOfMemory)) }
+        ensures same { (self.new.flushed ≡ self.old.flushed) × (self.new.calls ≡ self.old.calls) }
+    {
+        if self.good == 0 {
+            return Err(Error::from(ErrorKind::BrokenPipe));
+        }
+        self.good -= 1;
+        let n = self.most.min(buf.len());
+        match self.bytes.extend_from_slice(&buf[..n]) {
+            Ok(()) => Ok(n),
+            Err(AllocError) => Err(Error::from(ErrorKind::OutOfMemory)),
         }
     }
 }
 
 impl Sink for MemorySink {
-    ghost use Rattle.vortex_table_io.specs.Memory.{sink_flushed, sink_has_failed};
+    ghost use Rattle.vortex_table_io.specs.Memory.{sink_flushed, sink_calls, sink_most, sink_good, sink_flushes};
 
     ghost history = { λ s. s.bytes.items };
 
     ghost flushed = { sink_flushed };
 
-    ghost has_failed = { sink_has_failed };
+    ghost calls = { sink_calls };
 
-    fn write(&mut self, buf: &[u8]) -> io::Result<usize> {
-        if self.good == 0 {
-            self.failed = true;
-            return Err(Error::from(ErrorKind::BrokenPipe));
-        }
-        self.good -= 1;
-        let n = self.most.min(buf.len());
-        if self.bytes.extend_from_slice(&buf[..n]).is_err() {
-            self.failed = true;
-            return Err(Error::from(ErrorKind::OutOfMemory));
-        }
-        if n == 0 && !buf.is_empty() {
-            self.failed = true;
-        }
-        Ok(n)
+    // The clauses of the trait, how many bytes a write takes, and when it fails.
+    fn write(&mut self, buf: &[u8]) -> io::Result<usize>
+        ensures bound { WritesAtMost result buf.now }
+        ensures bytes { Adds self.old.bytes.items self.new.bytes.items result buf.now }
+        ensures flushed { sink_flushed self.new ≡ sink_flushed self.old }
+        ensures call { sink_calls self.new
+            ≡ sink_calls self.old ++ write_call result (length buf.now) ∷ [] }
+        ensures taken { IfOk result (λ n. n ≡ min (sink_most self.old) (length buf.now)) }
+        ensures good { OnOk result (sink_good self.old ≡ sink_good self.new + 1) }
+        ensures fails { IfErr result
+            (λ e. (sink_good self.old ≡ 0) ⊎ (error_kind e ≡ ErrorKind.OutOfMemory)) }
+    {
+        let outcome = self.take(buf);
+        self.calls.note(write_call(&outcome, buf.len()));
+        outcome
     }
 
-    fn flush(&mut self) -> io::Result<()> {
+    fn flush(&mut self) -> io::Result<()>
+        ensures bytes { self.new.bytes.items ≡ self.old.bytes.items }
+        ensures flushed { sink_flushed self.new
+            ≡ flushed_after result self.new.bytes.items (sink_flushed self.old) }
+        ensures call { sink_calls self.new ≡ sink_calls self.old ++ flush_call result ∷ [] }
+        ensures good { OnOk result ((sink_good self.old ≡ sink_good self.new + 1)
+            × (sink_flushes self.old ≡ true)) }
+        ensures fails { OnErr result ((sink_good self.old ≡ 0) ⊎ (sink_flushes self.old ≡ false)) }
+    {
         if self.good == 0 || !self.flushes {
-            self.failed = true;
+            self.calls.note(Call::Failed);
             return Err(Error::from(ErrorKind::BrokenPipe));
         }
         self.good -= 1;
+        self.calls.note(Call::Flushed);
         self.flushed = Log::new().then(&Piece { bytes: &self.bytes });
         Ok(())
     }
 
     fn failed(&self) -> bool {
-        self.failed
+        self.calls.failed()
     }
 }

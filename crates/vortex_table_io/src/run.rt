@@ -1,14 +1,16 @@
 //! Reads lines from a source, has a handler answer each, and writes the answers into a sink.
-ghost use Rattle.std.specs.Prelude.{◌≡◌, ◌≤◌, ◌+◌, ◌-◌, ◌^◌, ℕ, List, [], ◌∷◌, ◌++◌, length, false, true, OnOk, OnErr, IfErr, IfOk, IsErrOf, MatchOption};
+ghost use Rattle.std.specs.Prelude.{◌≡◌, ◌≢◌, ◌⊎◌, ◌≤◌, ◌+◌, ◌-◌, ◌^◌, ℕ, List, [], ◌∷◌, ◌++◌, length, false, true, OnOk, OnErr, IfErr, IfOk, IsErrOf, MatchOption};
 ghost use Rattle.vortex_table_io.specs.Lines.{IsOneLine, with_lf};
-ghost use Rattle.vortex_table_io.specs.Replies.{AnswersAll, AnswersPart, FeedOk, FeedErr, FinishOk, FinishErr};
+ghost use Rattle.vortex_table_io.specs.Replies.{AnswersAll, AnswersPart, AnswersWhole, FeedOk, FeedErr, FinishOk, FinishErr};
 ghost use Rattle.vortex_table_io.specs.Responses.{SaysLine, response_line};
+ghost use Rattle.vortex_table_io.specs.Streams.{OnlyPassed, EndsIn, has_ended, has_failed};
 
+use crate::call::Call;
 use crate::line_buffer::LineBuffer;
 use crate::line_handler::{LineHandler, Response};
 use crate::traits::{Sink, Source};
 use memchr::memchr;
-use std::alloc::Global;
+use std::alloc::{AllocError, Global};
 
 // How much is read at a time, in bytes.
 const BLOCK_LENGTH: usize = 64 * 1024;
@@ -47,12 +49,12 @@ fn split_line(piece: &[u8]) -> Option<(&[u8], &[u8])>
 
 // Writes all of a text, in as many writes as it takes.
 fn write_all<W: Sink>(writer: &mut W, text: &[u8]) -> Result<(), RunError>
-    requires { W.has_failed writer.old ≡ false }
     ensures ok { OnOk result (W.history writer.new ≡ W.history writer.old ++ text.now) }
-    ensures fine { OnOk result (W.has_failed writer.new ≡ false) }
+    ensures fine { OnOk result (OnlyPassed (W.calls writer.old) (W.calls writer.new)) }
     ensures part { OnErr result ((rest : List ℕ)
         × (W.history writer.new ++ rest ≡ W.history writer.old ++ text.now)) }
-    ensures err { IfErr result (λ e. (e ≡ RunError.Write) × (W.has_failed writer.new ≡ true)) }
+    ensures err { IfErr result (λ e. (e ≡ RunError.Write)
+        × EndsIn Call.Failed (W.calls writer.old) (W.calls writer.new)) }
 {
     let mut rest = text;
     while !rest.is_empty() {
@@ -78,8 +80,8 @@ fn decide<M: LineHandler>(
         (response_line result out.new.items) (M.view handler.new) }
 {
     match buffer.whole() {
-        Some(line) => handler.answer(alloc, line, out),
-        None => Response::NoMemory,
+        Ok(line) => handler.answer(alloc, line, out),
+        Err(AllocError) => Response::NoMemory,
     }
 }
 
@@ -103,15 +105,15 @@ fn answer_line<M: LineHandler, W: Sink>(
     out: &mut Vec<u8>,
     writer: &mut W,
 ) -> Result<(), RunError>
-    requires { W.has_failed writer.old ≡ false }
     ensures ok { OnOk result ((text : List ℕ)
         × M.answers (M.view handler.old) buffer.now.line.bytes text (M.view handler.new)
         × (W.history writer.new ≡ W.history writer.old ++ with_lf text)) }
-    ensures fine { OnOk result (W.has_failed writer.new ≡ false) }
+    ensures fine { OnOk result (OnlyPassed (W.calls writer.old) (W.calls writer.new)) }
     ensures part { OnErr result ((text rest : List ℕ)
         × M.answers (M.view handler.old) buffer.now.line.bytes text (M.view handler.new)
         × (W.history writer.new ++ rest ≡ W.history writer.old ++ with_lf text)) }
-    ensures err { IfErr result (λ e. (e ≡ RunError.Write) × (W.has_failed writer.new ≡ true)) }
+    ensures err { IfErr result (λ e. (e ≡ RunError.Write)
+        × EndsIn Call.Failed (W.calls writer.old) (W.calls writer.new)) }
 {
     let response = decide(alloc, handler, buffer, out);
     write_all(writer, line_of(&response, out))
@@ -123,13 +125,13 @@ fn write_behind<W: Sink>(
     writer: &mut W,
     text: &[u8],
 ) -> Result<(), RunError>
-    requires { W.has_failed writer.old ≡ false }
     ensures ok { OnOk result (W.history writer.new ++ gathered.new.items
         ≡ (W.history writer.old ++ gathered.old.items) ++ text.now) }
-    ensures fine { OnOk result (W.has_failed writer.new ≡ false) }
+    ensures fine { OnOk result (OnlyPassed (W.calls writer.old) (W.calls writer.new)) }
     ensures part { OnErr result ((rest : List ℕ) × (W.history writer.new ++ rest
         ≡ (W.history writer.old ++ gathered.old.items) ++ text.now)) }
-    ensures err { IfErr result (λ e. (e ≡ RunError.Write) × (W.has_failed writer.new ≡ true)) }
+    ensures err { IfErr result (λ e. (e ≡ RunError.Write)
+        × EndsIn Call.Failed (W.calls writer.old) (W.calls writer.new)) }
 {
     write_all(writer, gathered)?;
     gathered.clear();
@@ -139,13 +141,13 @@ fn write_behind<W: Sink>(
 // Adds an answer to the gathered ones. A long one is written at once, and so is one for which they
 // have no room; they go out before it.
 fn hand_out<W: Sink>(gathered: &mut Vec<u8>, writer: &mut W, text: &[u8]) -> Result<(), RunError>
-    requires { W.has_failed writer.old ≡ false }
     ensures ok { OnOk result (W.history writer.new ++ gathered.new.items
         ≡ (W.history writer.old ++ gathered.old.items) ++ text.now) }
-    ensures fine { OnOk result (W.has_failed writer.new ≡ false) }
+    ensures fine { OnOk result (OnlyPassed (W.calls writer.old) (W.calls writer.new)) }
     ensures part { OnErr result ((rest : List ℕ) × (W.history writer.new ++ rest
         ≡ (W.history writer.old ++ gathered.old.items) ++ text.now)) }
-    ensures err { IfErr result (λ e. (e ≡ RunError.Write) × (W.has_failed writer.new ≡ true)) }
+    ensures err { IfErr result (λ e. (e ≡ RunError.Write)
+        × EndsIn Call.Failed (W.calls writer.old) (W.calls writer.new)) }
 {
     let is_short = text.len() < LONG_LENGTH && gathered.len() < GATHERED_LENGTH;
     if is_short && gathered.extend_from_slice(text).is_ok() {
@@ -163,17 +165,17 @@ fn gather_line<M: LineHandler, W: Sink>(
     gathered: &mut Vec<u8>,
     writer: &mut W,
 ) -> Result<(), RunError>
-    requires { W.has_failed writer.old ≡ false }
     ensures ok { OnOk result ((text : List ℕ)
         × M.answers (M.view handler.old) buffer.now.line.bytes text (M.view handler.new)
         × (W.history writer.new ++ gathered.new.items
         ≡ (W.history writer.old ++ gathered.old.items) ++ with_lf text)) }
-    ensures fine { OnOk result (W.has_failed writer.new ≡ false) }
+    ensures fine { OnOk result (OnlyPassed (W.calls writer.old) (W.calls writer.new)) }
     ensures part { OnErr result ((text rest : List ℕ)
         × M.answers (M.view handler.old) buffer.now.line.bytes text (M.view handler.new)
         × (W.history writer.new ++ rest
         ≡ (W.history writer.old ++ gathered.old.items) ++ with_lf text)) }
-    ensures err { IfErr result (λ e. (e ≡ RunError.Write) × (W.has_failed writer.new ≡ true)) }
+    ensures err { IfErr result (λ e. (e ≡ RunError.Write)
+        × EndsIn Call.Failed (W.calls writer.old) (W.calls writer.new)) }
 {
     let response = decide(alloc, handler, buffer, out);
     hand_out(gathered, writer, line_of(&response, out))
@@ -189,15 +191,15 @@ fn gather<M: LineHandler, W: Sink>(
     writer: &mut W,
     piece: &[u8],
 ) -> Result<(), RunError>
-    requires { W.has_failed writer.old ≡ false }
     ensures ok { OnOk result (FeedOk M.answers (M.view handler.old) buffer.old.line.bytes piece.now
         buffer.new.line.bytes (W.history writer.old ++ gathered.old.items)
         (W.history writer.new ++ gathered.new.items) (M.view handler.new)) }
-    ensures fine { OnOk result (W.has_failed writer.new ≡ false) }
+    ensures fine { OnOk result (OnlyPassed (W.calls writer.old) (W.calls writer.new)) }
     ensures part { OnErr result
         (FeedErr M.answers (M.view handler.old) buffer.old.line.bytes piece.now
         (W.history writer.old ++ gathered.old.items) (W.history writer.new)) }
-    ensures err { IfErr result (λ e. (e ≡ RunError.Write) × (W.has_failed writer.new ≡ true)) }
+    ensures err { IfErr result (λ e. (e ≡ RunError.Write)
+        × EndsIn Call.Failed (W.calls writer.old) (W.calls writer.new)) }
 {
     let mut rest = piece;
     while let Some((line, after)) = split_line(rest) {
@@ -221,14 +223,14 @@ fn feed<M: LineHandler, W: Sink>(
     writer: &mut W,
     piece: &[u8],
 ) -> Result<(), RunError>
-    requires { W.has_failed writer.old ≡ false }
     ensures ok { OnOk result (FeedOk M.answers (M.view handler.old) buffer.old.line.bytes piece.now
         buffer.new.line.bytes (W.history writer.old) (W.history writer.new) (M.view handler.new)) }
-    ensures fine { OnOk result (W.has_failed writer.new ≡ false) }
+    ensures fine { OnOk result (OnlyPassed (W.calls writer.old) (W.calls writer.new)) }
     ensures part { OnErr result
         (FeedErr M.answers (M.view handler.old) buffer.old.line.bytes piece.now
         (W.history writer.old) (W.history writer.new)) }
-    ensures err { IfErr result (λ e. (e ≡ RunError.Write) × (W.has_failed writer.new ≡ true)) }
+    ensures err { IfErr result (λ e. (e ≡ RunError.Write)
+        × EndsIn Call.Failed (W.calls writer.old) (W.calls writer.new)) }
 {
     gathered.clear();
     gather(alloc, handler, buffer, out, gathered, writer, piece)?;
@@ -243,14 +245,14 @@ fn finish<M: LineHandler, W: Sink>(
     out: &mut Vec<u8>,
     writer: &mut W,
 ) -> Result<(), RunError>
-    requires { W.has_failed writer.old ≡ false }
     ensures ok { OnOk result (FinishOk M.answers (M.view handler.old) buffer.now.line.bytes
         (W.history writer.old) (W.history writer.new) (M.view handler.new)) }
-    ensures fine { OnOk result (W.has_failed writer.new ≡ false) }
+    ensures ends { OnOk result (EndsIn Call.Flushed (W.calls writer.old) (W.calls writer.new)) }
     ensures flushed { OnOk result (W.flushed writer.new ≡ W.history writer.new) }
     ensures part { OnErr result (FinishErr M.answers (M.view handler.old) buffer.now.line.bytes
         (W.history writer.old) (W.history writer.new)) }
-    ensures err { IfErr result (λ e. (e ≡ RunError.Write) × (W.has_failed writer.new ≡ true)) }
+    ensures err { IfErr result (λ e. (e ≡ RunError.Write)
+        × EndsIn Call.Failed (W.calls writer.old) (W.calls writer.new)) }
 {
     if !buffer.is_empty() {
         answer_line(alloc, handler, buffer, out, writer)?;
@@ -262,38 +264,52 @@ fn finish<M: LineHandler, W: Sink>(
 }
 
 /// Reads lines to the end of a source, and writes the handler's answer to each into a sink, ended
-/// by an LF. It flushes once, at the end.
+/// by an LF.
 ///
 /// An LF ends a line, and the last line may lack it. A line for which memory is refused is read to
 /// its end and answered by error 1, and the next line is served. The answers to the lines that one
-/// read brought go out before the next read, the short ones together, in as few writes as the sink
-/// takes. Any failure of a read or write ends the run, and nothing is read or written after it.
+/// read brought go out before the next read, as that may fail: the short ones together, in as few
+/// writes as the sink takes.
 pub fn run_lines<M: LineHandler, R: Source, W: Sink>(
     alloc: Global,
     handler: &mut M,
     reader: &mut R,
     writer: &mut W,
 ) -> Result<(), RunError>
-    requires not_ended { R.has_ended reader.old ≡ false }
-    requires reads { R.has_failed reader.old ≡ false }
-    requires writes { W.has_failed writer.old ≡ false }
+    requires not_ended { has_ended (R.calls reader.old) ≡ false }
+    requires reads { has_failed (R.calls reader.old) ≡ false }
+    requires writes { has_failed (W.calls writer.old) ≡ false }
 
     // Each line that was read is answered, and all of the source was read.
     ensures ok { OnOk result (AnswersAll M.answers (M.view handler.old)
         (R.history reader.old) (R.history reader.new)
         (W.history writer.old) (W.history writer.new) (M.view handler.new)) }
-    ensures all_read { OnOk result ((R.has_ended reader.new ≡ true)
-        × (R.has_failed reader.new ≡ false) × (W.has_failed writer.new ≡ false)) }
+    ensures all_read { OnOk result ((has_ended (R.calls reader.new) ≡ true)
+        × (has_failed (R.calls reader.new) ≡ false) × (has_failed (W.calls writer.new) ≡ false)) }
     ensures flushed { OnOk result (W.flushed writer.new ≡ W.history writer.new) }
+    ensures ends { OnOk result (EndsIn Call.AtEnd (R.calls reader.old) (R.calls reader.new)
+        × EndsIn Call.Flushed (W.calls writer.old) (W.calls writer.new)) }
 
     // At a fault, what was written is a beginning of the answers.
     ensures part { OnErr result (AnswersPart M.answers (M.view handler.old)
         (R.history reader.old) (R.history reader.new)
         (W.history writer.old) (W.history writer.new)) }
-    ensures read { IsErrOf result RunError.Read → R.has_failed reader.new ≡ true }
-    ensures write { IsErrOf result RunError.Write → W.has_failed writer.new ≡ true }
+    ensures answered { IfErr result (λ e. e ≢ RunError.Write
+        → AnswersWhole M.answers (M.view handler.old) (R.history reader.old) (R.history reader.new)
+        (W.history writer.old) (W.history writer.new)) }
+
+    // The failed call is the last, and no flush went before it.
+    ensures read { IsErrOf result RunError.Read
+        → EndsIn Call.Failed (R.calls reader.old) (R.calls reader.new)
+        × OnlyPassed (W.calls writer.old) (W.calls writer.new) }
+    ensures write { IsErrOf result RunError.Write
+        → (OnlyPassed (R.calls reader.old) (R.calls reader.new)
+        ⊎ EndsIn Call.AtEnd (R.calls reader.old) (R.calls reader.new))
+        × EndsIn Call.Failed (W.calls writer.old) (W.calls writer.new) }
     ensures limit { IsErrOf result RunError.Limit
-        → length (R.history reader.old) + (2 ^ 64 - 1) ≤ length (R.history reader.new) }
+        → (length (R.history reader.old) + (2 ^ 64 - 1) ≤ length (R.history reader.new))
+        × OnlyPassed (R.calls reader.old) (R.calls reader.new)
+        × OnlyPassed (W.calls writer.old) (W.calls writer.new) }
 {
     let mut buffer = LineBuffer::new(alloc);
     let mut out = Vec::new(alloc);

@@ -1,7 +1,8 @@
 //! Where bytes come from, and where they go.
-ghost use Rattle.std.specs.Prelude.{◌≡◌, ℕ, List, Bool, ◌||◌, length};
+ghost use Rattle.std.specs.Prelude.{◌≡◌, ℕ, List, [], ◌∷◌, ◌++◌, length};
 ghost use Rattle.std.specs.Io.{ReadsAtMost, WritesAtMost};
-ghost use Rattle.vortex_table_io.specs.Streams.{Adds, finds_end, is_failure, is_failed_write, flushed_after};
+ghost use Rattle.vortex_table_io.specs.declared.call.Call.{Call};
+ghost use Rattle.vortex_table_io.specs.Streams.{Adds, read_call, write_call, flush_call, has_ended, has_failed, flushed_after};
 
 use std::io;
 
@@ -10,27 +11,23 @@ pub trait Source {
     /// The bytes that were read so far.
     ghost history: { Self → List ℕ };
 
-    /// Whether a read with room has given no byte.
-    ghost has_ended: { Self → Bool };
-
-    /// Whether a read has failed.
-    ghost has_failed: { Self → Bool };
+    /// How the reads so far ended, in order.
+    ghost calls: { Self → List Call };
 
     /// Reads some bytes into the front of a buffer, and answers how many.
     fn read(&mut self, buf: &mut [u8]) -> io::Result<usize>
         ensures bound { ReadsAtMost result buf.new }
         ensures bytes { Adds (history self.old) (history self.new) result buf.new }
-        ensures ended { has_ended self.new
-            ≡ (has_ended self.old || finds_end result (length buf.new)) }
-        ensures failed { has_failed self.new ≡ (has_failed self.old || is_failure result) };
+        ensures call { calls self.new
+            ≡ calls self.old ++ read_call result (length buf.new) ∷ [] };
 
     /// Whether a read with room has given no byte.
     fn ended(&self) -> bool
-        ensures { result ≡ has_ended self.now };
+        ensures { result ≡ has_ended (calls self.now) };
 
     /// Whether a read has failed. One that was interrupted has.
     fn failed(&self) -> bool
-        ensures { result ≡ has_failed self.now };
+        ensures { result ≡ has_failed (calls self.now) };
 }
 
 /// A writer whose clauses name each byte that it took.
@@ -41,25 +38,25 @@ pub trait Sink {
     /// The bytes that had been written at the last flush that succeeded.
     ghost flushed: { Self → List ℕ };
 
-    /// Whether a write or a flush has failed, or a write of some bytes took none.
-    ghost has_failed: { Self → Bool };
+    /// How the writes and flushes so far ended, in order.
+    ghost calls: { Self → List Call };
 
     /// Writes some bytes from the front of a buffer, and answers how many.
     fn write(&mut self, buf: &[u8]) -> io::Result<usize>
         ensures bound { WritesAtMost result buf.now }
         ensures bytes { Adds (history self.old) (history self.new) result buf.now }
         ensures flushed { flushed self.new ≡ flushed self.old }
-        ensures failed { has_failed self.new
-            ≡ (has_failed self.old || is_failed_write result (length buf.now)) };
+        ensures call { calls self.new
+            ≡ calls self.old ++ write_call result (length buf.now) ∷ [] };
 
     /// Hands on what may be kept back.
     fn flush(&mut self) -> io::Result<()>
         ensures bytes { history self.new ≡ history self.old }
         ensures flushed { flushed self.new
             ≡ flushed_after result (history self.new) (flushed self.old) }
-        ensures failed { has_failed self.new ≡ (has_failed self.old || is_failure result) };
+        ensures call { calls self.new ≡ calls self.old ++ flush_call result ∷ [] };
 
     /// Whether a write or a flush has failed, or a write of some bytes took none.
     fn failed(&self) -> bool
-        ensures { result ≡ has_failed self.now };
+        ensures { result ≡ has_failed (calls self.now) };
 }

@@ -1,5 +1,5 @@
 -- Each line of a run is answered exactly.
-use Rattle.std.proofs.Common.{◌≡◌, refl, sym, ◌∙◌, ap, subst, ℕ, List, [], ◌∷◌, ◌++◌, map, length, Option, Some, None, filter, ◌⊎◌, inl, inr, Result, Ok, Err, OnOk, OnErr}
+use Rattle.std.proofs.Common.{◌≡◌, refl, sym, ◌∙◌, ap, subst, ℕ, List, [], ◌∷◌, ◌++◌, map, length, Option, Some, None, filter, ◌⊎◌, inl, inr, Result, Ok, Err, OnOk, OnErr, IfErr}
 use Rattle.std.proofs.lemmas.Grind.{flat_map-append}
 use Rattle.std.proofs.lemmas.List.{append-nil}
 use Rattle.vortex_model.specs.LogicalType.{struct, no_fields, non_nullable}
@@ -19,7 +19,7 @@ use Rattle.vortex_model_laws.proofs.Held.{second_none}
 use Rattle.vortex_model_laws.specs.Exact.{ExactlyTheHopelessAreSkipped}
 use Rattle.vortex_model_laws.specs.Runs.{rows_by}
 use Rattle.vortex_table_core.specs.Totals.{PassesTotal}
-use Rattle.vortex_table_io.specs.Replies.{memory_text, AnswersAll, AnswersPart}
+use Rattle.vortex_table_io.specs.Replies.{memory_text, AnswersAll, AnswersPart, AnswersWhole}
 use Rattle.vortex_table_request.specs.Line.{command_of}
 use Rattle.vortex_table_run.specs.LineAnswers.{LacksMemory, AnswersTo, LineAnswers}
 use Rattle.vortex_table_run.specs.Exact.{State, start, IsExact, IsExactScan, handed_after, RespondsExactly, AnswersExactly, ExactAnswers}
@@ -33,6 +33,10 @@ on_ok (Err e) f p = tt
 pub on_err : {A E P Q : Type 0} (r : Result A E) → (P → Q) → OnErr r P → OnErr r Q
 on_err (Ok a) f p = tt
 on_err (Err e) f p = f p
+
+pub if_err : {A E : Type 0} {P Q : E → Type 0} (r : Result A E) → ((e : E) → P e → Q e) → IfErr r P → IfErr r Q
+if_err (Ok a) f p = tt
+if_err (Err e) f p = f e p
 
 abbrev IsLacking : State → List ℕ → State → Type 0
 IsLacking old text new = (text ≡ memory_text) × (new ≡ old)
@@ -162,3 +166,10 @@ module _ (keep : StepsKeepTables) (hopeless : ExactlyTheHopelessAreSkipped) wher
       let a = subst (λ old. AnswersPart LineAnswers old read_old read_new written_old written_new) e answers in
       let r = replies_exact reads_well (lines a.input) a.texts a.final a.replies in
       record { input = a.input; read = a.read; texts = a.texts; final = r.0; replies = r.2; rest = a.rest; begins = a.begins }
+
+  pub whole_exact : (old : Option Table) → old ≡ None → (read_old read_new written_old written_new : List ℕ) → AnswersWhole LineAnswers old read_old read_new written_old written_new →
+      AnswersWhole ExactAnswers start read_old read_new written_old written_new
+  whole_exact old e read_old read_new written_old written_new answers =
+      let a = subst (λ old. AnswersWhole LineAnswers old read_old read_new written_old written_new) e answers in
+      let r = replies_exact reads_well a.done a.texts a.final a.replies in
+      record { done = a.done; held = a.held; lines = a.lines; read = a.read; texts = a.texts; final = r.0; replies = r.2; written = a.written }

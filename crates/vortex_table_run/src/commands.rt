@@ -1,12 +1,13 @@
 //! A run of commands over a source and a sink.
-ghost use Rattle.std.specs.Prelude.{◌≡◌, ◌≤◌, ◌+◌, ◌-◌, ◌^◌, false, true, length, OnOk, OnErr, IsErrOf};
-ghost use Rattle.vortex_table_io.specs.Replies.{AnswersAll, AnswersPart};
+ghost use Rattle.std.specs.Prelude.{◌≡◌, ◌≢◌, ◌⊎◌, ◌≤◌, ◌+◌, ◌-◌, ◌^◌, false, true, length, OnOk, OnErr, IfErr, IsErrOf};
+ghost use Rattle.vortex_table_io.specs.Replies.{AnswersAll, AnswersPart, AnswersWhole};
+ghost use Rattle.vortex_table_io.specs.Streams.{OnlyPassed, EndsIn, has_ended, has_failed};
 ghost use Rattle.vortex_table_run.specs.Exact.{State, start, ExactAnswers};
 
 use crate::session::Session;
 use std::alloc::Global;
 use vortex_model_laws::laws::{exactly_the_hopeless_are_skipped, steps_keep_tables};
-use vortex_table_io::{RunError, Sink, Source, run_lines};
+use vortex_table_io::{Call, RunError, Sink, Source, run_lines};
 
 /// Runs the commands of a source of lines, and writes the answer to each into a sink, ended by an
 /// LF. There is no table at first.
@@ -19,42 +20,56 @@ use vortex_table_io::{RunError, Sink, Source, run_lines};
 ///
 /// An LF ends a line, and the last line may lack it. A line is a command as a JSON object:
 /// `create`, `append`, `join`, `retype`, `compact`, `scan` or `describe`. The answers to the lines
-/// that one read brought go out before the next read, and the sink is flushed once, after the last
-/// answer.
+/// that one read brought go out before the next read, as that may fail.
 ///
 /// A line that is no command is answered by error 18, `BadLine`, and a command that is refused by
 /// its error. Neither changes the table, and the next line is served. Want of memory is error 1,
 /// `Memory`, also for a line that memory is too small to hold. It changes nothing: a command that
 /// has changed the table is never answered by an error.
 ///
-/// Nothing is read or written after a failure: of a read (`Read`), of a write or the flush, or a
-/// write that took no byte (`Write`), or once 2^64 - 1 bytes were read (`Limit`).
+/// The run ends at the first failure: of a read (`Read`), of a write or the flush, or a write that
+/// took no byte (`Write`), or once 2^64 - 1 bytes were read (`Limit`).
 pub fn run<R: Source, W: Sink>(
     alloc: Global,
     reader: &mut R,
     writer: &mut W,
 ) -> Result<(), RunError>
-    requires not_ended { R.has_ended reader.old ≡ false }
-    requires reads { R.has_failed reader.old ≡ false }
-    requires writes { W.has_failed writer.old ≡ false }
+    requires not_ended { has_ended (R.calls reader.old) ≡ false }
+    requires reads { has_failed (R.calls reader.old) ≡ false }
+    requires writes { has_failed (W.calls writer.old) ≡ false }
 
     // Each line that was read is answered exactly, and all of the source was read.
     ensures ok { OnOk result ((last : State) × AnswersAll ExactAnswers start
         (R.history reader.old) (R.history reader.new)
         (W.history writer.old) (W.history writer.new) last) }
-    ensures all_read { OnOk result ((R.has_ended reader.new ≡ true)
-        × (R.has_failed reader.new ≡ false)
-        × (W.has_failed writer.new ≡ false)) }
+    ensures all_read { OnOk result ((has_ended (R.calls reader.new) ≡ true)
+        × (has_failed (R.calls reader.new) ≡ false)
+        × (has_failed (W.calls writer.new) ≡ false)) }
     ensures flushed { OnOk result (W.flushed writer.new ≡ W.history writer.new) }
+    ensures ends { OnOk result (EndsIn Call.AtEnd (R.calls reader.old) (R.calls reader.new)
+        × EndsIn Call.Flushed (W.calls writer.old) (W.calls writer.new)) }
 
-    // At a fault, what was written is a beginning of such answers.
+    // At a fault, what was written is a beginning of such answers, and all of those to whole lines
+    // unless it was a write that failed.
     ensures part { OnErr result (AnswersPart ExactAnswers start
         (R.history reader.old) (R.history reader.new)
         (W.history writer.old) (W.history writer.new)) }
-    ensures read { IsErrOf result RunError.Read → R.has_failed reader.new ≡ true }
-    ensures write { IsErrOf result RunError.Write → W.has_failed writer.new ≡ true }
+    ensures answered { IfErr result (λ e. e ≢ RunError.Write → AnswersWhole ExactAnswers start
+        (R.history reader.old) (R.history reader.new)
+        (W.history writer.old) (W.history writer.new)) }
+
+    // Nothing is read or written after a failure, and nothing was flushed before it.
+    ensures read { IsErrOf result RunError.Read
+        → EndsIn Call.Failed (R.calls reader.old) (R.calls reader.new)
+        × OnlyPassed (W.calls writer.old) (W.calls writer.new) }
+    ensures write { IsErrOf result RunError.Write
+        → (OnlyPassed (R.calls reader.old) (R.calls reader.new)
+        ⊎ EndsIn Call.AtEnd (R.calls reader.old) (R.calls reader.new))
+        × EndsIn Call.Failed (W.calls writer.old) (W.calls writer.new) }
     ensures limit { IsErrOf result RunError.Limit
-        → length (R.history reader.old) + (2 ^ 64 - 1) ≤ length (R.history reader.new) }
+        → (length (R.history reader.old) + (2 ^ 64 - 1) ≤ length (R.history reader.new))
+        × OnlyPassed (R.calls reader.old) (R.calls reader.new)
+        × OnlyPassed (W.calls writer.old) (W.calls writer.new) }
 {
     // Both tell the proof what holds behind any list of commands.
     steps_keep_tables();

@@ -77,7 +77,7 @@ impl Session {
         match table.describe(alloc, path, group) {
             Ok(description) => match write_described(&description, out) {
                 Ok(()) => Response::Written,
-                Err(_) => {
+                Err(AllocError) => {
                     *out = Vec::new(alloc);
                     Response::NoMemory
                 }

@@ -153,7 +153,7 @@ impl Session {
         match table.select(alloc, paths, predicate) {
             Ok(answer) => match write_found(alloc, &answer, out) {
                 Ok(()) => Response::Written,
-                Err(_) => {
+                Err(AllocError) => {
                     *out = Vec::new(alloc);
                     Response::NoMemory
                 }

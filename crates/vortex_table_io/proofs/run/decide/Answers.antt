@@ -12,10 +12,10 @@ says_line answers old line (Short text) out new h = (text, h, refl)
 says_line answers old line Done out new h = (ok_text, h, refl)
 says_line answers old line NoMemory out new h = (memory_text, h, refl)
 
-pub returns-in-Some : goal.returns-in-Some
-returns-in-Some g c =
-    subst (λ (x : List ℕ). SaysLine g.M.LineHandler.answers (g.M.LineHandler.view c.args.handler.now) x (response_line c.answer.result c.answer.new.out.items) (g.M.LineHandler.view c.answer.new.self)) c.in-Some.ensures
-    (says_line g.M.LineHandler.answers (g.M.LineHandler.view c.args.handler.now) c.in-Some.line.now c.answer.result c.answer.new.out.items (g.M.LineHandler.view c.answer.new.self) c.answer.ensures)
+pub returns-in-Ok : goal.returns-in-Ok
+returns-in-Ok g c =
+    subst (λ (x : List ℕ). SaysLine g.M.LineHandler.answers (g.M.LineHandler.view c.args.handler.now) x (response_line c.answer.result c.answer.new.out.items) (g.M.LineHandler.view c.answer.new.self)) c.in-Ok.ensures
+    (says_line g.M.LineHandler.answers (g.M.LineHandler.view c.args.handler.now) c.in-Ok.line.now c.answer.result c.answer.new.out.items (g.M.LineHandler.view c.answer.new.self) c.answer.ensures)
 
-pub returns-in-None : goal.returns-in-None
-returns-in-None g c = (memory_text, g.met.M.LineHandler.may_lack_memory (g.M.LineHandler.view c.args.handler.now) c.args.buffer.now.line.bytes, refl)
+pub returns-in-Err : goal.returns-in-Err
+returns-in-Err g c = (memory_text, g.met.M.LineHandler.may_lack_memory (g.M.LineHandler.view c.args.handler.now) c.args.buffer.now.line.bytes, refl)

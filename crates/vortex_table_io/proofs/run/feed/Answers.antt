@@ -2,6 +2,7 @@ use Rattle.std.proofs.Common.{◌≡◌, List, ℕ, ◌++◌, ap, ◌∙◌, sub
 use Rattle.std.proofs.lemmas.Result.{on_err_weaker}
 use Rattle.vortex_table_io.specs.Replies.{FeedOk}
 use Rattle.vortex_table_io.proofs.ReplyLemmas.{FeedErr-gathered}
+use Rattle.vortex_table_io.proofs.CallLemmas.{err-append}
 use Rattle.vortex_table_io.proofs.run.feed.Goals as goal
 
 pub returns-clause-part : goal.returns-clause-part
@@ -13,3 +14,6 @@ returns-clause-part g c =
     c.gather.new.buffer.line.bytes v written (g.M.LineHandler.view c.gather.new.handler)) none c.in_ok-gather.ensures.ok in
     on_err_weaker c.write_all.result (λ part. FeedErr-gathered part.0
     (part.1 ∙ ap (λ (x : List ℕ). g.W.Sink.history c.gather.new.writer ++ x) c.deref.ensures.value) goes) c.write_all.ensures.part
+
+pub returns-clause-err : goal.returns-clause-err
+returns-clause-err g c = err-append c.write_all.result _ _ _ c.in_ok-gather.ensures.fine c.write_all.ensures.err

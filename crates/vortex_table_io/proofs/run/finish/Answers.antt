@@ -2,9 +2,6 @@ use Rattle.std.proofs.Common.{rules}
 use borrow.Author.Tests.{tests}
 use Rattle.vortex_table_io.proofs.run.finish.Goals as goal
 
-pub returns-in-Err-clause-fine : goal.returns-in-Err-clause-fine
-returns-in-Err-clause-fine c = search rules
-
 pub returns-in-Ok-clause-ok : goal.returns-in-Ok-clause-ok
 returns-in-Ok-clause-ok c = search rules
 

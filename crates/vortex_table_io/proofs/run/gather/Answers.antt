@@ -1,6 +1,8 @@
-use Rattle.std.proofs.Common.{◌≡◌, List, ℕ, [], ◌∷◌, ◌++◌, refl, sym, ap, ◌∙◌, append_assoc}
+use Rattle.std.proofs.Common.{◌≡◌, List, ℕ, [], ◌∷◌, ◌++◌, refl, sym, ap, ◌∙◌, append_assoc, rules}
 use Rattle.std.proofs.lemmas.Result.{err_from_is_err_and}
 use Rattle.vortex_table_io.proofs.ReplyLemmas.{FeedOk-none, FeedOk-more, FeedOk-line, FeedErr-line}
+use Rattle.vortex_table_io.specs.declared.call.Call.TheVariants.{Failed}
+use Rattle.vortex_table_io.proofs.CallLemmas.{passed-none, passed-append, ends-append}
 use Rattle.vortex_table_io.proofs.run.gather.Goals as goal
 
 -- a front, a line and the rest
@@ -8,7 +10,7 @@ seam : (front line after rest piece : List ℕ) → rest ≡ line ++ 10 ∷ afte
 seam front line after rest piece e h = append_assoc front line (10 ∷ after) ∙ ap (λ (x : List ℕ). front ++ x) (sym e) ∙ h
 
 pub loop-line-init : goal.loop-line-init
-loop-line-init g c = record { front = []; parts = refl; goes = FeedOk-none refl; fine = c.requires }
+loop-line-init g c = record { front = []; parts = refl; goes = FeedOk-none refl; fine = passed-none _ }
 
 pub returns-in_err-gather_line-clause-part : goal.returns-in_err-gather_line-clause-part
 returns-in_err-gather_line-clause-part g c =
@@ -32,5 +34,9 @@ loop-line-preserved g c =
       parts = append_assoc (before.front ++ line) (10 ∷ []) after
           ∙ seam before.front line after c.loop-line.rest.now c.args.piece.now c.in-Some.ensures.1 before.parts;
       goes = FeedOk-line answer.0 c.add.new.self.one_line c.clear.ensures answer.1 answer.2 (FeedOk-more line c.add.ensures before.goes);
-      fine = c.in_ok-gather_line.ensures.fine;
+      fine = passed-append _ _ _ before.fine c.in_ok-gather_line.ensures.fine;
     }
+
+pub returns-in_err-gather_line-clause-err : goal.returns-in_err-gather_line-clause-err
+returns-in_err-gather_line-clause-err g c =
+    let ends = ends-append Failed _ _ _ c.loop-line.invariant.fine c.in_err-gather_line.ensures.err.1 in search (rules, ends)

@@ -1,6 +1,9 @@
-use Rattle.std.proofs.Common.{◌≡◌, ◌≢◌, ◌≤◌, ◌+◌, ℕ, List, [], ◌++◌, take, length, sym, ap, ◌∙◌, append_assoc, append-nil, arith, rules, length-append}
+use Rattle.std.proofs.Common.{◌≡◌, ◌≢◌, ◌≤◌, ◌+◌, ℕ, List, [], ◌++◌, take, length, sym, ap, ◌∙◌, append_assoc, append-nil, arith, rules, length-append, inl, inr, refl}
 use Rattle.std.proofs.lemmas.Result.{err_from_is_err_and, on_ok_weaker, on_err_weaker}
-use Rattle.vortex_table_io.proofs.ReplyLemmas.{FeedOk-none, FeedOk-append, FeedErr-append, part_read, part_stopped, ends_all, ends_part}
+use Rattle.vortex_table_io.proofs.ReplyLemmas.{FeedOk-none, FeedOk-append, FeedErr-append, part_read, part_stopped, whole_read, ends_all, ends_part}
+use Rattle.vortex_table_io.specs.declared.call.Call.TheVariants.{AtEnd, Flushed, Failed}
+use Rattle.vortex_table_io.specs.Streams.{is_end, is_failure}
+use Rattle.vortex_table_io.proofs.CallLemmas.{passed-none, passed-append, passed-some, ends-none, ends-append, err-ends, any-ends}
 use Rattle.vortex_table_io.proofs.run.run_lines.Goals as goal
 
 -- a read that gave no byte
@@ -21,9 +24,8 @@ loop-init g c = record {
   so_far = sym (append-nil _);
   goes = FeedOk-none c.new-buffer.ensures;
   long = omega arith;
-  not_ended = c.requires.not_ended;
-  reads = c.requires.reads;
-  writes = c.requires.writes;
+  reads = passed-none _;
+  writes = passed-none _;
 }
 
 pub returns-in-Err-clause-part : goal.returns-in-Err-clause-part
@@ -66,11 +68,49 @@ loop-preserved g c =
       so_far = some (history c.read.new.self) (history c.loop.reader) (history c.args.reader.now) before.input piece c.read.new.buf c.in-Ok.n c.split_at.ensures.front c.in-Ok.ensures.bytes before.so_far;
       goes = FeedOk-append before.goes c.in_ok-feed-in-Ok.ensures.ok;
       long = longer before.input piece c.loop.counter c.in-Ok.n before.long c.split_at.ensures.front_len (search rules);
-      not_ended = search rules;
-      reads = search rules;
-      writes = c.in_ok-feed-in-Ok.ensures.fine;
+      reads = passed-append _ _ _ before.reads (passed-some _ _ c.in-Ok.n _ AtEnd (search rules) c.in-Ok.ensures.call);
+      writes = passed-append _ _ _ before.writes c.in_ok-feed-in-Ok.ensures.fine;
     }
 
 pub returns-clause-part : goal.returns-clause-part
 returns-clause-part g c =
     let before = c.loop.invariant in part_read g.met.M.LineHandler.may_lack_memory before.so_far before.goes
+
+-- ---- how the calls ended
+
+pub returns-in-Err-clause-answered : goal.returns-in-Err-clause-answered
+returns-in-Err-clause-answered g c =
+    let before = c.loop.invariant in λ not. whole_read (c.in-Err.ensures.bytes ∙ before.so_far) c.loop.buffer.one_line before.goes
+
+pub returns-clause-answered : goal.returns-clause-answered
+returns-clause-answered g c =
+    let before = c.loop.invariant in λ not. whole_read before.so_far c.loop.buffer.one_line before.goes
+
+pub returns-in-Ok-eq0-clause-ends : goal.returns-in-Ok-eq0-clause-ends
+returns-in-Ok-eq0-clause-ends g c =
+    let before = c.loop.invariant in
+    let reads = ends-none _ _ _ c.in-Ok-eq0.field-0 _ AtEnd c.in-Ok-eq0.field-0-test (search rules) before.reads c.in-Ok-eq0.ensures.call in
+    on_ok_weaker c.finish.result (λ ends. (reads, ends-append Flushed _ _ _ before.writes ends)) c.finish.ensures.ends
+
+pub returns-in-Ok-eq0-clause-all_read : goal.returns-in-Ok-eq0-clause-all_read
+returns-in-Ok-eq0-clause-all_read g c =
+    let before = c.loop.invariant in
+    let reads = ends-none _ _ _ c.in-Ok-eq0.field-0 _ AtEnd c.in-Ok-eq0.field-0-test (search rules) before.reads c.in-Ok-eq0.ensures.call in
+    on_ok_weaker c.finish.result (λ ends. (
+      any-ends is_end refl AtEnd _ _ reads c.requires.not_ended,
+      any-ends is_failure refl AtEnd _ _ reads c.requires.reads,
+      any-ends is_failure refl Flushed _ _ (ends-append Flushed _ _ _ before.writes ends) c.requires.writes,
+    )) c.finish.ensures.ends
+
+pub returns-in-Ok-eq0-clause-write : goal.returns-in-Ok-eq0-clause-write
+returns-in-Ok-eq0-clause-write g c = λ is.
+    let before = c.loop.invariant in
+    let reads = ends-none _ _ _ c.in-Ok-eq0.field-0 _ AtEnd c.in-Ok-eq0.field-0-test (search rules) before.reads c.in-Ok-eq0.ensures.call in
+    (inr reads, ends-append Failed _ _ _ before.writes (err-ends c.finish.result _ _ _ is c.finish.ensures.err))
+
+pub returns-in_err-feed-in-Ok-clause-write : goal.returns-in_err-feed-in-Ok-clause-write
+returns-in_err-feed-in-Ok-clause-write g c = λ is.
+    let before = c.loop.invariant in (
+      inl (passed-append _ _ _ before.reads (passed-some _ _ c.in-Ok.n _ AtEnd (search rules) c.in-Ok.ensures.call)),
+      ends-append Failed _ _ _ before.writes c.in_err-feed-in-Ok.ensures.err.1,
+    )

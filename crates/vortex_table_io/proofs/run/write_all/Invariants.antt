@@ -1,13 +1,15 @@
-use Rattle.std.proofs.Common.{◌≡◌, ℕ, List, ◌++◌, length, Bool, false}
+use Rattle.std.proofs.Common.{◌≡◌, ℕ, List, ◌++◌, length}
+use Rattle.vortex_table_io.specs.declared.call.Call.{Call}
+use Rattle.vortex_table_io.specs.Streams.{OnlyPassed}
 use Rattle.vortex_table_io.proofs.run.write_all.Given as goal
 
 -- what was written and what is left are what was to be written
-pub record Wrote {W : Type 0} (history : W → List ℕ) (has_failed : W → Bool) (old new : W) (text rest : List ℕ) : Type 0 where
+pub record Wrote {W : Type 0} (history : W → List ℕ) (calls : W → List Call) (old new : W) (text rest : List ℕ) : Type 0 where
   pub parts : history new ++ rest ≡ history old ++ text
-  pub fine : has_failed new ≡ false
+  pub fine : OnlyPassed (calls old) (calls new)
 
 abbrev pub invariant-loop-rest : goal.invariant-loop-rest
-invariant-loop-rest g l = Wrote g.W.Sink.history g.W.Sink.has_failed l.fn.writer l.writer l.text l.rest
+invariant-loop-rest g l = Wrote g.W.Sink.history g.W.Sink.calls l.fn.writer l.writer l.text l.rest
 
 abbrev pub decreases-loop-rest : goal.decreases-loop-rest
 decreases-loop-rest g l = length l.rest
