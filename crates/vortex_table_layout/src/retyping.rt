@@ -142,8 +142,8 @@ impl Retyping<'_> {
         Ok(converted)
     }
 
-    /// The chunks, one for each, with their rows converted and laid out plain, and the statistics of
-    /// the target's leaf columns. `NotConvertible` has the index of the first row that the target can't hold, counted
+    /// The chunks, one for each, with their rows converted and the statistics of the target's leaf
+    /// columns. `NotConvertible` has the index of the first row that the target can't hold, counted
     /// over all chunks. `Total` where the texts or the bytes of a column of a chunk can't be held
     /// by its views and buffers.
     pub fn retype_chunks(&self, alloc: Global, chunks: &[Chunk]) -> Result<Vec<Chunk>, TableError>
