@@ -75,7 +75,9 @@ pub fn changes_keep_their_laws(alloc: Global, checks: &mut Checks<'_>) -> Result
         DType::Primitive(PType::I64, Nullability::Nullable),
     )?;
     let all = retype_in_two_steps(alloc, &mut stepwise, &mut direct, through, last)?;
-    checks.holds("each step", all.first.is_ok() && all.second.is_ok() && all.at_once.is_ok());
+    all.first?;
+    all.second?;
+    all.at_once?;
     checks.holds("one type", stepwise.dtype() == direct.dtype());
     Ok(())
 }
