@@ -44,13 +44,15 @@ pub fn each_read_may_fail(alloc: Global, checks: &mut Checks<'_>) -> Result<(), 
     Ok(())
 }
 
-/// Writes of one byte, of which the first fails, or the second, and so on until neither a write nor
+/// Writes of one byte, of which the first fails, or the fourth, and so on until neither a write nor
 /// the flush does; and a write that takes nothing. The good writes are those of the first bytes.
-/// Reads are of a hundred bytes, so that little is read before a write fails.
+/// Reads are of a hundred bytes, so that little is read before a write fails. Of the program itself
+/// each write fails in turn (tests/cuts.py).
 pub fn each_write_may_fail(alloc: Global, checks: &mut Checks<'_>) -> Result<(), AllocError> {
     let input = input_of(alloc, &SESSION)?;
     let output = output_of(alloc, &SESSION)?;
-    for good in 0..=output.len() + 2 {
+    for third in 0..=output.len() / 3 + 1 {
+        let good = 3 * third;
         let mut reader = MemorySource::new(&input, 100, ALWAYS);
         let mut writer = MemorySink::new(Vec::new(alloc), 1, good);
         let result = run(alloc, &mut reader, &mut writer);

@@ -1,5 +1,5 @@
-//! Runs a session of lines in memory: one line more each time, cut anywhere, ended anywhere, with
-//! each read, each write and the flush failing in turn, and with each request for memory refused.
+//! Runs a session of lines in memory: one line more each time, cut anywhere, ended at many places,
+//! with each read, many a write and the flush failing in turn, and where all memory is refused.
 #![tactic(auto)]
 
 mod checks;
@@ -21,13 +21,13 @@ fn run_all(alloc: Global, checks: &mut Checks<'_>) -> Result<(), AllocError> {
     cut::reads_and_writes_may_be_cut_anywhere(alloc, checks)?;
     checks.end_part("reads and writes may be cut anywhere");
     cut::an_input_may_end_anywhere(alloc, checks)?;
-    checks.end_part("an input may end anywhere");
+    checks.end_part("an input may end at many places");
     cut::an_empty_input_has_no_answer(alloc, checks);
     checks.end_part("an empty input has no answer");
     faults::each_read_may_fail(alloc, checks)?;
     checks.end_part("each read may fail");
     faults::each_write_may_fail(alloc, checks)?;
-    checks.end_part("each write may fail");
+    checks.end_part("writes may fail");
     no_memory::refusals_take_no_memory(alloc, checks)?;
     checks.end_part("refusals take no memory");
     Ok(())
