@@ -6,7 +6,7 @@ use Rattle.vortex_arrays_concat.proofs.rows.rows_of.Goals as goal
 
 pub loop-array-preserved : goal.loop-array-preserved
 loop-array-preserved c =
-    let same = c.as_array.ensures in
+    let same = c.as_array.ensures.array in
     let more = c.in_ok-more.more.items in
     let puts : c.append.new.self.items ≡ c.loop-array.rows.items ++ more = c.in_ok-append.ensures.items in
     rw puts (gathered_more c.args.arrays.now c.loop-array.array-index c.array-item.result c.loop-array.rows.items more c.loop-array.invariant c.loop-array-test.true c.array-item.is
