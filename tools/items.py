@@ -313,10 +313,7 @@ def page():
 
 def check(made):
     """Whether the page is as it would be written; else its first differing lines are printed."""
-    there = ""
-    if os.path.isfile(PAGE):
-        with open(PAGE, encoding="utf-8") as file:
-            there = file.read()
+    there = sources.page_text(PAGE)
     if there == made:
         print("items: docs/ITEMS.md is as the doors are")
         return 0

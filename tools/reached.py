@@ -172,10 +172,7 @@ def page():
 
 def check(made):
     """Whether the page is as it would be written."""
-    there = ""
-    if os.path.isfile(PAGE):
-        with open(PAGE, encoding="utf-8") as file:
-            there = file.read()
+    there = sources.page_text(PAGE)
     if there == made:
         print("reached: docs/TRUSTED.md is as the definitions are")
         return 0

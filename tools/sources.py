@@ -85,3 +85,11 @@ def end_of_group(text, at):
         if depth == 0:
             return place + 1
     return len(text)
+
+
+def page_text(path):
+    """The text of a page that a tool writes, or '' where there is none."""
+    if not os.path.isfile(path):
+        return ""
+    with open(path, encoding="utf-8") as file:
+        return file.read()
