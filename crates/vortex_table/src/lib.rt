@@ -235,6 +235,7 @@ pub mod table {
     pub use vortex_table_schema::description::Description;
     pub use vortex_table_schema::error::TableError;
     pub use vortex_table_schema::layout::Layout;
+    pub use vortex_table_select::selection::{LazyAnswer, ScanSelection, Selection};
 }
 
 /// Commands in lines of JSON, and their answers.
