@@ -1,4 +1,5 @@
 pub mod Agreement
+pub mod ClonedLemmas
 pub mod EqualLeaves
 pub mod Formed
 pub mod JoinLists

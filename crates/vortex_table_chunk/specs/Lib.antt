@@ -2,6 +2,7 @@ pub mod BoundCode
 pub mod BoundStat
 pub mod Bounds
 pub mod Chunk
+pub mod Cloned
 pub mod Formed
 pub mod Joined
 pub mod Kept

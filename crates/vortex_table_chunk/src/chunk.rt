@@ -100,6 +100,21 @@ pub fn new_chunk(
     Ok(chunk)
 }
 
+impl Clone for Chunk {
+    ghost use Rattle.vortex_table_chunk.specs.Cloned.{IsCloneOf};
+
+    ghost is_clone = { IsCloneOf };
+
+    // The array is shared, and the columns that it can share are found in it again.
+    fn clone(&self) -> Result<Chunk, AllocError> {
+        let array = self.array.clone()?;
+        let bounds = self.bounds.clone()?;
+        let columns = kept_columns(*self.bounds.allocator(), &array, &self.leaves)?;
+        let chunk = with_bounds(&self.leaves, &self.lengths, array, bounds, columns)?;
+        Ok(chunk)
+    }
+}
+
 /// The statistics of the column at this path, and `None` where it is no leaf column. `bounds` has
 /// one element for each of `leaves`.
 pub fn bounds_at<'a>(

@@ -1,6 +1,7 @@
 pub mod Added
 pub mod Appended
 pub mod ByProofs
+pub mod ClonedLemmas
 pub mod Counts
 pub mod Found
 pub mod JoinedGroups

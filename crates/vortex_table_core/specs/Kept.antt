@@ -1,6 +1,12 @@
 -- What calls leave of a table.
-use Rattle.std.specs.Prelude.{◌≡◌, ◌⊎◌, [], ◌∷◌, ◌++◌, length, None}
+use Rattle.std.specs.Prelude.{◌≡◌, ◌⊎◌, List, [], ◌∷◌, ◌++◌, length, map, None}
+use Rattle.std.specs.List.{AllZip}
 use Rattle.vortex_table_chunk.specs.declared.chunk.Chunk.{Chunk}
+use Rattle.vortex_table_chunk.specs.declared.zones.bounds.ColumnBounds.{ColumnBounds}
+use Rattle.vortex_table_chunk.specs.zones.Alike.{SaysTheSame}
+use Rattle.vortex_table_core.specs.Arrays.{arrays_of}
+use Rattle.vortex_table_core.specs.Statistics.{statistics_of}
+use Rattle.vortex_table_core.specs.TableView.{table_of}
 use Rattle.vortex_table_core.specs.declared.group.Group.{Group}
 use Rattle.vortex_table_core.specs.declared.table.Table.{Table}
 
@@ -28,3 +34,18 @@ pub record HasOneMore (c : Chunk) (g : Group) (old new : Table) : Type 0 where
 -- Nothing is added, or one chunk.
 abbrev pub AddsAChunk : Table → Table → Type 0
 AddsAChunk old new = ShowsTheSame old new ⊎ ((c : Chunk) × (g : Group) × HasOneMore c g old new)
+
+-- ---- clones
+
+-- one to one, the statistics of leaf columns say the same
+abbrev pub SayTheSame : List ColumnBounds → List ColumnBounds → Type 0
+SayTheSame = AllZip SaysTheSame
+
+-- No call tells both apart: not by their rows, nor by how these are laid out, nor by the statistics
+-- of their chunks and groups.
+pub record IsCloneOf (old new : Table) : Type 0 where
+  pub table : table_of new ≡ table_of old
+  pub arrays : arrays_of new ≡ arrays_of old
+  pub chunks : AllZip SayTheSame (map (λ c. c.bounds.items) old.chunks.items)
+      (map (λ c. c.bounds.items) new.chunks.items)
+  pub groups : AllZip SayTheSame (statistics_of old) (statistics_of new)

@@ -58,10 +58,8 @@ impl Table {
         if group >= self.groups.len() {
             return Err(TableError::NoSuchGroup);
         }
-        let description = description_of(
-            self.leaf_statistics(group, &place),
-            Nullability::Nullable,
-        )?;
+        let statistics = self.leaf_statistics(group, &place);
+        let description = description_of(statistics, Nullability::Nullable)?;
         Ok(description)
     }
 

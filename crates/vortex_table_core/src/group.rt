@@ -3,7 +3,7 @@
 use vortex_table_chunk::zones::bounds::ColumnBounds;
 
 /// A group of neighbouring chunks, which a scan looks at before it looks at the chunks.
-#[derive(Drop)]
+#[derive(Clone, Drop)]
 pub struct Group {
     /// The index of its first chunk in the table.
     pub first: usize,

@@ -1,5 +1,6 @@
 //! A scan of a table, chunk by chunk: each is skipped, taken whole or tested row by row.
 ghost use Rattle.std.specs.Prelude.{◌≡◌, OnOk};
+ghost use Rattle.vortex_model_table.specs.Scan.{is_skipped, is_whole};
 ghost use Rattle.vortex_table_core.specs.Progress.{push_if, tested_rows};
 ghost use Rattle.vortex_table_chunk.specs.Chunk.{chunk_rows};
 ghost use Rattle.vortex_table_core.specs.Outcome.{outcome_of};
@@ -148,8 +149,8 @@ impl Scan<'_> {
     {
         let outcome = self.outcome(chunk, falsified);
         self.find_rows(alloc, chunk, outcome, &mut answer.selections)?;
-        push_if(outcome.is_skipped(), number, &mut answer.skipped)?;
-        push_if(outcome.is_whole(), number, &mut answer.whole)?;
+        push_if(is_skipped(outcome), number, &mut answer.skipped)?;
+        push_if(is_whole(outcome), number, &mut answer.whole)?;
         answer.rows_tested = answer
             .rows_tested
             .saturating_add(tested_rows(outcome, chunk));
@@ -177,28 +178,20 @@ fn tested_rows(outcome: Pruning, chunk: &Chunk) -> u64
     }
 }
 
-impl Pruning {
-    ghost use Rattle.std.specs.Prelude.{◌≡◌};
-    ghost use Rattle.vortex_model_table.specs.Scan.{is_skipped, is_whole};
-    ghost use Rattle.vortex_table_core.specs.Outcome.{outcome_of};
-
-    fn is_skipped(self) -> bool
-        ensures { result ≡ is_skipped (outcome_of self) }
-    {
-        match self {
-            Pruning::Skip => true,
-            Pruning::TakeAll => false,
-            Pruning::Filter => false,
-        }
+fn is_skipped(outcome: Pruning) -> bool
+    ensures { result ≡ is_skipped (outcome_of outcome) }
+{
+    match outcome {
+        Pruning::Skip => true,
+        Pruning::TakeAll | Pruning::Filter => false,
     }
+}
 
-    fn is_whole(self) -> bool
-        ensures { result ≡ is_whole (outcome_of self) }
-    {
-        match self {
-            Pruning::Skip => false,
-            Pruning::TakeAll => true,
-            Pruning::Filter => false,
-        }
+fn is_whole(outcome: Pruning) -> bool
+    ensures { result ≡ is_whole (outcome_of outcome) }
+{
+    match outcome {
+        Pruning::TakeAll => true,
+        Pruning::Skip | Pruning::Filter => false,
     }
 }

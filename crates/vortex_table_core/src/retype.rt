@@ -5,7 +5,7 @@ ghost use Rattle.vortex_table_chunk.specs.Chunk.{chunk_rows, row_count};
 ghost use Rattle.vortex_table_chunk.specs.Formed.{is_formed};
 ghost use Rattle.vortex_table_layout.specs.Retyping.{target_of, lengths_of};
 ghost use Rattle.vortex_table_core.specs.Group.{chunks_of};
-ghost use Rattle.vortex_table_core.specs.Retyped.{IsSizeOf, HasOrdered, IsRegrouped};
+ghost use Rattle.vortex_table_core.specs.Retyped.{IsSizeOf, HasOrdered};
 
 use crate::group::Group;
 use crate::table::Table;
@@ -45,36 +45,14 @@ fn joined_again(
     }
 }
 
-// The group with the statistics of its converted chunks.
-fn regroup(
-    alloc: Global,
-    retyping: &Retyping,
-    group: &Group,
-    chunks: &[Chunk],
-) -> Result<Group, AllocError>
-    requires size { IsSizeOf group.now (map chunk_rows (chunks_of chunks.now group.now)) }
-    requires formed { IsTrue
-        (list_all (is_formed (lengths_of retyping.now) (target_of retyping.now)) chunks.now) }
-    requires fits { row_count chunks.now < 2 ^ 64 }
-    ensures { IfOk result (λ new. IsRegrouped (target_of retyping.now) (lengths_of retyping.now)
-        chunks.now group.now new) }
-{
-    let joined = joined_again(alloc, retyping, group, chunks)?;
-    Ok(Group {
-        first: group.first,
-        chunks: group.chunks,
-        rows: group.rows,
-        joined,
-    })
-}
-
 impl Table {
-    ghost use Rattle.std.specs.Prelude.{◌≡◌, Some, None, map, IfOk, OnOk, IfErr, OnErr, IsErrOf, IsTrue};
+    ghost use Rattle.std.specs.Prelude.{◌≡◌, Some, None, map, All, IfOk, OnOk, IfErr, OnErr, IsErrOf, IsTrue};
     ghost use Rattle.std.specs.List.{list_all};
     ghost use Rattle.vortex_model.specs.Kept.{type_fault};
     ghost use Rattle.vortex_model_table.specs.Table.{rows_of};
     ghost use Rattle.vortex_model_table.specs.Command.{retype, refusal, after, first_unconvertible};
     ghost use Rattle.vortex_dtype_core.specs.View.{type_of};
+    ghost use Rattle.vortex_arrays_builder.specs.Types.{IsPlainLayout};
     ghost use Rattle.vortex_table_schema.specs.Leaves.{leaf_positions};
     ghost use Rattle.vortex_table_schema.specs.Error.{Explains};
     ghost use Rattle.vortex_table_schema.specs.Lengths.{length_in};
@@ -82,6 +60,7 @@ impl Table {
     ghost use Rattle.vortex_table_chunk.specs.Chunk.{chunk_rows};
     ghost use Rattle.vortex_table_chunk.specs.Formed.{is_formed};
     ghost use Rattle.vortex_table_layout.specs.Retyping.{target_of, lengths_of};
+    ghost use Rattle.vortex_table_core.specs.Arrays.{arrays_of};
     ghost use Rattle.vortex_table_core.specs.Retyped.{AreRegrouped};
     ghost use Rattle.vortex_table_core.specs.Statistics.{HasMergedInOrder};
     ghost use Rattle.vortex_table_layout.specs.AnyTooLarge.{AnyTooLarge};
@@ -107,8 +86,13 @@ impl Table {
         let _ = self.groups.len();
         let _ = self.len();
         while let Some(group) = old.next_item() {
-            let new = regroup(alloc, retyping, group, chunks)?;
-            groups.push(new)?;
+            let joined = joined_again(alloc, retyping, group, chunks)?;
+            groups.push(Group {
+                first: group.first,
+                chunks: group.chunks,
+                rows: group.rows,
+                joined,
+            })?;
         }
         Ok(groups)
     }
@@ -129,6 +113,7 @@ impl Table {
             (is_formed (length_in self.now.bound_lengths) (type_of dtype.now)) parts.0.items)) }
         ensures rows { IfOk result
             (λ parts. map chunk_rows parts.0.items ≡ map chunk_rows self.now.chunks.items) }
+        ensures layout { IfOk result (λ parts. All (λ c. IsPlainLayout c.array) parts.0.items) }
         ensures groups { IfOk result (λ parts. AreRegrouped (type_of dtype.now)
             (length_in self.now.bound_lengths) parts.0.items self.now.groups parts.1) }
         ensures converts { OnOk result (first_unconvertible 0 (table_of self.now).kind
@@ -165,6 +150,8 @@ impl Table {
     pub fn retype(&mut self, dtype: DType) -> Result<(), TableError>
         ensures retyped { OnOk result
             (table_of self.new ≡ after (table_of self.old) (retype (type_of dtype))) }
+        ensures layout { OnOk result ((¬ (type_of dtype ≡ (table_of self.old).kind))
+            → All IsPlainLayout (arrays_of self.new)) }
         ensures statistics { OnOk result ((¬ (type_of dtype ≡ (table_of self.old).kind))
             → HasMergedInOrder self.new) }
         ensures accepted { OnOk result

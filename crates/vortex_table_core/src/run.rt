@@ -31,21 +31,6 @@ fn is_block(truths: &[bool], from: usize) -> bool
     !block.contains(&false)
 }
 
-// The place behind the blocks from here on in which all truths are true.
-fn past_blocks(truths: &[bool], from: usize) -> usize
-    requires { from ≤ length truths.now }
-    ensures order { from ≤ result }
-    ensures within { result ≤ length truths.now }
-    ensures truths { AreTrue truths.now from result }
-    ensures end { is_block truths.now result ≡ false }
-{
-    let mut at = from;
-    while is_block(truths, at) {
-        at += 64;
-    }
-    at
-}
-
 // The place of the first truth from here on that is not true, and else behind the last.
 fn past_true(truths: &[bool], from: usize) -> usize
     requires { from ≤ length truths.now }
@@ -54,7 +39,10 @@ fn past_true(truths: &[bool], from: usize) -> usize
     ensures truths { AreTrue truths.now from result }
     ensures end { result < length truths.now → slice_index_or truths.now result false ≡ false }
 {
-    let mut at = past_blocks(truths, from);
+    let mut at = from;
+    while is_block(truths, at) {
+        at += 64;
+    }
     while at < truths.len() && truths[at] {
         at += 1;
     }
@@ -84,10 +72,7 @@ impl Scan<'_> {
             → result ≡ is_group_skipped (question_in self.now) (map chunk_rows chunks) }
     {
         match &group.joined {
-            Some(bounds) => {
-                let bounds = bounds.as_slice();
-                self.proves(bounds, group.rows, &self.falsifier)
-            }
+            Some(bounds) => self.proves(bounds.as_slice(), group.rows, &self.falsifier),
             None => false,
         }
     }

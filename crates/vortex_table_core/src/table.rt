@@ -11,7 +11,7 @@ ghost use Rattle.vortex_table_schema.specs.Lengths.{length_in};
 ghost use Rattle.vortex_table_zonemaps.specs.Zones.{zone_of, AreZoneMaps, AreZoneMaps-prop};
 
 use crate::group::Group;
-use std::alloc::Global;
+use std::alloc::{AllocError, Global};
 use std::borrow::CowSlice;
 use std::rc::Rc;
 use vortex_arrays_core::array::ArrayRef;
@@ -74,7 +74,7 @@ impl Table {
     ghost use Rattle.vortex_table_layout.specs.TooLarge.{AreTooLarge};
     ghost use Rattle.vortex_table_schema.specs.Error.{Explains};
     ghost use Rattle.vortex_table_schema.specs.Lengths.{entries_in};
-    ghost use Rattle.vortex_table_core.specs.Kept.{AddsAChunk, ShowsTheSame};
+    ghost use Rattle.vortex_table_core.specs.Kept.{AddsAChunk, IsCloneOf, ShowsTheSame};
     ghost use Rattle.vortex_table_core.specs.TableView.{table_of};
 
     /// A table without rows. A bound of a leaf column that is a text or bytes of more bytes than
@@ -110,6 +110,30 @@ impl Table {
             len: 0,
             chunks: Vec::new(alloc),
             groups: BlockList::new(alloc),
+            zones,
+        })
+    }
+
+    /// The table once more, with its chunks, groups and statistics as they are. Rows are shared.
+    pub fn clone(&self) -> Result<Table, AllocError>
+        ensures { IfOk result (λ new. IsCloneOf self.now new) }
+    {
+        let alloc = *self.chunks.allocator();
+        let dtype = self.dtype.clone()?;
+        let bound_lengths = self.bound_lengths.clone()?;
+        let leaves = self.leaves.clone()?;
+        let lengths = self.lengths.clone()?;
+        let chunks = self.chunks.clone()?;
+        let groups = self.groups.clone()?;
+        let zones = ZoneMaps::of_chunks(alloc, leaves.len(), &chunks)?;
+        Ok(Table {
+            dtype,
+            bound_lengths,
+            leaves,
+            lengths,
+            len: self.len,
+            chunks,
+            groups,
             zones,
         })
     }

@@ -4,3 +4,4 @@ pub mod LineLemmas
 pub mod ReplyLemmas
 pub mod Walks
 pub mod Places
+pub mod Cloned

@@ -163,3 +163,17 @@ impl<T: Drop> BlockList<T> {
         self.len -= 1;
     }
 }
+
+impl<T: Clone + Drop> BlockList<T> {
+    ghost use Rattle.std.specs.Prelude.{IfOk};
+    ghost use Rattle.std.specs.List.{AllZip};
+
+    /// The list with a clone of each item.
+    pub fn clone(&self) -> Result<BlockList<T>, AllocError>
+        ensures { IfOk result (λ new. AllZip T.is_clone self.now new) }
+    {
+        let blocks = self.blocks.clone()?;
+        let len = self.len;
+        Ok(BlockList { blocks, len })
+    }
+}

@@ -1,3 +1,4 @@
+pub mod ClonedAnswers
 pub mod Cuts
 pub mod Distinct
 mod Indexed

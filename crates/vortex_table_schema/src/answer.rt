@@ -1,5 +1,6 @@
 //! The answer of a scan: the selected rows, and counts of the work that found them.
 
+use std::alloc::AllocError;
 use vortex_dtype_core::dtype::DType;
 use vortex_scalar_core::scalar::Scalar;
 
@@ -18,4 +19,27 @@ pub struct ScanAnswer {
     pub rows_tested: u64,
     /// The number of proofs that were evaluated, or `u64::MAX` where it was more.
     pub proofs: u64,
+}
+
+impl ScanAnswer {
+    ghost use Rattle.std.specs.Prelude.{IfOk};
+    ghost use Rattle.vortex_table_schema.specs.Answer.{IsSameAnswer};
+
+    /// The answer once more.
+    pub fn clone(&self) -> Result<ScanAnswer, AllocError>
+        ensures { IfOk result (λ new. IsSameAnswer self.now new) }
+    {
+        let rows = self.rows.clone()?;
+        let dtype = self.dtype.clone()?;
+        let skipped = self.skipped.clone()?;
+        let whole = self.whole.clone()?;
+        Ok(ScanAnswer {
+            rows,
+            dtype,
+            skipped,
+            whole,
+            rows_tested: self.rows_tested,
+            proofs: self.proofs,
+        })
+    }
 }

@@ -85,8 +85,7 @@ pub fn convert_row(
     }
 }
 
-// Pushes the value, cast from the source to the target type. A refusal has the index that the row
-// would have.
+// Pushes the value, cast to the target type. A refusal has the index that the row would have.
 fn push_converted(
     alloc: Global,
     source: &DType,
@@ -124,9 +123,7 @@ fn free_row(values: &mut CowSlice<'_, Option<ScalarValue>>, index: usize)
     }
 }
 
-// The rows cast from the source to the target type: `NotConvertible` with the index of the first
-// that the target can't hold. None behind it is read. Rows that are handed over are freed one by
-// one as they are cast, so that the two lists are never both in memory in full.
+// As `convert_rows`, with each row cast, also where the types are the same.
 fn cast_rows(
     alloc: Global,
     source: &DType,

@@ -256,7 +256,6 @@ fn cut_part(alloc: Global, dtype: &DType, paths: &[&[Field]]) -> Result<RowProje
     }
 }
 
-// Few paths are walked for each field.
 #[cycle(cut)]
 fn cut_fields(
     alloc: Global,
@@ -286,7 +285,6 @@ fn cut_fields(
     Ok(all)
 }
 
-// Many paths are indexed by their first names.
 #[cycle(cut)]
 fn cut_indexed(
     alloc: Global,

@@ -1,5 +1,8 @@
 //! The description of a leaf column in a group of chunks.
+ghost use Rattle.std.specs.Prelude.{◌≡◌, IfOk};
+ghost use Rattle.vortex_table_schema.specs.Description.{known_raw};
 
+use std::alloc::AllocError;
 use vortex_scalar_core::scalar::Scalar;
 use vortex_stats_bound::precision::Precision;
 
@@ -20,4 +23,32 @@ pub struct Description {
     /// Whether all values are equal, where null is equal to null alone. It is absent where joins
     /// could not tell.
     pub constant: Precision<Scalar>,
+}
+
+fn clone_known(known: &Precision<Scalar>) -> Result<Precision<Scalar>, AllocError>
+    ensures { IfOk result (λ new. known_raw new ≡ known_raw known.now) }
+{
+    match known {
+        Precision::Exact(value) => Ok(Precision::Exact(value.clone()?)),
+        Precision::Inexact(value) => Ok(Precision::Inexact(value.clone()?)),
+        Precision::Absent => Ok(Precision::Absent),
+    }
+}
+
+impl Description {
+    ghost use Rattle.std.specs.Prelude.{IfOk};
+    ghost use Rattle.vortex_table_schema.specs.Description.{IsSameDescription};
+
+    /// The description once more.
+    pub fn clone(&self) -> Result<Description, AllocError>
+        ensures { IfOk result (λ new. IsSameDescription self.now new) }
+    {
+        Ok(Description {
+            min: clone_known(&self.min)?,
+            max: clone_known(&self.max)?,
+            null_count: clone_known(&self.null_count)?,
+            sum: clone_known(&self.sum)?,
+            constant: clone_known(&self.constant)?,
+        })
+    }
 }

@@ -19,7 +19,7 @@ use vortex_dtype_core::dtype::DType;
 use vortex_dtype_path::path::FieldPath;
 
 /// The positions of a leaf column and its bound length.
-#[derive(Drop)]
+#[derive(Clone, Drop)]
 pub struct LeafLength {
     positions: Vec<usize>,
     length: usize,
@@ -49,7 +49,7 @@ impl LeafLength {
 
 /// The bound lengths of a table: those of single positions, whether or not a leaf stands there now,
 /// and a default for all others.
-#[derive(Drop)]
+#[derive(Clone, Drop)]
 pub struct BoundLengths {
     pub default: usize,
     pub entries: Vec<LeafLength>,

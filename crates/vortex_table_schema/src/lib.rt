@@ -1,8 +1,5 @@
-//! Types of tables: which a table can hold, where their leaves stand, and what paths ask for of a
-//! type and of its values.
-//!
 //! What a table tests before a command changes anything: types, paths, rows, leaf columns, bound
-//! lengths.
+//! lengths; where the leaves of a type stand; and what paths ask for of a type and of its values.
 #![tactic(auto)]
 
 pub mod answer;

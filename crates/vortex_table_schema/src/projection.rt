@@ -38,10 +38,7 @@ pub fn cut_value(
         (λ kept. raw_of kept ≡ raw_cut (tree_of projection.now) (raw_of value.now)) }
 {
     match projection {
-        Projection::Whole => {
-            let copy = value.clone()?;
-            Ok(copy)
-        }
+        Projection::Whole => Ok(value.clone()?),
         Projection::Fields(fields) => match value.as_list() {
             Some(values) => {
                 let kept = cut_values(fields, alloc, values)?;
@@ -66,10 +63,7 @@ fn cut_cell(
         (λ kept. raw_in kept ≡ raw_cut (tree_of projection.now) (raw_at value.entry)) }
 {
     match value {
-        Some(value) => {
-            let kept = cut_value(projection, alloc, value)?;
-            Ok(Some(kept))
-        }
+        Some(value) => Ok(Some(cut_value(projection, alloc, value)?)),
         None => Ok(None),
     }
 }

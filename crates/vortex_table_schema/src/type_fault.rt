@@ -34,10 +34,7 @@ pub fn type_fault(alloc: Global, dtype: &DType) -> Result<Option<TypeFault>, All
         ≡ type_fault (type_of dtype.now)) }
 {
     match dtype {
-        DType::Struct(fields, Nullability::NonNullable) => {
-            let fault = record_fault(alloc, fields.as_slice())?;
-            Ok(fault)
-        }
+        DType::Struct(fields, Nullability::NonNullable) => record_fault(alloc, fields.as_slice()),
         DType::Struct(_, Nullability::Nullable) => Ok(Some(TypeFault::NotARecord)),
         DType::Null | DType::Bool(_) | DType::Primitive(_, _) | DType::Decimal(_, _) => {
             Ok(Some(TypeFault::NotARecord))

@@ -1,6 +1,6 @@
 //! Calls the table as a library: faults of types, predicates that no line says, records that nest
 //! deep, paths that cut rows together, arrays that are appended and converted and how chunks lie,
-//! rules of the caller, and what is left of a table where memory is refused.
+//! rules of the caller, clones, and what is left of a table where memory is refused.
 #![tactic(auto)]
 
 mod arrays;
@@ -69,6 +69,8 @@ fn run_all(alloc: Global, checks: &mut Checks<'_>) -> Result<(), TableError> {
     checks.end_part("refused commands leave tables");
     memory::tables_are_told_without_memory(alloc, checks)?;
     checks.end_part("tables are told without memory");
+    memory::clones_tell_the_same(alloc, checks)?;
+    checks.end_part("clones tell the same");
     long::long_texts_are_told_apart(alloc, checks)?;
     checks.end_part("long texts are told apart");
     conversions::nothing_stands_under_nulls(alloc, checks)?;

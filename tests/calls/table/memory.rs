@@ -100,6 +100,16 @@ fn is_same_description(one: &Description, other: &Description) -> bool {
         && one.constant == other.constant
 }
 
+/// Whether the same was found, by the same work.
+fn is_same_answer(one: &ScanAnswer, other: &ScanAnswer) -> bool {
+    one.rows.as_slice() == other.rows.as_slice()
+        && one.dtype == other.dtype
+        && one.skipped.as_slice() == other.skipped.as_slice()
+        && one.whole.as_slice() == other.whole.as_slice()
+        && one.rows_tested == other.rows_tested
+        && one.proofs == other.proofs
+}
+
 /// Whether the same is seen, the layouts aside.
 fn is_same_table(one: &Seen, other: &Seen) -> bool {
     let mut are_told = one.told.len() == other.told.len();
@@ -110,10 +120,7 @@ fn is_same_table(one: &Seen, other: &Seen) -> bool {
         && one.len == other.len
         && one.chunks == other.chunks
         && one.groups == other.groups
-        && one.rows.rows.as_slice() == other.rows.rows.as_slice()
-        && one.rows.dtype == other.rows.dtype
-        && one.rows.whole.as_slice() == other.rows.whole.as_slice()
-        && one.rows.proofs == other.rows.proofs
+        && is_same_answer(&one.rows, &other.rows)
 }
 
 /// The outcome of a command, behind which the table has to be as before where it is refused.
@@ -260,5 +267,30 @@ pub fn tables_are_told_without_memory(
     }
     checks.holds("no chunk", table.chunk(3).is_none());
     took_none(alloc, checks, "what tells of a table takes no memory");
+    Ok(())
+}
+
+/// Clones tell the same as what they are of, and go on by themselves.
+pub fn clones_tell_the_same(alloc: Global, checks: &mut Checks<'_>) -> Result<(), TableError> {
+    let mut table = three_chunks(alloc)?;
+    table.join(1)?;
+    let before = seen(alloc, &table)?;
+    let mut copy = table.clone()?;
+    append(alloc, &mut table, &[7, 8])?;
+    table.compact()?;
+    let after = seen(alloc, &copy)?;
+    checks.holds("a clone of a table", is_same_table(&before, &after));
+    checks.holds("its layouts", before.layouts.as_slice() == after.layouts.as_slice());
+    append(alloc, &mut copy, &[7, 8])?;
+    copy.compact()?;
+    let (left, right) = (seen(alloc, &table)?, seen(alloc, &copy)?);
+    checks.holds("both gone on alike", is_same_table(&left, &right));
+    copy.join(0)?;
+    checks.holds("one gone on alone", copy.group_count() == 2 && table.group_count() == 3);
+    checks.holds("a clone of an answer", is_same_answer(&before.rows, &before.rows.clone()?));
+    for description in &before.told {
+        let same = is_same_description(description, &description.clone()?);
+        checks.holds("a clone of a description", same);
+    }
     Ok(())
 }

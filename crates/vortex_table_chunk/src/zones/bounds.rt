@@ -1,5 +1,5 @@
 //! The statistics of a leaf column that a chunk keeps.
-ghost use Rattle.std.specs.Prelude.{◌≡◌, ℕ, List};
+ghost use Rattle.std.specs.Prelude.{◌≡◌, ℕ, List, IfOk};
 ghost use Rattle.vortex_model.specs.Content.{Content};
 ghost use Rattle.vortex_model_table.specs.Typing.{sum_kind};
 ghost use Rattle.vortex_model_table.specs.ZoneMap.{zone_of};
@@ -7,7 +7,9 @@ ghost use Rattle.vortex_dtype_core.specs.View.{type_of};
 ghost use Rattle.vortex_stats_array.specs.Zones.{zone_in, bound_content as known_bound};
 ghost use Rattle.vortex_table_chunk.specs.zones.Bounds.{bound_in, IsBoundsOf};
 ghost use Rattle.vortex_table_chunk.specs.zones.Sums.{int_kind_of};
+ghost use Rattle.vortex_table_chunk.specs.zones.Alike.{said_by};
 
+use std::alloc::AllocError;
 use vortex_dtype_core::dtype::DType;
 use vortex_dtype_ptype::ptype::PType;
 use vortex_scalar_value::pvalue::PValue;
@@ -71,5 +73,38 @@ impl ColumnBounds {
             sum: stats.sum,
             constant: Some(stats.is_constant),
         }
+    }
+}
+
+// The bound once more. Texts and bytes are shared.
+fn clone_bound(bound: &Option<Bound>) -> Result<Option<Bound>, AllocError>
+    ensures { IfOk result (λ new. said_by new ≡ said_by bound.now) }
+{
+    let Some(bound) = bound else {
+        return Ok(None);
+    };
+    let value = bound.value.clone()?;
+    Ok(Some(Bound {
+        value,
+        shortened: bound.shortened,
+    }))
+}
+
+impl Clone for ColumnBounds {
+    ghost use Rattle.vortex_table_chunk.specs.zones.Alike.{SaysTheSame};
+
+    ghost is_clone = { SaysTheSame };
+
+    fn clone(&self) -> Result<ColumnBounds, AllocError> {
+        let low = clone_bound(&self.low)?;
+        let high = clone_bound(&self.high)?;
+        Ok(ColumnBounds {
+            low,
+            high,
+            null_count: self.null_count,
+            sum_type: self.sum_type,
+            sum: self.sum,
+            constant: self.constant,
+        })
     }
 }

@@ -11,3 +11,13 @@ invariant-loop-at l = record {
 
 abbrev pub decreases-loop-at : goal.decreases-loop-at
 decreases-loop-at l = length l.truths - l.at
+
+abbrev pub invariant-loop-at-2 : goal.invariant-loop-at-2
+invariant-loop-at-2 l = record {
+  order : l.from ≤ l.at;
+  within : l.at ≤ length l.truths;
+  truths : AreTrue l.truths l.from l.at;
+}
+
+abbrev pub decreases-loop-at-2 : goal.decreases-loop-at-2
+decreases-loop-at-2 l = length l.truths - l.at

@@ -12,5 +12,5 @@ returns-in-Some c =
     λ chunks formed group.
     many_proved plan c.requires c.args.group.now chunks formed group _ c.in-Some.bounds.items c.proves.result
     (ap (option_map (λ v. v.items)) c.in-Some.is) group.statistics
-    (c.proves.ensures ∙ ap (λ bounds. zone_proved (leaf_positions k) bounds c.args.group.now.rows plan.falsifier) c.as_slice-bounds.ensures.value
+    (c.proves.ensures ∙ ap (λ bounds. zone_proved (leaf_positions k) bounds c.args.group.now.rows plan.falsifier) c.as_slice.ensures.value
     ∙ c.requires.falsifier c.in-Some.bounds.items c.args.group.now.rows)

@@ -23,11 +23,11 @@ returns-clause-described c =
     let at_i = same_at all i g d g inside refl in
     let place = c.in_ok-place.place.items in
     let leaf = leaf_part k place c.in_ok-place.ensures.leaf in
-    let b = c.leaf_statistics.result.now in
+    let b = c.leaf_statistics-statistics.result.now in
     let rows = map chunk_rows (chunks_of t.chunks.items g) in
     let z = zone_in b (rows_in rows) in
     let joined : ∥ IsJoined k (length_in t.bound_lengths) place b rows ∥₁ =
-    subst (λ is. ∥ IsJoined k (length_in t.bound_lengths) is b rows ∥₁) c.deref.ensures.value (c.leaf_statistics.ensures.joined d) in (
+    subst (λ is. ∥ IsJoined k (length_in t.bound_lengths) is b rows ∥₁) c.deref.ensures.value (c.leaf_statistics-statistics.ensures.joined d) in (
       z,
       subst (λ is. Describes (table_of t) is i z) (sym c.in_ok-place.ensures.place)
           (column_described t i g inside at_i place leaf.part b leaf.there leaf.leaf joined),
@@ -43,12 +43,12 @@ returns-clause-statistics c =
     let at_i = same_at all i g d g inside refl in
     let place = c.in_ok-place.place.items in
     let leaf = leaf_part k place c.in_ok-place.ensures.leaf in
-    let b = c.leaf_statistics.result.now in
+    let b = c.leaf_statistics-statistics.result.now in
     let rows = map chunk_rows (chunks_of t.chunks.items g) in
     let joined : ∥ IsJoined k (length_in t.bound_lengths) place b rows ∥₁ =
-    subst (λ is. ∥ IsJoined k (length_in t.bound_lengths) is b rows ∥₁) c.deref.ensures.value (c.leaf_statistics.ensures.joined d) in
+    subst (λ is. ∥ IsJoined k (length_in t.bound_lengths) is b rows ∥₁) c.deref.ensures.value (c.leaf_statistics-statistics.ensures.joined d) in
     let bounds = leaf_bounds k (length_in t.bound_lengths) place leaf.part b rows leaf.there leaf.leaf (chunks_typed t i g inside at_i) joined in (
       b,
-      subst (λ is. statistics_at t is i ≡ Some b) (c.deref.ensures.value ∙ sym c.in_ok-place.ensures.place) c.leaf_statistics.ensures.own,
+      subst (λ is. statistics_at t is i ≡ Some b) (c.deref.ensures.value ∙ sym c.in_ok-place.ensures.place) c.leaf_statistics-statistics.ensures.own,
       record { contents = λ n. c.in_ok-description.ensures.described n bounds; types = c.in_ok-description.ensures.types },
     )

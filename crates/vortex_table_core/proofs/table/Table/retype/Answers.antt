@@ -1,12 +1,15 @@
 use Rattle.std.proofs.Common.{◌≡◌, ap, sym, subst, ◌∙◌, map, None, is_none}
 use Rattle.std.specs.Prelude.{IfSome}
+use Rattle.std.proofs.lemmas.List.Elements.{All-map}
 use Rattle.vortex_model.specs.Kept.{type_fault}
 use Rattle.vortex_model_table.specs.Table.{rows_of}
 use Rattle.vortex_model_table.specs.Command.{first_unconvertible}
+use Rattle.vortex_arrays_builder.specs.Types.{IsPlainLayout}
 use Rattle.vortex_dtype_core.specs.View.{type_of}
 use Rattle.vortex_table_schema.specs.Leaves.{leaf_positions}
 use Rattle.vortex_table_chunk.proofs.EqualLeaves.{leaves_so, leaves_same}
 use Rattle.vortex_table_chunk.proofs.Formed.{lengths_same}
+use Rattle.vortex_table_chunk.specs.declared.chunk.Chunk.{Chunk}
 use Rattle.vortex_table_schema.specs.Lengths.{length_in}
 use Rattle.vortex_table_schema.proofs.Explained.{none_so, none_both}
 use Rattle.vortex_table_zonemaps.specs.Zones.{zone_of, AreZoneMaps}
@@ -91,3 +94,12 @@ returns-in_default-clause-statistics c =
 
 pub returns-then-eq-clause-statistics : goal.returns-then-eq-clause-statistics
 returns-then-eq-clause-statistics c = λ differs. absurd (differs (c.eq.ensures.equal.0 c.if-eq.true))
+
+pub returns-in-Some-clause-layout : goal.returns-in-Some-clause-layout
+returns-in-Some-clause-layout c = λ differs. All-map IsPlainLayout (λ (x : Chunk). x.array) c.in_ok-chunks.chunks.items c.in_ok-chunks.ensures.layout
+
+pub returns-in_default-clause-layout : goal.returns-in_default-clause-layout
+returns-in_default-clause-layout c = λ differs. All-map IsPlainLayout (λ (x : Chunk). x.array) c.in_ok-chunks.chunks.items c.in_ok-chunks.ensures.layout
+
+pub returns-then-eq-clause-layout : goal.returns-then-eq-clause-layout
+returns-then-eq-clause-layout c = λ differs. absurd (differs (c.eq.ensures.equal.0 c.if-eq.true))

@@ -1,6 +1,6 @@
 use Rattle.std.proofs.Common.{ap, sym, ◌∙◌, ◌+◌, arith}
 use Rattle.vortex_table_core.proofs.Truths.{block_fits, block_true, true_on}
-use Rattle.vortex_table_core.proofs.run.past_blocks.Goals as goal
+use Rattle.vortex_table_core.proofs.run.past_true.Goals as goal
 
 pub loop-at-preserved : goal.loop-at-preserved
 loop-at-preserved c =

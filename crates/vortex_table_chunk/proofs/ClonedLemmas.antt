@@ -1,0 +1,110 @@
+-- What is true of statistics and of chunks is true of their clones.
+use Rattle.std.proofs.Common.{◌≡◌, refl, sym, ap, ◌∙◌, ℕ, List, [], ◌∷◌, map, nat_lt, Bool, true, ◌&&◌, Option, Some, None, arith}
+use Rattle.std.specs.List.{AllZip, list_all}
+use Rattle.vortex_model.specs.LogicalType.{LogicalType, eq_type}
+use Rattle.vortex_model.specs.Content.{Content, Raw, content_of}
+use Rattle.vortex_model.specs.Path.{Positions}
+use Rattle.vortex_model_table.specs.Scan.{kind_at}
+use Rattle.vortex_model_table.specs.Statistics.{Precision, absent, sum_of}
+use Rattle.vortex_model_table.specs.Typing.{sum_kind}
+use Rattle.vortex_model_table.specs.ZoneMap.{bound_of, sum_in}
+use Rattle.vortex_arrays_model.specs.Layout.{len_of, array_type_of, rows_of}
+use Rattle.vortex_table_schema.specs.Leaves.{leaf_positions}
+use Rattle.vortex_table_chunk.specs.Bounds.{AreBoundsOf, are_sums_of}
+use Rattle.vortex_table_chunk.specs.Chunk.{chunk_rows}
+use Rattle.vortex_table_chunk.specs.Cloned.{IsCloneOf}
+use Rattle.vortex_table_chunk.specs.Formed.{is_formed, eq_leaves, are_lengths_of}
+use Rattle.vortex_table_chunk.specs.Joined.{IsJoined, AreJoined, rows_in}
+use Rattle.vortex_table_chunk.specs.declared.chunk.Chunk.{Chunk}
+use Rattle.vortex_table_chunk.specs.declared.zones.bounds.Bound.{Bound}
+use Rattle.vortex_table_chunk.specs.declared.zones.bounds.ColumnBounds.{ColumnBounds}
+use Rattle.vortex_table_chunk.specs.zones.Alike.{said_by, SaysTheSame}
+use Rattle.vortex_table_chunk.specs.zones.Bounds.{bound_in, IsBoundsOf}
+use Rattle.vortex_table_chunk.specs.zones.Constancy.{known_constancy}
+use Rattle.vortex_table_chunk.specs.zones.Join.{zone_in}
+use Rattle.vortex_table_chunk.specs.zones.Sums.{int_kind_of, eq_sum_kind, known_sum}
+
+-- ---- one leaf
+
+abbrev bound_from : Option (Raw × Bool) → Precision Content
+bound_from None = absent
+bound_from (Some said) = bound_of said.1 (content_of said.0)
+
+from_said : (bound : Option Bound) → bound_in bound ≡ bound_from (said_by bound)
+from_said None = refl
+from_said (Some b) = refl
+
+same_bound : (a b : Option Bound) → said_by b ≡ said_by a → bound_in b ≡ bound_in a
+same_bound a b e = from_said b ∙ ap bound_from e ∙ sym (from_said a)
+
+own_bounds : (L : ℕ) (a b : ColumnBounds) (cs : List Content) → SaysTheSame a b → IsBoundsOf L a cs → IsBoundsOf L b cs
+own_bounds L a b cs s h = record {
+  low = same_bound a.low b.low s.low ∙ h.low;
+  high = same_bound a.high b.high s.high ∙ h.high;
+  nulls = s.nulls ∙ h.nulls;
+  total = ap known_sum s.sum ∙ h.total ∙ ap (λ t. sum_in (int_kind_of t) (sum_of cs)) (sym s.sum_type);
+  constant = ap known_constancy s.constant ∙ h.constant;
+}
+
+own_zone : (a b : ColumnBounds) (rows : ℕ) → SaysTheSame a b → zone_in b rows ≡ zone_in a rows
+own_zone a b rows s = λ i. record {
+  low = same_bound a.low b.low s.low i;
+  high = same_bound a.high b.high s.high i;
+  nulls = s.nulls i;
+  rows = rows;
+  total = known_sum (s.sum i);
+  constant = known_constancy (s.constant i);
+}
+
+-- ---- all leaves
+
+pub all_own_bounds : (lengths : List ℕ) (leaves : List Positions) (old new : List ColumnBounds) (rows : List Content) → AllZip SaysTheSame old new → AreBoundsOf lengths leaves old rows → AreBoundsOf lengths leaves new rows
+all_own_bounds lengths leaves [] [] rows s h = h
+all_own_bounds (L ∷ lengths) (is ∷ leaves) (a ∷ old) (b ∷ new) rows s h = (own_bounds L a b _ s.0 h.0, all_own_bounds lengths leaves old new rows s.1 h.1)
+all_own_bounds [] [] (a ∷ old) (b ∷ new) rows s h = absurd h
+all_own_bounds [] (is ∷ leaves) (a ∷ old) (b ∷ new) rows s h = absurd h
+all_own_bounds (L ∷ lengths) [] (a ∷ old) (b ∷ new) rows s h = absurd h
+all_own_bounds lengths leaves [] (b ∷ new) rows s h = absurd s
+all_own_bounds lengths leaves (a ∷ old) [] rows s h = absurd s
+
+own_sums : (k : LogicalType) (leaves : List Positions) (old new : List ColumnBounds) → AllZip SaysTheSame old new → are_sums_of k leaves new ≡ are_sums_of k leaves old
+own_sums k leaves [] [] s = refl
+own_sums k [] (a ∷ old) (b ∷ new) s = refl
+own_sums k (is ∷ leaves) (a ∷ old) (b ∷ new) s = λ i. eq_sum_kind (int_kind_of (s.0.sum_type i)) (sum_kind (kind_at k is)) && own_sums k leaves old new s.1 i
+own_sums k leaves [] (b ∷ new) s = absurd s
+own_sums k leaves (a ∷ old) [] s = absurd s
+
+module _ (k : LogicalType) (L : Positions → ℕ) (chunks : List (List Content)) where
+  own_joined : (is : Positions) (a b : ColumnBounds) → SaysTheSame a b → IsJoined k L is a chunks → IsJoined k L is b chunks
+  own_joined is a b s h = record {
+    made = λ part leaf. (let p = h.made part leaf in (p.0, p.1, p.2 ∙ sym (own_zone a b (rows_in chunks) s)));
+    nulls = (let e = s.nulls in let l = h.nulls in omega (arith, e, l));
+    sums = ap int_kind_of s.sum_type ∙ h.sums;
+  }
+
+  pub all_own_joined : (leaves : List Positions) (old new : List ColumnBounds) → AllZip SaysTheSame old new → AreJoined k L leaves old chunks → AreJoined k L leaves new chunks
+  all_own_joined leaves [] [] s h = h
+  all_own_joined (is ∷ leaves) (a ∷ old) (b ∷ new) s h = (own_joined is a b s.0 h.0, all_own_joined leaves old new s.1 h.1)
+  all_own_joined [] (a ∷ old) (b ∷ new) s h = absurd h
+  all_own_joined leaves [] (b ∷ new) s h = absurd s
+  all_own_joined leaves (a ∷ old) [] s h = absurd s
+
+-- ---- chunks
+
+own_formed : (L : Positions → ℕ) (k : LogicalType) (c d : Chunk) → IsCloneOf c d → is_formed L k d ≡ is_formed L k c
+own_formed L k c d s =
+    let sums : are_sums_of k d.leaves.value.items d.bounds.items ≡ are_sums_of k c.leaves.value.items c.bounds.items =
+    ap (λ leaves. are_sums_of k leaves d.bounds.items) s.leaves ∙ own_sums k c.leaves.value.items c.bounds.items d.bounds.items s.bounds in
+    λ i. nat_lt 0 (len_of (s.array i)) && (eq_type (array_type_of (s.array i)) k && (eq_leaves (s.leaves i) (leaf_positions k) && (are_lengths_of L k (s.lengths i) && sums i)))
+
+pub all_own_formed : (L : Positions → ℕ) (k : LogicalType) (old new : List Chunk) → AllZip IsCloneOf old new → list_all (is_formed L k) new ≡ list_all (is_formed L k) old
+all_own_formed L k [] [] s = refl
+all_own_formed L k (c ∷ old) (d ∷ new) s = λ i. own_formed L k c d s.0 i && all_own_formed L k old new s.1 i
+all_own_formed L k [] (d ∷ new) s = absurd s
+all_own_formed L k (c ∷ old) [] s = absurd s
+
+pub own_rows : (old new : List Chunk) → AllZip IsCloneOf old new → map chunk_rows new ≡ map chunk_rows old
+own_rows [] [] s = refl
+own_rows (c ∷ old) (d ∷ new) s = λ i. rows_of (s.0.array i) ∷ own_rows old new s.1 i
+own_rows [] (d ∷ new) s = absurd s
+own_rows (c ∷ old) [] s = absurd s
