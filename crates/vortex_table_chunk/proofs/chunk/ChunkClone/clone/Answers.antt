@@ -20,8 +20,10 @@ with_bounds-requires-clause-columns c =
 
 pub returns : goal.returns
 returns c = record {
-  array = c.in_ok-chunk.ensures.array ∙ c.in_ok-array.ensures.cases;
-  leaves = c.in_ok-chunk.ensures.leaves;
-  lengths = c.in_ok-chunk.ensures.lengths;
-  bounds = subst (AllZip SaysTheSame c.args.self.now.bounds.items) (sym c.in_ok-chunk.ensures.bounds) c.in_ok-bounds.ensures.cases.0;
+  cases = record {
+    array = c.in_ok-chunk.ensures.array ∙ c.in_ok-array.ensures.cases;
+    leaves = c.in_ok-chunk.ensures.leaves;
+    lengths = c.in_ok-chunk.ensures.lengths;
+    bounds = subst (AllZip SaysTheSame c.args.self.now.bounds.items) (sym c.in_ok-chunk.ensures.bounds) c.in_ok-bounds.ensures.cases.0;
+  };
 }
