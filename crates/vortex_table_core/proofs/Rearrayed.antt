@@ -5,6 +5,7 @@ use Rattle.std.proofs.lemmas.Bool.{cases_eq}
 use Rattle.std.proofs.lemmas.List.{length-map, map-append, take_more, take_all, get_or-map, get_or_default, get_or-set_same, get_or-set_other, length-set}
 use Rattle.vortex_model.specs.LogicalType.{LogicalType, eq_type}
 use Rattle.vortex_model.specs.Path.{Positions}
+use Rattle.vortex_model_table.proofs.ContentOrder.{true_left, true_right}
 use Rattle.vortex_arrays_model.specs.Layout.{Layout, len_of, array_type_of, rows_of}
 use Rattle.vortex_arrays_model.proofs.RowsLemmas.{row_count}
 use Rattle.vortex_table_schema.specs.Leaves.{leaf_positions}
@@ -17,10 +18,12 @@ use Rattle.vortex_table_chunk.specs.Formed.{is_formed, eq_leaves, are_lengths_of
 use Rattle.vortex_table_chunk.specs.Joined.{AreJoined, rows_in}
 use Rattle.vortex_table_chunk.specs.declared.chunk.Chunk.{Chunk}
 use Rattle.vortex_table_chunk.specs.declared.zones.bounds.ColumnBounds.{ColumnBounds}
+use Rattle.vortex_table_chunk.proofs.Formed.{of_type}
 use Rattle.vortex_table_chunk.proofs.TypedRows.{chunk_counted}
 use Rattle.vortex_table_zonemaps.specs.Zones.{zone_of}
-use Rattle.vortex_table_layout.specs.Compacted.{IsCompacted, HasTooManyItems}
-use Rattle.vortex_table_core.specs.Arrays.{AreAllCompacted, AnyHasTooManyItems}
+use Rattle.vortex_table_layout.specs.Compacted.{IsCompactedAs}
+use Rattle.vortex_table_layout.specs.TooManyElements.{HasTooManyElements, AnyHasTooManyElements}
+use Rattle.vortex_table_core.specs.Arrays.{AreAllCompacted}
 use Rattle.vortex_table_core.specs.Group.{HasStatistics, IsGroup, AreGroups}
 use Rattle.vortex_table_core.specs.WithArrays.{IsWithArray, AreWithArrays}
 use Rattle.vortex_table_core.specs.declared.group.Group.{Group}
@@ -218,7 +221,7 @@ pub record FirstCompacted (old : List Layout) (n : ℕ) (new : List Layout) : Ty
   pub rows : map rows_of new ≡ map rows_of (take n old)
   pub kinds : map array_type_of new ≡ map array_type_of (take n old)
 
-one_compacted : (old new : List Layout) (a b : Layout) → AreAllCompacted old new → IsCompacted a b → AreAllCompacted (old ++ a ∷ []) (new ++ b ∷ [])
+one_compacted : (old new : List Layout) (a b : Layout) → AreAllCompacted old new → IsCompactedAs a b → AreAllCompacted (old ++ a ∷ []) (new ++ b ∷ [])
 one_compacted [] [] a b h c = (c, tt)
 one_compacted (x ∷ old) (y ∷ new) a b h c = (h.0, one_compacted old new a b h.1 c)
 one_compacted [] (y ∷ new) a b h c = absurd h
@@ -228,7 +231,7 @@ pub first_none : (old new : List Layout) → length new ≡ 0 → FirstCompacted
 first_none old [] e = record { compacted = tt; rows = refl; kinds = refl }
 first_none old (x ∷ new) e = absurd (omega (arith, e))
 
-pub first_more : (chunks : List Chunk) (n : ℕ) (new next : List Layout) (c : Chunk) (b : Layout) → FirstCompacted (map (λ (c : Chunk). c.array) chunks) n new → n < length chunks → c ≡ get_or chunks n c → IsCompacted c.array b → rows_of b ≡ rows_of c.array → array_type_of b ≡ array_type_of c.array → next ≡ new ++ b ∷ [] → FirstCompacted (map (λ (c : Chunk). c.array) chunks) (n + 1) next
+pub first_more : (chunks : List Chunk) (n : ℕ) (new next : List Layout) (c : Chunk) (b : Layout) → FirstCompacted (map (λ (c : Chunk). c.array) chunks) n new → n < length chunks → c ≡ get_or chunks n c → IsCompactedAs c.array b → rows_of b ≡ rows_of c.array → array_type_of b ≡ array_type_of c.array → next ≡ new ++ b ∷ [] → FirstCompacted (map (λ (c : Chunk). c.array) chunks) (n + 1) next
 first_more chunks n new next c b h l e comp rows kind made =
     let all = map (λ (c : Chunk). c.array) chunks in
     let here : get_or all n c.array ≡ c.array = get_or-map (λ (c : Chunk). c.array) chunks n c c.array l ∙ ap (λ (x : Chunk). x.array) (sym e) in
@@ -251,17 +254,19 @@ all_rows chunks n new h l = h.rows ∙ ap (map rows_of) (first_all chunks n l)
 pub all_kinds : (chunks : List Chunk) (n : ℕ) (new : List Layout) → FirstCompacted (map (λ (c : Chunk). c.array) chunks) n new → length chunks ≤ n → map array_type_of new ≡ map array_type_of (map (λ (c : Chunk). c.array) chunks)
 all_kinds chunks n new h l = h.kinds ∙ ap (map array_type_of) (first_all chunks n l)
 
-too_many_there : (chunks : List Chunk) (n : ℕ) (c : Chunk) → n < length chunks → c ≡ get_or chunks n c → HasTooManyItems c.array → AnyHasTooManyItems (map (λ (c : Chunk). c.array) chunks)
-too_many_there [] n c l e h = absurd (omega arith)
-too_many_there (x ∷ chunks) zero c l e h = inl (subst (λ (y : Chunk). HasTooManyItems y.array) e h)
-too_many_there (x ∷ chunks) (suc n) c l e h = inr (too_many_there chunks n c (omega (arith, l)) e h)
+too_many_there : (L : Positions → ℕ) (k : LogicalType) (chunks : List Chunk) (n : ℕ) (c : Chunk) → list_all (is_formed L k) chunks ≡ true → n < length chunks → c ≡ get_or chunks n c → HasTooManyElements (array_type_of c.array) (rows_of c.array) → AnyHasTooManyElements k (map chunk_rows chunks)
+too_many_there L k [] n c f l e h = absurd (omega arith)
+too_many_there L k (x ∷ chunks) zero c f l e h =
+    inl (subst (λ t. HasTooManyElements t (chunk_rows x)) (of_type L k x (true_left (is_formed L k x) (list_all (is_formed L k) chunks) f)) (subst (λ (y : Chunk). HasTooManyElements (array_type_of y.array) (rows_of y.array)) e h))
+too_many_there L k (x ∷ chunks) (suc n) c f l e h =
+    inr (too_many_there L k chunks n c (true_right (is_formed L k x) (list_all (is_formed L k) chunks) f) (omega (arith, l)) e h)
 
-pub one_refused : (chunks : List Chunk) (n : ℕ) (c : Chunk) (x : TableError) → n < length chunks → c ≡ get_or chunks n c → Explains (HasTooManyItems c.array) None x → Explains (AnyHasTooManyItems (map (λ (c : Chunk). c.array) chunks)) None x
-one_refused chunks n c error.Memory l e h = tt
-one_refused chunks n c error.Total l e h = too_many_there chunks n c l e h
-one_refused chunks n c x l e h = h
+pub one_refused : (L : Positions → ℕ) (k : LogicalType) (chunks : List Chunk) (n : ℕ) (c : Chunk) (x : TableError) → list_all (is_formed L k) chunks ≡ true → n < length chunks → c ≡ get_or chunks n c → Explains (HasTooManyElements (array_type_of c.array) (rows_of c.array)) None x → Explains (AnyHasTooManyElements k (map chunk_rows chunks)) None x
+one_refused L k chunks n c error.Memory f l e h = tt
+one_refused L k chunks n c error.Total f l e h = too_many_there L k chunks n c f l e h
+one_refused L k chunks n c x f l e h = h
 
 pub no_memory : (P : Type 0) (x : TableError) → x ≡ error.Memory → Explains P None x
 no_memory P x h = subst (Explains P None) (sym h) tt
 
-pub ruleset arrays = (first_none, first_more, all_compacted, all_rows, all_kinds, one_refused, no_memory)
+pub ruleset arrays = (first_none, first_more, all_compacted, all_rows, all_kinds, no_memory)

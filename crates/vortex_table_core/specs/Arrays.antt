@@ -2,7 +2,7 @@
 use Rattle.std.specs.Prelude.{◌≡◌, ◌⊎◌, List, [], ◌∷◌, ◌++◌, map}
 use Rattle.vortex_model.specs.LogicalType.{LogicalType}
 use Rattle.vortex_arrays_model.specs.Layout.{Layout}
-use Rattle.vortex_table_layout.specs.Compacted.{IsCompacted, HasTooManyItems}
+use Rattle.vortex_table_layout.specs.Compacted.{IsCompactedAs}
 use Rattle.vortex_table_layout.specs.Hinted.{HasHintedColumns}
 use Rattle.vortex_table_layout.specs.HintedAnew.{IsHintedArray}
 use Rattle.vortex_table_layout.specs.Kept.{KeepsLayout}
@@ -32,10 +32,5 @@ pub record IsTakenBy (k : LogicalType) (hints : List hint.Layout) (given taken :
 -- one to one, the new arrays are the old ones compacted
 abbrev pub AreAllCompacted : List Layout → List Layout → Type 0
 AreAllCompacted [] [] = Unit {0}
-AreAllCompacted (a ∷ old) (b ∷ new) = IsCompacted a b × AreAllCompacted old new
+AreAllCompacted (a ∷ old) (b ∷ new) = IsCompactedAs a b × AreAllCompacted old new
 AreAllCompacted old new = ⊥
-
--- one of the arrays has lists with too many items
-abbrev pub AnyHasTooManyItems : List Layout → Type 0
-AnyHasTooManyItems [] = ⊥
-AnyHasTooManyItems (a ∷ arrays) = HasTooManyItems a ⊎ AnyHasTooManyItems arrays

@@ -3,7 +3,8 @@ ghost use Rattle.std.specs.Prelude.{◌≡◌, None, map, IfOk, IfErr};
 ghost use Rattle.vortex_arrays_model.specs.Layout.{array_type_of, rows_of};
 ghost use Rattle.vortex_table_schema.specs.Error.{Explains};
 ghost use Rattle.vortex_table_chunk.specs.Chunk.{chunk_rows};
-ghost use Rattle.vortex_table_layout.specs.Compacted.{IsCompacted, HasTooManyItems};
+ghost use Rattle.vortex_table_layout.specs.Compacted.{IsCompactedAs};
+ghost use Rattle.vortex_table_layout.specs.TooManyElements.{HasTooManyElements};
 ghost use Rattle.vortex_table_core.specs.WithArrays.{IsWithArray, AreWithArrays};
 
 use crate::table::Table;
@@ -33,9 +34,10 @@ impl Table {
     ghost use Rattle.vortex_table_schema.specs.Error.{Explains};
     ghost use Rattle.vortex_table_schema.specs.declared.error.TableError.TheVariants.{Total};
     ghost use Rattle.vortex_table_core.specs.Append.{AppendsArray};
-    ghost use Rattle.vortex_table_core.specs.Arrays.{arrays_of, AddsArray, IsTakenAs, IsTakenBy, AreAllCompacted, AnyHasTooManyItems};
+    ghost use Rattle.vortex_table_core.specs.Arrays.{arrays_of, AddsArray, IsTakenAs, IsTakenBy, AreAllCompacted};
     ghost use Rattle.vortex_table_core.specs.Kept.{AddsAChunk, ShowsTheSame};
     ghost use Rattle.vortex_table_core.specs.TableView.{table_of};
+    ghost use Rattle.vortex_table_core.specs.Totals.{PassesTotal};
 
     /// Keeps the rows of an array of records as one new chunk, as `append` does: no rows make none,
     /// and after an error the table is as before. The array is given up, also where it is refused.
@@ -45,8 +47,7 @@ impl Table {
     /// the rows don't have counts for statistics.
     ///
     /// Refused, in this order: where a table can't hold the array's type; `NotConvertible` with the
-    /// first row that the table's type can't hold; `Total` as in `append`. A layout that stays is
-    /// only counted.
+    /// first row that the type can't hold; `Total` as in `append`. What stays is only counted.
     pub fn append_array(&mut self, array: ArrayRef) -> Result<(), TableError>
         ensures appends { AppendsArray (table_of self.old) (array_type_of array) (rows_of array)
             result (table_of self.new) }
@@ -117,10 +118,9 @@ impl Table {
 
     /// Rebuilds the list views of all chunks that are reached through records alone: their lists
     /// stand end to end then, and are known to. Rows, statistics and groups stay. After an error
-    /// the table is as before.
+    /// the table is as before. Lists under null records become empty where else they are too many.
     ///
-    /// Refused, `Total`, where the rows of a list view have together more items than can be
-    /// counted.
+    /// Refused, `Total`, where the lists of a column have too many elements in a chunk to count.
     pub fn compact(&mut self) -> Result<(), TableError>
         ensures compacted { OnOk result (AreAllCompacted (arrays_of self.old)
             (arrays_of self.new)) }
@@ -129,8 +129,8 @@ impl Table {
             ≡ map (λ c. c.bounds.items) self.old.chunks.items) }
         ensures groups { OnOk result (self.new.groups ≡ self.old.groups) }
         ensures refused { IfErr result
-            (λ e. Explains (AnyHasTooManyItems (arrays_of self.old)) (refusal (table_of self.old)
-            compact) e) }
+            (λ e. Explains (PassesTotal (Some (table_of self.old)) compact)
+            (refusal (table_of self.old) compact) e) }
         ensures unchanged { OnErr result (self.new ≡ self.old) }
     {
         let alloc = *self.chunks.allocator();
@@ -142,14 +142,13 @@ impl Table {
     // The arrays of all chunks, compacted.
     #[tactic(auto, using(crate::proofs::Rearrayed::arrays))]
     fn compacted_arrays(&self, alloc: Global) -> Result<Vec<ArrayRef>, TableError>
-        ensures compacted { IfOk result
-            (λ arrays. AreAllCompacted (arrays_of self.now) arrays.items) }
+        ensures compacted { IfOk result (λ new. AreAllCompacted (arrays_of self.now) new.items) }
         ensures rows { IfOk result
-            (λ arrays. map rows_of arrays.items ≡ map rows_of (arrays_of self.now)) }
+            (λ new. map rows_of new.items ≡ map rows_of (arrays_of self.now)) }
         ensures types { IfOk result
-            (λ arrays. map array_type_of arrays.items ≡ map array_type_of (arrays_of self.now)) }
+            (λ new. map array_type_of new.items ≡ map array_type_of (arrays_of self.now)) }
         ensures refused { IfErr result
-            (λ e. Explains (AnyHasTooManyItems (arrays_of self.now)) None e) }
+            (λ e. Explains (PassesTotal (Some (table_of self.now)) compact) None e) }
     {
         let mut arrays = Vec::with_capacity(alloc, self.chunks.len())?;
         for chunk in &self.chunks {
@@ -171,10 +170,11 @@ impl Table {
 }
 
 fn compacted(alloc: Global, array: &ArrayRef) -> Result<ArrayRef, TableError>
-    ensures compacted { IfOk result (λ new. IsCompacted array.now new) }
+    ensures compacted { IfOk result (λ new. IsCompactedAs array.now new) }
     ensures rows { IfOk result (λ new. rows_of new ≡ rows_of array.now) }
     ensures dtype { IfOk result (λ new. array_type_of new ≡ array_type_of array.now) }
-    ensures refused { IfErr result (λ e. Explains (HasTooManyItems array.now) None e) }
+    ensures refused { IfErr result (λ e. Explains
+        (HasTooManyElements (array_type_of array.now) (rows_of array.now)) None e) }
 {
     match compact_array(alloc, array) {
         Ok(array) => Ok(array),

@@ -1,19 +1,18 @@
 -- Arrays whose list views are rebuilt.
-use Rattle.std.proofs.Common.{◌≡◌, ◌<◌, ◌+◌, ℕ, zero, suc, cond, List, [], ◌∷◌, ◌++◌, length, get_or, refl, sym, ap, subst, ◌∙◌, arith, inl, inr}
-use Rattle.std.proofs.lemmas.Bool.{cases_eq}
-use Rattle.std.proofs.lemmas.List.{get_or_append_left, get_or_push, length_push}
+use Rattle.std.proofs.Common.{◌≡◌, ◌<◌, ℕ, zero, suc, cond, List, [], ◌∷◌, length, get_or, refl, sym, ap, subst, ◌∙◌, arith, inl, inr}
 use Rattle.vortex_model.specs.LogicalType.{struct, field}
 use Rattle.vortex_model.specs.Content.{null, tuple, first}
 use Rattle.vortex_arrays_view.specs.declared.error.ArrayError.{ArrayError}
 use Rattle.vortex_arrays_view.specs.declared.error.ArrayError.TheVariants as error
 use Rattle.vortex_arrays_model.specs.Layout.{Layout, list_views, records, Valid, Columns, no_columns, column, len_of, array_type_of, fields_of, nullability_by, content_at, is_valid, row_at, rows_of, IsSound, HaveLength}
 use Rattle.vortex_arrays_model.specs.Parts.{columns_of}
-use Rattle.vortex_arrays_model.proofs.PicksLemmas.{have_length, field_size, each_length}
+use Rattle.vortex_arrays_model.proofs.PicksLemmas.{field_size}
 use Rattle.vortex_arrays_model.proofs.RebuiltLemmas.{rebuilt_rows, rebuilt_kind}
 use Rattle.vortex_arrays_model.proofs.RowsLemmas.{row_at_position, row_count, rows_by_position}
 use Rattle.vortex_arrays_nested.specs.ListViews.{IsListViews}
 use Rattle.vortex_arrays_rebuild.specs.Rebuilds.{IsRebuiltView, IsTotalFault}
-use Rattle.vortex_table_layout.specs.Compacted.{IsCompacted, AreCompacted, HaveTooManyItems, IsCompactFault, IsColumnsFault}
+use Rattle.vortex_table_layout.specs.Compacted.{IsCompacted, AreCompacted, HaveTooManyItems, IsWholeFault, IsColumnsFault}
+use Rattle.vortex_table_layout.proofs.MadeColumns.{FirstMade, first_none, first_more, first_many, first_fit}
 
 -- ---- what stays
 
@@ -65,61 +64,28 @@ pub lists_made : (a r : Layout) → IsListViews a → IsRebuiltView a r → IsCo
 lists_made (list_views e o s f v) r t h = h
 lists_made a r t h = absurd t
 
-pub lists_fault : (x : ArrayError) (a : Layout) → IsListViews a → IsTotalFault x a → IsCompactFault x a
+pub lists_fault : (x : ArrayError) (a : Layout) → IsListViews a → IsTotalFault x a → IsWholeFault x a
 lists_fault error.Memory a t h = tt
 lists_fault error.Total (list_views e o s f v) t h = h
 lists_fault error.Total a t h = absurd t
 lists_fault x a t h = absurd h
 
-pub no_memory : (x : ArrayError) (a : Layout) → x ≡ error.Memory → IsCompactFault x a
-no_memory x a h = subst (λ y. IsCompactFault y a) (sym h) tt
+pub no_memory : (x : ArrayError) (a : Layout) → x ≡ error.Memory → IsWholeFault x a
+no_memory x a h = subst (λ y. IsWholeFault y a) (sym h) tt
 
 -- ---- records
 
 pub records_made : (a : Layout) (cs ds : Columns) (n : ℕ) (v : Valid) → a ≡ records cs n v → AreCompacted cs ds → IsCompacted a (records ds n v)
 records_made a cs ds n v e h = subst (λ x. IsCompacted x (records ds n v)) (sym e) (refl, refl, h)
 
-pub records_fault : (x : ArrayError) (a : Layout) (cs : Columns) (n : ℕ) (v : Valid) → a ≡ records cs n v → IsColumnsFault x cs → IsCompactFault x a
+pub records_fault : (x : ArrayError) (a : Layout) (cs : Columns) (n : ℕ) (v : Valid) → a ≡ records cs n v → IsColumnsFault x cs → IsWholeFault x a
 records_fault error.Memory a cs n v e h = tt
-records_fault error.Total a cs n v e h = subst (λ x. IsCompactFault error.Total x) (sym e) h
+records_fault error.Total a cs n v e h = subst (λ x. IsWholeFault error.Total x) (sym e) h
 records_fault x a cs n v e h = absurd h
 
 pub ruleset layouts = (lists_made, lists_fault, records_made, records_fault, no_memory)
 
 -- ---- the columns, one after the other
-
--- the first n of the columns are compacted
-pub record FirstCompacted (fs : List Layout) (n : ℕ) (xs : List Layout) : Type 0 where
-  pub many : length xs ≡ n
-  pub each : (k : ℕ) (d : Layout) → k < n → IsCompacted (get_or fs k d) (get_or xs k d)
-  pub sound : (k : ℕ) (d : Layout) → k < n → IsSound (get_or xs k d)
-
-pub first_none : (fs : List Layout) (xs : List Layout) → length xs ≡ 0 → FirstCompacted fs 0 xs
-first_none fs xs e = record { many = e; each = λ k d l. absurd (omega arith); sound = λ k d l. absurd (omega arith) }
-
-same_array : (fs : List Layout) (k : ℕ) (a d : Layout) → k < length fs → a ≡ get_or fs k a → a ≡ get_or fs k d
-same_array [] k a d l e = absurd (omega arith)
-same_array (x ∷ fs) zero a d l e = e
-same_array (x ∷ fs) (suc k) a d l e = same_array fs k a d (omega (arith, l)) e
-
-pub first_more : (fs : List Layout) (n : ℕ) (xs ys : List Layout) (a b : Layout) → FirstCompacted fs n xs → n < length fs → a ≡ get_or fs n a → IsCompacted a b → IsSound b → ys ≡ xs ++ b ∷ [] → FirstCompacted fs (n + 1) ys
-first_more fs n xs ys a b h l e c s made = subst (FirstCompacted fs (n + 1)) (sym made) (record {
-  many = length_push xs b ∙ ap (λ k. k + 1) h.many;
-  each = λ k d q. elim (cases_eq k n) [
-    | inl same ↦
-        let here : a ≡ get_or fs k d = same_array fs k a d (subst (λ i. i < length fs) (sym same) l) (subst (λ i. a ≡ get_or fs i a) (sym same) e) in
-        subst (λ x. IsCompacted x (get_or (xs ++ b ∷ []) k d)) here (subst (IsCompacted a) (sym (get_or_push xs b d k (h.many ∙ sym same))) c)
-    | inr other ↦
-        let before : k < n = omega (arith, other) in
-        subst (IsCompacted (get_or fs k d)) (sym (get_or_append_left xs (b ∷ []) d k (let m = h.many in omega (arith, m)))) (h.each k d before)
-  ];
-  sound = λ k d q. elim (cases_eq k n) [
-    | inl same ↦ subst IsSound (sym (get_or_push xs b d k (h.many ∙ sym same))) s
-    | inr other ↦
-        let before : k < n = omega (arith, other) in
-        subst IsSound (sym (get_or_append_left xs (b ∷ []) d k (let m = h.many in omega (arith, m)))) (h.sound k d before)
-  ];
-})
 
 all_compacted : (ns : List (List ℕ)) (fs xs : List Layout) → length xs ≡ length fs → ((k : ℕ) (d : Layout) → k < length fs → IsCompacted (get_or fs k d) (get_or xs k d)) → AreCompacted (columns_of ns fs) (columns_of ns xs)
 all_compacted ns [] (x ∷ xs) e h = absurd (omega (arith, e))
@@ -129,27 +95,20 @@ all_compacted (y ∷ ns) [] [] e h = tt
 all_compacted [] (a ∷ fs) (x ∷ xs) e h = (refl, h 0 a (omega arith), all_compacted [] fs xs (omega (arith, e)) (λ k d l. h (suc k) d (omega arith)))
 all_compacted (y ∷ ns) (a ∷ fs) (x ∷ xs) e h = (refl, h 0 a (omega arith), all_compacted ns fs xs (omega (arith, e)) (λ k d l. h (suc k) d (omega arith)))
 
-pub first_all : (ns : List (List ℕ)) (fs : List Layout) (n : ℕ) (xs : List Layout) → FirstCompacted fs n xs → n ≡ length fs → AreCompacted (columns_of ns fs) (columns_of ns xs)
+pub first_all : (ns : List (List ℕ)) (fs : List Layout) (n : ℕ) (xs : List Layout) → FirstMade IsCompacted fs n xs → n ≡ length fs → AreCompacted (columns_of ns fs) (columns_of ns xs)
 first_all ns fs n xs h e = all_compacted ns fs xs (h.many ∙ e) (λ k d l. h.each k d (omega (arith, l, e)))
 
-pub first_fit : (ns : List (List ℕ)) (fs : List Layout) (n m : ℕ) (xs : List Layout) → FirstCompacted fs n xs → n ≡ length fs → HaveLength (columns_of ns fs) m → HaveLength (columns_of ns xs) m
-first_fit ns fs n m xs h e fit =
-    let many : length xs ≡ length fs = h.many ∙ e in
-    have_length ns xs m
-    (λ k d l. h.sound k d (omega (arith, l, many, e)))
-    (λ k d l. compacted_len (get_or fs k d) (get_or xs k d) (h.each k d (omega (arith, l, many, e))) ∙ each_length ns fs m k d fit (omega (arith, l, many)))
+pub compacted_fit : (ns : List (List ℕ)) (fs : List Layout) (n m : ℕ) (xs : List Layout) → FirstMade IsCompacted fs n xs → n ≡ length fs → HaveLength (columns_of ns fs) m → HaveLength (columns_of ns xs) m
+compacted_fit ns fs n m xs h e fit = first_fit IsCompacted compacted_len ns fs n m xs h e fit
 
-pub first_many : (fs : List Layout) (n : ℕ) (xs : List Layout) → FirstCompacted fs n xs → n ≡ length fs → length xs ≡ length fs
-first_many fs n xs h e = h.many ∙ e
-
-too_many_there : (ns : List (List ℕ)) (fs : List Layout) (k : ℕ) (a : Layout) → k < length fs → a ≡ get_or fs k a → IsCompactFault error.Total a → HaveTooManyItems (columns_of ns fs)
+too_many_there : (ns : List (List ℕ)) (fs : List Layout) (k : ℕ) (a : Layout) → k < length fs → a ≡ get_or fs k a → IsWholeFault error.Total a → HaveTooManyItems (columns_of ns fs)
 too_many_there ns [] k a l e h = absurd (omega arith)
-too_many_there [] (b ∷ fs) zero a l e h = inl (subst (IsCompactFault error.Total) e h)
-too_many_there (x ∷ ns) (b ∷ fs) zero a l e h = inl (subst (IsCompactFault error.Total) e h)
+too_many_there [] (b ∷ fs) zero a l e h = inl (subst (IsWholeFault error.Total) e h)
+too_many_there (x ∷ ns) (b ∷ fs) zero a l e h = inl (subst (IsWholeFault error.Total) e h)
 too_many_there [] (b ∷ fs) (suc k) a l e h = inr (too_many_there [] fs k a (omega (arith, l)) e h)
 too_many_there (x ∷ ns) (b ∷ fs) (suc k) a l e h = inr (too_many_there ns fs k a (omega (arith, l)) e h)
 
-pub field_fault : (x : ArrayError) (ns : List (List ℕ)) (fs : List Layout) (k : ℕ) (a : Layout) → k < length fs → a ≡ get_or fs k a → IsCompactFault x a → IsColumnsFault x (columns_of ns fs)
+pub field_fault : (x : ArrayError) (ns : List (List ℕ)) (fs : List Layout) (k : ℕ) (a : Layout) → k < length fs → a ≡ get_or fs k a → IsWholeFault x a → IsColumnsFault x (columns_of ns fs)
 field_fault error.Memory ns fs k a l e h = tt
 field_fault error.Total ns fs k a l e h = too_many_there ns fs k a l e h
 field_fault x ns fs k a l e h = absurd h
@@ -157,4 +116,4 @@ field_fault x ns fs k a l e h = absurd h
 pub no_memory_there : (x : ArrayError) (cs : Columns) → x ≡ error.Memory → IsColumnsFault x cs
 no_memory_there x cs h = subst (λ y. IsColumnsFault y cs) (sym h) tt
 
-pub ruleset fields = (first_none, first_more, first_all, first_fit, first_many, field_fault, no_memory_there, field_size)
+pub ruleset fields = (first_none, first_more, first_all, compacted_fit, first_many, field_fault, no_memory_there, field_size)

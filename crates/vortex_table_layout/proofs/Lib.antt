@@ -1,4 +1,6 @@
 pub mod CompactLemmas
+mod MadeColumns
+mod ShownLemmas
 mod ConstantLemmas
 mod DictionaryLemmas
 mod FitsLemmas

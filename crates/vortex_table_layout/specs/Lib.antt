@@ -1,3 +1,4 @@
+pub mod TooManyElements
 pub mod Compacted
 pub mod Hinted
 pub mod HintedAnew

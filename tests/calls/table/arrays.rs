@@ -95,6 +95,43 @@ pub fn lists_are_compacted(alloc: Global, checks: &mut Checks<'_>) -> Result<(),
     Ok(())
 }
 
+/// Two lists of 2^63 sevens, which overlap, under null records, and a list of two sevens.
+fn long_under_null(alloc: Global) -> Result<ArrayRef, TableError> {
+    let seven = Scalar::primitive(7i32, Nullability::NonNullable);
+    let elements = ArrayRef::of_constant(alloc, seven, 1 << 63)?;
+    let offsets = numbers(alloc, &[0u64, 0, 1], Validity::NonNullable)?;
+    let sizes = numbers(alloc, &[1u64 << 63, 1 << 63, 2], Validity::NonNullable)?;
+    let views = ListViewArray::try_new(alloc, elements, offsets, sizes, Validity::NonNullable);
+    let lists = answered(views)?.into_array();
+    let inner = records(alloc, "l", lists, valid_where(alloc, &[false, false, true])?)?;
+    records(alloc, "p", inner, Validity::NonNullable)
+}
+
+/// Whether the records in the first column have list views with these elements and sizes.
+fn has_lists_inside(table: &Table, elements: &[i128], sizes: &[i128]) -> bool {
+    let Some(ArrayLayout::Struct(_, fields, _, _)) = column_in(table, 0, 0).map(|p| p.layout())
+    else {
+        return false;
+    };
+    match fields.get(0).map(|lists| lists.layout()) {
+        Some(ArrayLayout::ListView(all, _, counts, flag, _)) => {
+            *flag && holds(all, elements) && holds(counts, sizes)
+        }
+        _ => false,
+    }
+}
+
+/// Where the lists under null records are too long together, they become empty.
+pub fn long_lists_under_null_are_left_out(
+    alloc: Global,
+    checks: &mut Checks<'_>,
+) -> Result<(), TableError> {
+    let mut table = table_of(alloc, long_under_null(alloc)?)?;
+    table.compact()?;
+    checks.holds("long lists under null", has_lists_inside(&table, &[7, 7], &[0, 0, 2]));
+    Ok(())
+}
+
 /// What stands under a null record is no value.
 pub fn values_under_null_are_not_read(
     alloc: Global,

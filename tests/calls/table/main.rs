@@ -55,6 +55,7 @@ fn run_all(alloc: Global, checks: &mut Checks<'_>) -> Result<(), TableError> {
     rules::proofs_may_be_at_fault(alloc, checks)?;
     checks.end_part("rules may be at fault");
     arrays::lists_are_compacted(alloc, checks)?;
+    arrays::long_lists_under_null_are_left_out(alloc, checks)?;
     arrays::values_under_null_are_not_read(alloc, checks)?;
     arrays::arrays_convert(alloc, checks)?;
     checks.end_part("arrays are appended");
