@@ -7,7 +7,7 @@ use Rattle.vortex_table_core.specs.TableView.{table_of}
 use Rattle.vortex_table_run.specs.CommandAnswers.{error_answer}
 use Rattle.vortex_table_run.specs.State.{table_in}
 use Rattle.vortex_table_run.proofs.Errors.{no_rule}
-use Rattle.vortex_table_run.proofs.Responding.{without_table, refused_for, too_many}
+use Rattle.vortex_table_run.proofs.Responding.{without_table, refused_for}
 use Rattle.vortex_table_run.proofs.session.Session.answer_compact.Goals as goal
 
 pub returns-in_default : goal.returns-in_default
@@ -22,6 +22,6 @@ returns-in-Err c = λ out.
     let same = ap (λ t. Some (table_of t)) c.in-Err.ensures.unchanged in (
       error_answer e,
       refused_for _ (table_in c.args.self.now) (Some (table_of c.compact.new.self)) (table_of c.in-Some.table) compact e there same
-          (too_many c.in-Some.table.chunks.items) c.in-Err.ensures.refused (λ h. refl),
+          (λ h. h) c.in-Err.ensures.refused (λ h. refl),
       c.fault.ensures out (no_rule _ _ e c.in-Err.ensures.refused),
     )
