@@ -1,5 +1,5 @@
 -- Arrays whose lists are empty under null records.
-use Rattle.std.proofs.Common.{◌≡◌, ◌<◌, ◌≤◌, ◌+◌, ◌^◌, ◌&&◌, ℕ, zero, suc, pos, Bool, true, false, cond, List, [], ◌∷◌, length, map, get_or, replicate, sum_by, refl, sym, ap, subst, ◌∙◌, arith, inl, inr}
+use Rattle.std.proofs.Common.{◌≡◌, ◌<◌, ◌≤◌, ◌+◌, ◌^◌, ◌&&◌, ℕ, suc, pos, Bool, true, false, cond, List, [], ◌∷◌, length, map, get_or, replicate, sum_by, refl, sym, ap, subst, ◌∙◌, arith, inl, inr}
 use Rattle.std.specs.List.{range_with_len}
 use Rattle.std.proofs.lemmas.List.{get_or-map, length-map, get_or-replicate}
 use Rattle.std.proofs.lemmas.List.FromFn.{get_or-map-range_with_len, length-map-range_with_len}
@@ -12,7 +12,6 @@ use Rattle.vortex_arrays_view.specs.declared.error.ArrayError.TheVariants as err
 use Rattle.vortex_arrays_model.specs.Layout.{Layout, list_views, records, Valid, Columns, no_columns, column, len_of, array_type_of, fields_of, nullability_by, content_at, is_valid, number_in, span, row_at, rows_of, IsSound, IsView, HaveLength}
 use Rattle.vortex_arrays_model.specs.Parts.{columns_of}
 use Rattle.vortex_arrays_model.specs.Canonical.{counts, listed, items_of}
-use Rattle.vortex_arrays_model.proofs.CanonicalLemmas.{listed-span}
 use Rattle.vortex_arrays_model.proofs.PicksLemmas.{field_size}
 use Rattle.vortex_arrays_model.proofs.RowsLemmas.{row_at_position, row_count, rows_by_position}
 use Rattle.vortex_arrays_core.proofs.Reading.{offsets_are_integers}
@@ -20,7 +19,7 @@ use Rattle.vortex_arrays_validity.specs.Places.{places_or}
 use Rattle.vortex_arrays_validity.proofs.PlaceLemmas.{place_count, place_read, number_named}
 use Rattle.vortex_arrays_rebuild.specs.Rebuilds.{total_of}
 use Rattle.vortex_table_layout.specs.TooManyElements.{size_of, HasTooManyElements, HaveTooManyElements}
-use Rattle.vortex_table_layout.specs.Compacted.{IsCompacted, HasTooManyItems, HaveTooManyItems, HasSeenLists, IsShown, AreShown, IsCompactedShown, IsCompactedAs, IsWholeFault, IsCompactFault}
+use Rattle.vortex_table_layout.specs.Compacted.{IsCompacted, HasTooManyItems, HaveTooManyItems, HasSeenLists, IsShown, AreShown, IsCompactedAs, IsWholeFault, IsCompactFault}
 use Rattle.vortex_table_layout.proofs.CompactLemmas.{compacted_type, compacted_rows}
 use Rattle.vortex_table_layout.proofs.MadeColumns.{FirstMade, first_none, first_more, first_many, first_fit}
 
