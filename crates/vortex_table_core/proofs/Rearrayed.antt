@@ -269,4 +269,4 @@ one_refused L k chunks n c x f l e h = h
 pub no_memory : (P : Type 0) (x : TableError) → x ≡ error.Memory → Explains P None x
 no_memory P x h = subst (Explains P None) (sym h) tt
 
-pub ruleset arrays = (first_none, first_more, all_compacted, all_rows, all_kinds, no_memory)
+pub ruleset arrays = (first_none, first_more, all_compacted, all_rows, all_kinds, one_refused, no_memory)
