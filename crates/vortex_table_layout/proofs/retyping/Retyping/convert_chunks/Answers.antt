@@ -1,6 +1,6 @@
-use Rattle.std.proofs.Common.{ap, sym, subst, ◌∙◌, ◌+◌, drop, map, rules, arith}
+use Rattle.std.proofs.Common.{ap, sym, subst, ◌++◌, ◌∷◌, [], ◌∙◌, ◌+◌, drop, map, rules, arith}
 use Rattle.std.specs.List.{All}
-use Rattle.std.proofs.lemmas.List.Elements.{All-push}
+use Rattle.std.proofs.lemmas.List.Elements.{All-nil, All-push}
 use Rattle.vortex_model_table.specs.Command.{first_unconvertible}
 use Rattle.vortex_arrays_builder.specs.Types.{IsPlainLayout}
 use Rattle.vortex_table_schema.specs.Error.{Explains}
