@@ -39,7 +39,8 @@ invariant_of-result c =
       measured = (λ i. are_lengths_of (far i) (kind i) (lengths i)) ∙ t.measured;
       formed = (λ i. list_all (is_formed (far i) (kind i)) new) ∙ all_own_formed L k old new z ∙ t.formed;
       counted = sym (all_counted new) ∙ ap rows_in (own_rows old new z) ∙ all_counted old ∙ t.counted;
-      grouped = subst (λ p. AreGroups p.0 p.1 0 groups new) (λ i. (sym kind i, sym far i)) (own_groups k L 0 t.groups groups new s (groups_again k L 0 t.groups old new (own_rows old new z) t.grouped));
+      grouped = subst (λ x. AreGroups x M 0 groups new) (sym kind) (subst (λ f. AreGroups k f 0 groups new) (sym far)
+          (own_groups k L 0 t.groups groups new s (groups_again k L 0 t.groups old new (own_rows old new z) t.grouped)));
       zoned = subst (λ cs. AreZoneMaps c.in_ok-zones.zones (map zone_of cs)) c.deref-2.ensures.value c.in_ok-zones.ensures;
     }
 
