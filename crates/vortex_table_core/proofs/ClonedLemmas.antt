@@ -1,5 +1,5 @@
 -- What is true of the chunks and the groups of a table is true of their clones.
-use Rattle.std.proofs.Common.{◌≡◌, refl, sym, ap, subst, ◌∙◌, ℕ, zero, suc, ◌+◌, ◌<◌, List, [], ◌∷◌, map, take, drop, Option, Some, None, option_map}
+use Rattle.std.proofs.Common.{◌≡◌, refl, sym, ap, subst, ◌∙◌, ℕ, zero, suc, ◌+◌, ◌<◌, List, [], ◌∷◌, map, take, drop, Option, Some, None, option_map, Vec, Global}
 use Rattle.std.specs.List.{AllZip}
 use Rattle.std.proofs.Math.Logic.{∥∥₁_map}
 use Rattle.vortex_model.specs.LogicalType.{LogicalType}
@@ -45,6 +45,14 @@ zip_behind R (suc n) (x ∷ xs) (y ∷ ys) z = zip_behind R n xs ys z.1
 zip_behind R (suc n) [] (y ∷ ys) z = absurd z
 zip_behind R (suc n) (x ∷ xs) [] z = absurd z
 
+-- ---- equal items
+
+pub all_same : {X : Type 0} (R : X → X → Type 0) → ((x y : X) → R x y → y ≡ x) → (xs ys : List X) → AllZip R xs ys → ys ≡ xs
+all_same R one [] [] z = refl
+all_same R one (x ∷ xs) (y ∷ ys) z = λ i. one x y z.0 i ∷ all_same R one xs ys z.1 i
+all_same R one [] (y ∷ ys) z = absurd z
+all_same R one (x ∷ xs) [] z = absurd z
+
 -- ---- groups
 
 abbrev pub BothSay : Option (List ColumnBounds) → Option (List ColumnBounds) → Type 0
@@ -57,6 +65,35 @@ pub record IsSameGroup (old new : Group) : Type 0 where
   pub chunks : new.chunks ≡ old.chunks
   pub rows : new.rows ≡ old.rows
   pub joined : BothSay (option_map (λ v. v.items) old.joined) (option_map (λ v. v.items) new.joined)
+
+abbrev pub Many : Type 0
+Many = Vec ColumnBounds Global
+
+abbrev pub with_joined : Group → Option Many → Group
+with_joined g o = record { first = g.first; chunks = g.chunks; rows = g.rows; joined = o }
+
+-- what the clone of a group says, as a relation
+module _ (R : Group → Group → Type 0)
+    (first : (g h : Group) → R g h → h.first ≡ g.first)
+    (chunks : (g h : Group) → R g h → h.chunks ≡ g.chunks)
+    (rows : (g h : Group) → R g h → h.rows ≡ g.rows)
+    (both : (g h : Group) (v w : Many) → R (with_joined g (Some v)) (with_joined h (Some w)) → SayTheSame v.items w.items)
+    (lost : (g h : Group) (v : Many) → R (with_joined g (Some v)) (with_joined h None) → ⊥)
+    (won : (g h : Group) (v : Many) → R (with_joined g None) (with_joined h (Some v)) → ⊥) where
+  joined_same : (g h : Group) (o p : Option Many) → R (with_joined g o) (with_joined h p) → BothSay (option_map (λ v. v.items) o) (option_map (λ v. v.items) p)
+  joined_same g h None None r = tt
+  joined_same g h (Some v) (Some w) r = both g h v w r
+  joined_same g h None (Some w) r = absurd (won g h w r)
+  joined_same g h (Some v) None r = absurd (lost g h v r)
+
+  pub groups_same : (gs hs : List Group) → AllZip R gs hs → AllZip IsSameGroup gs hs
+  groups_same [] [] z = tt
+  groups_same (g ∷ gs) (h ∷ hs) z = (
+    record { first = first g h z.0; chunks = chunks g h z.0; rows = rows g h z.0; joined = joined_same g h g.joined h.joined z.0 },
+    groups_same gs hs z.1,
+  )
+  groups_same [] (h ∷ hs) z = absurd z
+  groups_same (g ∷ gs) [] z = absurd z
 
 pub own_sizes : (gs hs : List Group) → AllZip IsSameGroup gs hs → map (λ (g : Group). g.chunks) hs ≡ map (λ (g : Group). g.chunks) gs
 own_sizes [] [] z = refl

@@ -15,7 +15,7 @@ use Rattle.vortex_table_chunk.proofs.TypedRows.{all_counted}
 use Rattle.vortex_table_zonemaps.specs.Zones.{zone_of, AreZoneMaps}
 use Rattle.vortex_table_core.specs.Group.{AreGroups}
 use Rattle.vortex_table_core.specs.TableView.{table_of}
-use Rattle.vortex_table_core.proofs.ClonedLemmas.{IsSameGroup, own_arrays, own_bounds, own_groups, own_sizes, own_statistics}
+use Rattle.vortex_table_core.proofs.ClonedLemmas.{IsSameGroup, all_same, groups_same, own_arrays, own_bounds, own_groups, own_sizes, own_statistics}
 use Rattle.vortex_table_core.proofs.Rearrayed.{groups_again}
 use Rattle.vortex_table_core.proofs.table.Table.clone.Goals as goal
 
@@ -25,9 +25,12 @@ invariant_of-result c =
     let l = type_of c.in_ok-dtype.dtype in let M = length_in c.in_ok-bound_lengths.bound_lengths in
     let old = t.chunks.items in let new = c.in_ok-chunks.chunks.items in let groups = c.in_ok-groups.groups in
     let z : AllZip IsCloneOf old new = c.in_ok-chunks.ensures.cases.0 in
-    let s : AllZip IsSameGroup t.groups groups = groups_same t.groups groups c.in_ok-groups.ensures in
+    let s : AllZip IsSameGroup t.groups groups = groups_same _ (λ g h r. r.0) (λ g h r. r.1.0) (λ g h r. r.1.1.0) (λ g h v w r. r.1.1.1.0) (λ g h v r. r.1.1.1) (λ g h v r. r.1.1.1) t.groups groups c.in_ok-groups.ensures in
     let kind : l ≡ k = c.in_ok-dtype.ensures.cases in
-    let far : M ≡ L = lengths_same t.bound_lengths c.in_ok-bound_lengths.bound_lengths c.in_ok-bound_lengths.ensures.cases in
+    let bound = c.in_ok-bound_lengths.bound_lengths in let says = c.in_ok-bound_lengths.ensures.cases in
+    let entries : bound.entries.items ≡ t.bound_lengths.entries.items =
+    all_same _ (λ x y r. sym r.3 ∙ (λ i. (all_same _ (λ a b e. e) _ _ r.4.0.0 i, r.4.1 i)) ∙ r.2) t.bound_lengths.entries.items bound.entries.items says.1.0 in
+    let far : M ≡ L = λ i. length_for (entries i) (says.0 i) in
     let leaves : c.in_ok-leaves.leaves.value.items ≡ t.leaves.value.items = ap (λ v. v.items) c.in_ok-leaves.ensures.cases in
     let lengths : c.in_ok-lengths.lengths.value.items ≡ t.lengths.value.items = ap (λ v. v.items) c.in_ok-lengths.ensures.cases in
     record {
@@ -36,7 +39,8 @@ invariant_of-result c =
       measured = (λ i. are_lengths_of (far i) (kind i) (lengths i)) ∙ t.measured;
       formed = (λ i. list_all (is_formed (far i) (kind i)) new) ∙ all_own_formed L k old new z ∙ t.formed;
       counted = sym (all_counted new) ∙ ap rows_in (own_rows old new z) ∙ all_counted old ∙ t.counted;
-      grouped = subst (λ p. AreGroups p.0 p.1 0 groups new) (λ i. (sym kind i, sym far i)) (own_groups k L 0 t.groups groups new s (groups_again k L 0 t.groups old new (own_rows old new z) t.grouped));
+      grouped = subst (λ x. AreGroups x M 0 groups new) (sym kind) (subst (λ f. AreGroups k f 0 groups new) (sym far)
+          (own_groups k L 0 t.groups groups new s (groups_again k L 0 t.groups old new (own_rows old new z) t.grouped)));
       zoned = subst (λ cs. AreZoneMaps c.in_ok-zones.zones (map zone_of cs)) c.deref-2.ensures.value c.in_ok-zones.ensures;
     }
 
@@ -45,13 +49,15 @@ returns c =
     let t = c.args.self.now in
     let old = t.chunks.items in let new = c.in_ok-chunks.chunks.items in let groups = c.in_ok-groups.groups in
     let z : AllZip IsCloneOf old new = c.in_ok-chunks.ensures.cases.0 in
-    let s : AllZip IsSameGroup t.groups groups = groups_same t.groups groups c.in_ok-groups.ensures in
-    let bound = c.in_ok-bound_lengths.ensures.cases in
+    let s : AllZip IsSameGroup t.groups groups = groups_same _ (λ g h r. r.0) (λ g h r. r.1.0) (λ g h r. r.1.1.0) (λ g h v w r. r.1.1.1.0) (λ g h v r. r.1.1.1) (λ g h v r. r.1.1.1) t.groups groups c.in_ok-groups.ensures in
+    let bound = c.in_ok-bound_lengths.bound_lengths in let says = c.in_ok-bound_lengths.ensures.cases in
+    let entries : bound.entries.items ≡ t.bound_lengths.entries.items =
+    all_same _ (λ x y r. sym r.3 ∙ (λ i. (all_same _ (λ a b e. e) _ _ r.4.0.0 i, r.4.1 i)) ∙ r.2) t.bound_lengths.entries.items bound.entries.items says.1.0 in
     record {
       table = λ i. record {
         kind = c.in_ok-dtype.ensures.cases i;
-        default = same_default bound i;
-        lengths = same_entries bound i;
+        default = says.0 i;
+        lengths = entries i;
         chunks = own_rows old new z i;
         groups = own_sizes t.groups groups s i;
       };
