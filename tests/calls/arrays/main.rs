@@ -18,6 +18,7 @@ mod lists;
 mod make_arrays;
 mod masks;
 mod numbers;
+mod places;
 mod rebuilt;
 mod records;
 mod refusing;
@@ -54,6 +55,8 @@ fn of_any_layout(alloc: Global, checks: &mut Checks<'_>) -> Result<(), DTypeErro
     checks.end_part("arrays are built of values");
     validities::run(alloc, checks)?;
     checks.end_part("validities say which rows are null");
+    places::run(alloc, checks)?;
+    checks.end_part("numbers are places, and bits are joined");
     Ok(())
 }
 

@@ -7,6 +7,7 @@ mod dictionaries;
 mod falsifiers;
 mod lower_bounds;
 mod make_arrays;
+mod matching;
 mod orders;
 mod placeholders;
 mod precision;
@@ -40,6 +41,8 @@ fn run(alloc: Global, checks: &mut Checks<'_>) -> Done {
     checks.end_part("values that bound nothing, and intersections");
     orders::run(alloc, checks)?;
     checks.end_part("orders of values");
+    matching::run(alloc, checks)?;
+    checks.end_part("columns that are compared, and LIKE");
     proofs::run(alloc, checks)?;
     checks.end_part("proofs with their columns resolved");
     rules::run(alloc, checks)?;

@@ -17,6 +17,7 @@ mod long;
 mod make;
 mod make_arrays;
 mod memory;
+mod picked;
 mod refusing;
 mod rules;
 mod scans;
@@ -40,6 +41,10 @@ fn run_all(alloc: Global, checks: &mut Checks<'_>) -> Result<(), TableError> {
     checks.end_part("paths cut rows together");
     leaves::chunks_are_skipped_by_any_leaf(alloc, checks)?;
     checks.end_part("chunks are skipped by any leaf");
+    picked::rows_are_found_in_any_layout(alloc, checks)?;
+    picked::nulls_of_dictionaries_are_not_found(alloc, checks)?;
+    picked::rows_are_selected_where_they_stand(alloc, checks)?;
+    checks.end_part("rows are found in any layout");
     groups::groups_are_joined(alloc, checks)?;
     checks.end_part("groups are joined");
     groups::groups_are_looked_at_first(alloc, checks)?;
@@ -54,6 +59,8 @@ fn run_all(alloc: Global, checks: &mut Checks<'_>) -> Result<(), TableError> {
     rules::rules_may_be_at_fault(alloc, checks)?;
     rules::proofs_may_be_at_fault(alloc, checks)?;
     checks.end_part("rules may be at fault");
+    rules::proofs_may_be_never_true(alloc, checks)?;
+    checks.end_part("proofs may be never true");
     arrays::lists_are_compacted(alloc, checks)?;
     arrays::values_under_null_are_not_read(alloc, checks)?;
     arrays::arrays_convert(alloc, checks)?;

@@ -2,7 +2,7 @@
 
 use crate::checks::Checks;
 use crate::layouts::{answered, numbers, told};
-use crate::make::{cell, integers, scalar, scan, truth};
+use crate::make::{cell, column, constant, integers, scalar, scan, truth};
 use crate::refusing::{refuse_all, took_none};
 use std::alloc::{AllocError, Global};
 use std::rc::Rc;
@@ -12,6 +12,7 @@ use vortex_dtype::{
     StructFields,
 };
 use vortex_scalar::{Scalar, ScalarValue};
+use vortex_table::expr::gt;
 use vortex_table::table::{Description, Layout, Precision, ScanAnswer, Table, TableError};
 
 /// The columns of each table here.
@@ -27,13 +28,17 @@ struct Seen {
     chunks: usize,
     groups: usize,
     rows: ScanAnswer,
+    above: ScanAnswer,
     told: Vec<Description>,
     layouts: Vec<i128>,
 }
 
-/// All that can be seen of a table.
+/// All that can be seen of a table: bounds also by the chunks that a scan skips.
 fn seen(alloc: Global, table: &Table) -> Result<Seen, TableError> {
     let rows = scan(alloc, table, &truth(true)?)?;
+    let most = Some(ScalarValue::Utf8(BufferString::from_static("ci")));
+    let most = constant(DType::Utf8(Nullability::NonNullable), most)?;
+    let above = scan(alloc, table, &gt(alloc, column(alloc, "s")?, most)?)?;
     let mut told = Vec::new(alloc);
     for group in 0..table.group_count() {
         for name in ["a", "s"] {
@@ -51,6 +56,7 @@ fn seen(alloc: Global, table: &Table) -> Result<Seen, TableError> {
         chunks: table.chunk_count(),
         groups: table.group_count(),
         rows,
+        above,
         told,
         layouts,
     })
@@ -100,6 +106,16 @@ fn is_same_description(one: &Description, other: &Description) -> bool {
         && one.constant == other.constant
 }
 
+/// Whether a scan found the same.
+fn is_same_answer(one: &ScanAnswer, other: &ScanAnswer) -> bool {
+    one.rows.as_slice() == other.rows.as_slice()
+        && one.dtype == other.dtype
+        && one.skipped.as_slice() == other.skipped.as_slice()
+        && one.whole.as_slice() == other.whole.as_slice()
+        && one.rows_tested == other.rows_tested
+        && one.proofs == other.proofs
+}
+
 /// Whether the same is seen, the layouts aside.
 fn is_same_table(one: &Seen, other: &Seen) -> bool {
     let mut are_told = one.told.len() == other.told.len();
@@ -110,10 +126,8 @@ fn is_same_table(one: &Seen, other: &Seen) -> bool {
         && one.len == other.len
         && one.chunks == other.chunks
         && one.groups == other.groups
-        && one.rows.rows.as_slice() == other.rows.rows.as_slice()
-        && one.rows.dtype == other.rows.dtype
-        && one.rows.whole.as_slice() == other.rows.whole.as_slice()
-        && one.rows.proofs == other.rows.proofs
+        && is_same_answer(&one.rows, &other.rows)
+        && is_same_answer(&one.above, &other.above)
 }
 
 /// The outcome of a command, behind which the table has to be as before where it is refused.
@@ -224,6 +238,10 @@ pub fn refused_commands_leave_tables(
     let outcome = table.append_array(array);
     judged(alloc, checks, "append_array without memory", &table, &before, outcome)?;
     let before = seen(alloc, &table)?;
+    let array = two_rows(alloc)?;
+    let outcome = table.append_hinted(array, &[Layout::Constant, Layout::Dictionary]);
+    judged(alloc, checks, "append_hinted without memory", &table, &before, outcome)?;
+    let before = seen(alloc, &table)?;
     let outcome = table.join(1);
     judged(alloc, checks, "join without memory", &table, &before, outcome)?;
     let joined = table.describe(alloc, &FieldPath::from_names(alloc, &["s"])?, 1)?;
@@ -237,8 +255,10 @@ pub fn refused_commands_leave_tables(
     let outcome = table.compact();
     judged(alloc, checks, "compact without memory", &table, &before, outcome)?;
     let last = seen(alloc, &table)?;
-    checks.holds("what commands leave", last.len == 8 && last.chunks == 5 && last.groups == 4);
+    checks.holds("what commands leave", last.len == 10 && last.chunks == 6 && last.groups == 5);
     checks.holds("what compact leaves", is_same_table(&before, &last));
+    let skipped = last.above.skipped.as_slice();
+    checks.holds("chunks without a text above", skipped == [1, 2, 4, 5].as_slice());
     let all = told(alloc, &table, &["a"], 1)?;
     checks.holds("a joined group", all == [Some(3), Some(4), Some(0), Some(7), Some(0)]);
     Ok(())
