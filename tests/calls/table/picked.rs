@@ -198,8 +198,14 @@ pub fn rows_are_selected_where_they_stand(
         kept.push((all, wanted.rows))?;
     }
     let all = table.select(alloc, &paths, &truth(true)?)?.selection;
-    let rows: usize = all.selections.iter().map(|it| it.rows.len()).sum();
-    checks.holds("select all", rows == ALL.len() && all.whole.len() == CHUNKS.len());
+    let mut same = all.selections.len() == CHUNKS.len();
+    for (selection, chunk) in all.selections.iter().zip(CHUNKS) {
+        same = same && selection.rows.len() == chunk.len();
+        for (place, row) in selection.rows.iter().enumerate() {
+            same = same && *row == place;
+        }
+    }
+    checks.holds("select all", same && all.whole.as_slice() == [0, 1, 2, 3, 4].as_slice());
     let unknown = [FieldPath::from_names(alloc, &["z"])?];
     let refused = match table.select(alloc, &unknown, &truth(true)?) {
         Ok(_answer) => None,

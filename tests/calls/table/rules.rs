@@ -182,7 +182,7 @@ pub fn rules_add_proofs(alloc: Global, checks: &mut Checks<'_>) -> Result<(), Ta
     let whole = scan_not(alloc, &table, false, &rules)?;
     checks.holds(
         "two rules: whole",
-        whole.rows.len() == 2 && whole.rows_tested == 0 && whole.proofs == 2,
+        begin_with(&whole, &[1, 2]) && whole.rows_tested == 0 && whole.proofs == 2,
     );
     checks.holds("two rules: taken whole", whole.whole.as_slice() == [0].as_slice());
     Ok(())
@@ -229,7 +229,7 @@ pub fn rules_may_be_at_fault(alloc: Global, checks: &mut Checks<'_>) -> Result<(
     };
     checks.holds("a path goes first", path == Some(TableError::UnknownPath(0)));
     let answer = scan_not(alloc, &table, false, &[])?;
-    checks.holds("the table stays", answer.rows.len() == 2 && table.chunk_count() == 1);
+    checks.holds("the table stays", begin_with(&answer, &[1, 2]) && table.chunk_count() == 1);
     Ok(())
 }
 
