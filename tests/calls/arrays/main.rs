@@ -25,6 +25,7 @@ mod refusing;
 mod rows;
 mod strings;
 mod structs;
+mod totals;
 mod validities;
 mod views;
 
@@ -86,6 +87,7 @@ fn of_one_layout(alloc: Global, checks: &mut Checks<'_>) -> Result<(), DTypeErro
     structs::run(alloc, checks)?;
     checks.end_part("records have their parts");
     ends::run(alloc, checks)?;
+    totals::run(alloc, checks)?;
     checks.end_part("integers are read from bytes, validities put end to end");
     Ok(())
 }

@@ -6,7 +6,7 @@ use crate::make::{cell, column, constant, integers, scalar, scan, truth};
 use crate::refusing::{refuse_all, took_none};
 use std::alloc::{AllocError, Global};
 use std::rc::Rc;
-use vortex_arrays::{ArrayLayout, ArrayRef, StructArray, Validity};
+use vortex_arrays::{ArrayLayout, ArrayRef, ListViewArray, StructArray, Validity};
 use vortex_dtype::{
     BufferString, DType, FieldName, FieldNames, FieldPath, Nullability, PType, StructField,
     StructFields,
@@ -195,15 +195,11 @@ fn three_chunks(alloc: Global) -> Result<Table, TableError> {
     Ok(table)
 }
 
-/// The rows 9, 10, of another width.
-fn two_rows(alloc: Global) -> Result<ArrayRef, TableError> {
+/// Two records of these numbers, of equal texts and of these lists.
+fn two_records(alloc: Global, first: ArrayRef, lists: ArrayRef) -> Result<ArrayRef, TableError> {
     let texts = scalar(DType::Utf8(Nullability::NonNullable), text(alloc, 9)?)?;
-    let items = scalar(lists(alloc)?, list(alloc, 10)?)?;
-    let fields = vec![in alloc;
-        numbers(alloc, &[9i64, 10], Validity::NonNullable)?,
-        ArrayRef::of_constant(alloc, texts, 2)?,
-        ArrayRef::of_constant(alloc, items, 2)?,
-    ]?;
+    let texts = ArrayRef::of_constant(alloc, texts, 2)?;
+    let fields = vec![in alloc; first, texts, lists]?;
     let mut names = Vec::new(alloc);
     for name in NAMES {
         names.push(FieldName::new(alloc, name)?)?;
@@ -211,6 +207,23 @@ fn two_rows(alloc: Global) -> Result<ArrayRef, TableError> {
     let names = Rc::new(alloc, FieldNames::new(names))?;
     let records = StructArray::try_new(alloc, names, fields, 2, Validity::NonNullable);
     Ok(answered(records)?.into_array())
+}
+
+/// The rows 9, 10, of another width.
+fn two_rows(alloc: Global) -> Result<ArrayRef, TableError> {
+    let first = numbers(alloc, &[9i64, 10], Validity::NonNullable)?;
+    let items = scalar(lists(alloc)?, list(alloc, 10)?)?;
+    let items = ArrayRef::of_constant(alloc, items, 2)?;
+    two_records(alloc, first, items)
+}
+
+/// Two records of these numbers, with lists that overlap until they are compacted.
+fn overlapping(alloc: Global, first: ArrayRef) -> Result<ArrayRef, TableError> {
+    let elements = numbers(alloc, &[1i32, 2, 3], Validity::NonNullable)?;
+    let offsets = numbers(alloc, &[0u32, 1], Validity::NonNullable)?;
+    let sizes = numbers(alloc, &[3u8, 2], Validity::NonNullable)?;
+    let views = ListViewArray::try_new(alloc, elements, offsets, sizes, Validity::NonNullable);
+    two_records(alloc, first, answered(views)?.into_array())
 }
 
 /// Whether an inexact bound is this text.
@@ -242,6 +255,10 @@ pub fn refused_commands_leave_tables(
     let outcome = table.append_hinted(array, &[Layout::Constant, Layout::Dictionary]);
     judged(alloc, checks, "append_hinted without memory", &table, &before, outcome)?;
     let before = seen(alloc, &table)?;
+    let array = overlapping(alloc, numbers(alloc, &[11i32, 12], Validity::NonNullable)?)?;
+    let outcome = table.append_array(array);
+    judged(alloc, checks, "append_array, kept, without memory", &table, &before, outcome)?;
+    let before = seen(alloc, &table)?;
     let outcome = table.join(1);
     judged(alloc, checks, "join without memory", &table, &before, outcome)?;
     let joined = table.describe(alloc, &FieldPath::from_names(alloc, &["s"])?, 1)?;
@@ -251,14 +268,18 @@ pub fn refused_commands_leave_tables(
     let wide = columns(alloc, DType::Primitive(PType::I64, Nullability::Nullable))?;
     let outcome = table.retype(wide);
     judged(alloc, checks, "retype without memory", &table, &before, outcome)?;
+    let first = numbers(alloc, &[13i64, 14], Validity::AllValid)?;
+    table.append_array(overlapping(alloc, first)?)?;
     let before = seen(alloc, &table)?;
     let outcome = table.compact();
     judged(alloc, checks, "compact without memory", &table, &before, outcome)?;
     let last = seen(alloc, &table)?;
-    checks.holds("what commands leave", last.len == 10 && last.chunks == 6 && last.groups == 5);
+    checks.holds("what commands leave", last.len == 14 && last.chunks == 8 && last.groups == 7);
     checks.holds("what compact leaves", is_same_table(&before, &last));
+    let is_another = before.layouts.as_slice() != last.layouts.as_slice();
+    checks.holds("a layout that compact changes", is_another);
     let skipped = last.above.skipped.as_slice();
-    checks.holds("chunks without a text above", skipped == [1, 2, 4, 5].as_slice());
+    checks.holds("chunks without a text above", skipped == [1, 2, 4, 5, 6, 7].as_slice());
     let all = told(alloc, &table, &["a"], 1)?;
     checks.holds("a joined group", all == [Some(3), Some(4), Some(0), Some(7), Some(0)]);
     Ok(())

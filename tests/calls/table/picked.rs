@@ -48,6 +48,7 @@ fn pair(row: &Scalar) -> Option<(i128, i128)> {
 
 /// What a scan has to find: the rows of these numbers, and which chunks it skips, with how many
 /// rows the others have, which are all tested.
+#[derive(Drop)]
 struct Wanted {
     rows: &'static [usize],
     skipped: &'static [usize],

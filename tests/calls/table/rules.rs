@@ -261,6 +261,7 @@ fn three_chunks(alloc: Global) -> Result<Table, TableError> {
 }
 
 /// What a scan has to find: the rows, the chunks that it skips and takes whole, and its counts.
+#[derive(Clone, Copy, Drop)]
 struct Wanted {
     rows: &'static [i128],
     skipped: &'static [usize],

@@ -34,9 +34,9 @@ fn source_in_memory(checks: &mut Checks<'_>) {
     let none = source.read(&mut room[..0]);
     checks.holds("a read without room", none.is_ok_and(|n| n == 0) && !source.ended());
     let first = source.read(&mut room);
-    checks.holds("a read", first.is_ok_and(|n| n == 4) && room[..4] == *b"abcd".as_slice());
+    checks.holds("a read", first.is_ok_and(|n| n == 4) && &room[..4] == b"abcd".as_slice());
     let second = source.read(&mut room);
-    checks.holds("the rest", second.is_ok_and(|n| n == 2) && room[..2] == *b"ef".as_slice());
+    checks.holds("the rest", second.is_ok_and(|n| n == 2) && &room[..2] == b"ef".as_slice());
     checks.holds("not at the end", !source.ended() && !source.failed());
     let last = source.read(&mut room);
     checks.holds("the end", last.is_ok_and(|n| n == 0) && source.ended() && !source.failed());
@@ -82,6 +82,7 @@ fn failing_flush(alloc: Global, checks: &mut Checks<'_>) -> Result<(), AllocErro
 
 /// A reader of so many letters, and a writer, whose calls are counted. Each call passes two bytes
 /// on at most, and the call of one number fails.
+#[derive(Drop)]
 struct Counted {
     left: usize,
     taken: usize,
@@ -138,29 +139,41 @@ impl Write for Counted {
 /// didn't fail there.
 fn taps(checks: &mut Checks<'_>) {
     let mut reader = Counted::new(3, 4);
-    let mut source = Tap::new(&mut reader);
+    read_tap(checks, Tap::new(&mut reader));
+    checks.holds("as many reads below", reader.calls == 5);
+    let mut writer = Counted::new(0, 3);
+    write_tap(checks, Tap::new(&mut writer));
+    checks.holds("as many writes below", writer.calls == 4 && writer.taken == 3);
+}
+
+/// Of three letters, where the fourth call fails.
+fn read_tap(checks: &mut Checks<'_>, mut source: Tap<&mut Counted>) {
     let mut room = [0u8; 8];
     let first = source.read(&mut room);
-    checks.holds("a read of a tap", first.is_ok_and(|n| n == 2) && room[..2] == [b'd', b'c']);
+    checks.holds("a read of a tap", first.is_ok_and(|n| n == 2) && &room[..2] == b"dc".as_slice());
     let second = source.read(&mut room);
     checks.holds("another", second.is_ok_and(|n| n == 1) && room[0] == b'b' && !source.ended());
     let third = source.read(&mut room);
-    checks.holds("its end", third.is_ok_and(|n| n == 0) && source.ended() && !source.failed());
+    checks.holds("its end", third.is_ok_and(|n| n == 0) && source.ended());
+    checks.holds("no failure", !Source::failed(&source));
     let fourth = source.read(&mut room);
-    let is_interrupted = fourth.is_err_and(|error| error.kind() == ErrorKind::Interrupted);
-    checks.holds("its failure", is_interrupted && source.failed());
+    let is_interrupted = match &fourth {
+        Ok(_) => false,
+        Err(error) => error.kind() == ErrorKind::Interrupted,
+    };
+    checks.holds("its failure", is_interrupted && Source::failed(&source));
     let fifth = source.read(&mut room);
-    checks.holds("a read behind it", fifth.is_ok_and(|n| n == 0) && source.failed());
-    checks.holds("as many reads below", reader.calls == 5);
-    let mut writer = Counted::new(0, 3);
-    let mut sink = Tap::new(&mut writer);
+    checks.holds("a read behind it", fifth.is_ok_and(|n| n == 0) && Source::failed(&source));
+}
+
+/// Of a writer whose third call fails.
+fn write_tap(checks: &mut Checks<'_>, mut sink: Tap<&mut Counted>) {
     let first = sink.write(b"abc");
-    checks.holds("a write of a tap", first.is_ok_and(|n| n == 2) && !sink.failed());
-    checks.holds("its flush", sink.flush().is_ok() && !sink.failed());
-    checks.holds("its failing flush", sink.flush().is_err() && sink.failed());
+    checks.holds("a write of a tap", first.is_ok_and(|n| n == 2) && !Sink::failed(&sink));
+    checks.holds("its flush", sink.flush().is_ok() && !Sink::failed(&sink));
+    checks.holds("its failing flush", sink.flush().is_err() && Sink::failed(&sink));
     let second = sink.write(b"d");
-    checks.holds("a write behind it", second.is_ok_and(|n| n == 1) && sink.failed());
-    checks.holds("as many writes below", writer.calls == 4 && writer.taken == 3);
+    checks.holds("a write behind it", second.is_ok_and(|n| n == 1) && Sink::failed(&sink));
 }
 
 /// A run on taps makes no call behind one that failed, and one flush at its end.
@@ -206,11 +219,12 @@ pub fn short_texts(checks: &mut Checks<'_>) {
     checks.holds("a text", text.as_bytes() == b"ab\n\xff".as_slice() && text.len() == 4);
     text.push_bytes(&[b'c'; 92]);
     let all = text.as_bytes();
-    let same = all[..4] == *b"ab\n\xff".as_slice() && all[4..].iter().all(|it| *it == b'c');
+    let same = &all[..4] == b"ab\n\xff".as_slice() && all[4..].iter().all(|it| *it == b'c');
     checks.holds("a full text", same && all.len() == 96 && text.len() == 96 && !text.is_empty());
 }
 
 /// What a session answers to one line: its buffer, a text, or that all went well.
+#[derive(Clone, Copy, Drop)]
 enum Wanted {
     Line(&'static str),
     Short(&'static str),
@@ -250,7 +264,7 @@ fn is_answer(response: &Response, out: &[u8], wanted: &Wanted) -> bool {
     match (response, wanted) {
         (Response::Written, Wanted::Line(text)) => {
             out.len() == text.len() + 1
-                && out[..text.len()] == *text.as_bytes()
+                && &out[..text.len()] == text.as_bytes()
                 && out[text.len()] == b'\n'
         }
         (Response::Short(text), Wanted::Short(wanted)) => text.as_bytes() == wanted.as_bytes(),
