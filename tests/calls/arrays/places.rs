@@ -3,9 +3,11 @@
 
 use crate::arrays::{bools, numbers, strings_of};
 use crate::checks::Checks;
-use crate::make_arrays::valid_where;
+use crate::make_arrays::{holds, valid_where};
 use std::alloc::Global;
-use vortex_arrays::{ArrayError, ArrayRef, BitBuffer, Buffer, PrimitiveBuffer, Validity};
+use vortex_arrays::{
+    ArrayError, ArrayRef, BitBuffer, Buffer, DictArray, PrimitiveBuffer, Validity,
+};
 use vortex_dtype::{DTypeError, Nullability};
 use vortex_scalar::{Scalar, ScalarConstructors};
 
@@ -48,6 +50,13 @@ fn of_arrays(alloc: Global, checks: &mut Checks<'_>) -> Result<(), DTypeError> {
     let values = numbers(alloc, &[9i32, 3], Validity::NonNullable)?;
     let array = ArrayRef::of_dict(alloc, codes, values, false)?;
     checks.holds("are_within of a dictionary", array.are_within(4) && !array.are_within(3));
+    match DictArray::of_array(array) {
+        Ok(array) => {
+            checks.holds("codes", holds(array.codes(), &[Some(1), Some(1)]));
+            checks.holds("values", holds(array.values(), &[Some(9), Some(3)]));
+        }
+        Err(_other) => checks.holds("of_array of a dictionary", false),
+    }
     Ok(())
 }
 
@@ -59,7 +68,7 @@ fn kinds(alloc: Global, checks: &mut Checks<'_>) -> Result<(), DTypeError> {
     checks.holds("is_non_nullable_bool of nullable ones", !or_null.is_non_nullable_bool());
     let unsigned = numbers(alloc, &[1u16], Validity::AllValid)?;
     let signed = numbers(alloc, &[1i16], Validity::NonNullable)?;
-    let texts = strings_of(alloc, &[b"a"], Validity::NonNullable)?;
+    let texts = strings_of(alloc, &[b"a".as_slice()], Validity::NonNullable)?;
     checks.holds("is_integer", unsigned.is_integer() && signed.is_integer());
     checks.holds("is_integer of others", !truths.is_integer() && !texts.is_integer());
     checks.holds("is_unsigned", unsigned.is_unsigned() && !signed.is_unsigned());
@@ -128,8 +137,8 @@ fn joined_validities(alloc: Global, checks: &mut Checks<'_>) -> Result<(), DType
         valid_where(alloc, &[true, true, false, false])?,
         Validity::Array(ArrayRef::of_constant(alloc, Scalar::bool(true, WITHOUT), 4)?),
     ];
-    for mine in &all {
-        for theirs in &all {
+    for mine in all.iter() {
+        for theirs in all.iter() {
             let both = mine.and(alloc, theirs, 4)?;
             let may_be_null = |it: &Validity| it.nullability().is_nullable();
             let is_nullable = may_be_null(mine) || may_be_null(theirs);

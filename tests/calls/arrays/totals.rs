@@ -5,7 +5,7 @@ use crate::make_arrays::answered;
 use std::alloc::Global;
 use std::rc::Rc;
 use vortex_arrays::{
-    ArrayError, ArrayRef, StructArray, StructArrayConcat, Validity, ValidityConcat,
+    ArrayError, ArrayRef, StructArray, StructArrayConcat, Validity, ValidityConcat, ValidityExt,
 };
 use vortex_dtype::{DTypeError, FieldName, FieldNames, Nullability};
 use vortex_scalar::{Scalar, ScalarConstructors};

@@ -5,6 +5,7 @@ mod bounds;
 mod checks;
 mod dictionaries;
 mod falsifiers;
+mod forms;
 mod lower_bounds;
 mod make_arrays;
 mod matching;
@@ -49,6 +50,8 @@ fn run(alloc: Global, checks: &mut Checks<'_>) -> Done {
     checks.end_part("rules of the caller");
     falsifiers::run(alloc, checks).map_err(of_stats)?;
     checks.end_part("falsifiers of LIKE, of floats and of literals");
+    forms::run(alloc, checks).map_err(of_stats)?;
+    checks.end_part("expressions by their operators and functions");
     placeholders::run(alloc, checks).map_err(of_stats)?;
     checks.end_part("values of placeholders");
     refusals::run(alloc, checks).map_err(of_stats)?;

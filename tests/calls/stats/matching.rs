@@ -1,11 +1,12 @@
 //! LIKE by itself, ends of ranges, and comparisons of columns that lie in slices.
 
 use crate::checks::Checks;
-use crate::values::{Done, Value, bytes, number, text};
+use crate::values::{Done, Value, number, text};
 use bytes::Bytes;
 use std::alloc::Global;
 use std::cmp::Ordering;
 use vortex_arrays::{BinaryView, BitBuffer, Buffer, PrimitiveBuffer};
+use vortex_dtype::ByteBuffer;
 use vortex_scalar::{PValue, ScalarError, ScalarValue};
 use vortex_stats::{
     Column, Comparison, Items, StrictComparison, Strings, compare_columns, compare_literal,
@@ -45,8 +46,8 @@ const MATCHES: [(&str, &str, bool); 20] = [
 ];
 
 fn patterns(checks: &mut Checks<'_>) {
-    for (i, (pattern, text, matches)) in MATCHES.iter().enumerate() {
-        checks.holds_at("is_like of row", i, is_like(pattern, text) == *matches);
+    for (i, (pattern, text, matches)) in MATCHES.into_iter().enumerate() {
+        checks.holds_at("is_like of row", i, is_like(pattern, text) == matches);
     }
     checks.holds("has_backslash", has_backslash("a\\b") && has_backslash("\\"));
     checks.holds("has_backslash of none", !has_backslash("a/b") && !has_backslash(""));
@@ -86,6 +87,9 @@ type Order = Option<Ordering>;
 const LESS: Order = Some(Ordering::Less);
 const SAME: Order = Some(Ordering::Equal);
 const MORE: Order = Some(Ordering::Greater);
+
+const NONE: [Order; 4] = [None; 4];
+const ALL_LESS: [Order; 4] = [LESS; 4];
 
 /// The column of these items, whose rows are valid where these bits are true.
 fn column<'a>(items: Items<'a>, validity: Option<&'a BitBuffer>) -> Column<'a> {
@@ -131,9 +135,17 @@ fn are(
 ) {
     let mut same = mask.len() == orders.len();
     for (found, order) in mask.iter().zip(orders) {
-        same = same && *found == order.is_some_and(|order| is_true(comparison, order));
+        let wanted = match order {
+            Some(order) => is_true(comparison, *order),
+            None => false,
+        };
+        same = same && *found == wanted;
     }
     checks.holds(name, same);
+}
+
+fn blob(value: &'static [u8]) -> Value {
+    Some(ScalarValue::Binary(ByteBuffer::from_static(value)))
 }
 
 fn truth(value: bool) -> Value {
@@ -149,16 +161,17 @@ fn truths(alloc: Global, checks: &mut Checks<'_>) -> Done {
     checks.holds("truths are nothing else", !are_others && items.as_binaries().is_none());
     let left = column(items, Some(&valid));
     let orders = [LESS, SAME, None];
-    with_literal(alloc, checks, "truths with true", &left, (truth(true), &orders))?;
+    with_literal(alloc, checks, "truths with true", &left, (truth(true), &orders[..]))?;
     let orders = [SAME, MORE, None];
-    with_literal(alloc, checks, "truths with false", &left, (truth(false), &orders))?;
-    with_literal(alloc, checks, "truths with null", &left, (None, &[None; 3]))?;
-    with_literal(alloc, checks, "truths with a text", &left, (text("true"), &[None; 3]))?;
+    with_literal(alloc, checks, "truths with false", &left, (truth(false), &orders[..]))?;
+    with_literal(alloc, checks, "truths with null", &left, (None, &NONE[..3]))?;
+    with_literal(alloc, checks, "truths with a text", &left, (text("true"), &NONE[..3]))?;
     let right = column(Items::Bools(&[true, true, true]), None);
-    with_column(alloc, checks, "truths with truths", &left, (&right, &[LESS, SAME, None]))?;
+    let orders = [LESS, SAME, None];
+    with_column(alloc, checks, "truths with truths", &left, (&right, &orders[..]))?;
     let right = column(Items::Bools(&[true, false, true]), Some(&valid));
     let orders = [MORE, LESS, None];
-    with_column(alloc, checks, "truths the other way", &right, (&left, &orders))
+    with_column(alloc, checks, "truths the other way", &right, (&left, &orders[..]))
 }
 
 fn integers(alloc: Global, checks: &mut Checks<'_>) -> Done {
@@ -171,23 +184,23 @@ fn integers(alloc: Global, checks: &mut Checks<'_>) -> Done {
     checks.holds("numbers are nothing else", !are_others && items.as_binaries().is_none());
     let left = column(items, None);
     let orders = [LESS, SAME, LESS, SAME];
-    with_literal(alloc, checks, "numbers with a number", &left, (number(5), &orders))?;
+    with_literal(alloc, checks, "numbers with a number", &left, (number(5), &orders[..]))?;
     let wide = Some(ScalarValue::Primitive(PValue::U64(5)));
-    with_literal(alloc, checks, "numbers of two kinds", &left, (wide, &orders))?;
+    with_literal(alloc, checks, "numbers of two kinds", &left, (wide, &orders[..]))?;
     let far = Some(ScalarValue::Primitive(PValue::U64(u64::MAX)));
-    with_literal(alloc, checks, "numbers below all of another kind", &left, (far, &[LESS; 4]))?;
-    with_literal(alloc, checks, "numbers with null", &left, (None, &[None; 4]))?;
-    with_literal(alloc, checks, "numbers with a truth", &left, (truth(true), &[None; 4]))?;
+    with_literal(alloc, checks, "numbers below all of another kind", &left, (far, &ALL_LESS[..]))?;
+    with_literal(alloc, checks, "numbers with null", &left, (None, &NONE[..]))?;
+    with_literal(alloc, checks, "numbers with a truth", &left, (truth(true), &NONE[..]))?;
     let valid = BitBuffer::from_bools(alloc, &[false, true, true, true])?;
     let others = vec![in alloc; 3u64, 5, 5, u64::MAX]?;
     let others = PrimitiveBuffer::from_buffer(Buffer::from_vec(others)?);
     let right = column(Items::Numbers(&others), Some(&valid));
     let orders = [None, SAME, LESS, LESS];
-    with_column(alloc, checks, "numbers with numbers", &left, (&right, &orders))?;
+    with_column(alloc, checks, "numbers with numbers", &left, (&right, &orders[..]))?;
     let orders = [None, SAME, MORE, MORE];
-    with_column(alloc, checks, "numbers the other way", &right, (&left, &orders))?;
+    with_column(alloc, checks, "numbers the other way", &right, (&left, &orders[..]))?;
     let right = column(Items::Bools(&[true; 4]), None);
-    with_column(alloc, checks, "numbers with truths", &left, (&right, &[None; 4]))
+    with_column(alloc, checks, "numbers with truths", &left, (&right, &NONE[..]))
 }
 
 /// A text that lies in a buffer, and one that differs from it in its last byte alone.
@@ -205,8 +218,11 @@ fn views(alloc: Global, rows: &[&[u8]]) -> Result<(Vec<BinaryView>, Vec<Bytes>),
 }
 
 fn strings(alloc: Global, checks: &mut Checks<'_>) -> Done {
-    let (all, lie_in) = views(alloc, &[b"abcdz", LONG, LONGER, b""])?;
-    let lent = Strings { views: &all, buffers: &lie_in };
+    let (all, lie_in) = views(alloc, &[b"abcdz".as_slice(), LONG, LONGER, b"".as_slice()])?;
+    let lent = Strings {
+        views: all.as_slice(),
+        buffers: lie_in.as_slice(),
+    };
     let (texts, binaries) = (Items::Texts(lent), Items::Binaries(lent));
     let are_texts = texts.as_texts().is_some_and(|it| it.views.len() == 4 && it.buffers.len() == 4);
     checks.holds("as_texts", are_texts && texts.len() == 4 && texts.as_binaries().is_none());
@@ -217,19 +233,22 @@ fn strings(alloc: Global, checks: &mut Checks<'_>) -> Done {
     let orders = [MORE, SAME, MORE, LESS];
     let (texts, binaries) = (column(texts, None), column(binaries, None));
     let literal = text("abcdefghijklmnop");
-    with_literal(alloc, checks, "texts with a text", &texts, (literal, &orders))?;
-    with_literal(alloc, checks, "texts with bytes", &texts, (bytes(LONG), &[None; 4]))?;
-    with_literal(alloc, checks, "bytes with bytes", &binaries, (bytes(LONG), &orders))?;
+    with_literal(alloc, checks, "texts with a text", &texts, (literal, &orders[..]))?;
+    with_literal(alloc, checks, "texts with bytes", &texts, (blob(LONG), &NONE[..]))?;
+    with_literal(alloc, checks, "bytes with bytes", &binaries, (blob(LONG), &orders[..]))?;
     let literal = text("abcdefghijklmnop");
-    with_literal(alloc, checks, "bytes with a text", &binaries, (literal, &[None; 4]))?;
-    with_literal(alloc, checks, "texts with null", &texts, (None, &[None; 4]))?;
+    with_literal(alloc, checks, "bytes with a text", &binaries, (literal, &NONE[..]))?;
+    with_literal(alloc, checks, "texts with null", &texts, (None, &NONE[..]))?;
     let valid = BitBuffer::from_bools(alloc, &[true, true, true, false])?;
-    let (others, lie_in) = views(alloc, &[b"abcd", LONG, LONG, b""])?;
-    let others = Strings { views: &others, buffers: &lie_in };
+    let (texts_there, lie_in) = views(alloc, &[b"abcd".as_slice(), LONG, LONG, b"".as_slice()])?;
+    let others = Strings {
+        views: texts_there.as_slice(),
+        buffers: lie_in.as_slice(),
+    };
     let orders = [MORE, SAME, MORE, None];
     let right = column(Items::Texts(others), Some(&valid));
-    with_column(alloc, checks, "texts with texts", &texts, (&right, &orders))?;
-    with_column(alloc, checks, "bytes with texts", &binaries, (&right, &[None; 4]))?;
+    with_column(alloc, checks, "texts with texts", &texts, (&right, &orders[..]))?;
+    with_column(alloc, checks, "bytes with texts", &binaries, (&right, &NONE[..]))?;
     let right = column(Items::Binaries(others), Some(&valid));
-    with_column(alloc, checks, "bytes with bytes, row by row", &binaries, (&right, &orders))
+    with_column(alloc, checks, "bytes with bytes, row by row", &binaries, (&right, &orders[..]))
 }

@@ -7,6 +7,7 @@ mod arrays;
 mod checks;
 mod conversions;
 mod deep;
+mod errors;
 mod faults;
 mod groups;
 mod integers;
@@ -29,6 +30,8 @@ use vortex_dtype::DTypeError;
 use vortex_table::table::TableError;
 
 fn run_all(alloc: Global, checks: &mut Checks<'_>) -> Result<(), TableError> {
+    errors::refusals_are_told(checks);
+    checks.end_part("refusals have numbers and names");
     faults::the_first_fault_of_a_type_is_told(alloc, checks)?;
     checks.end_part("the first fault of a type is told");
     scans::the_library_joins_predicates(alloc, checks)?;

@@ -119,8 +119,17 @@ fn dictionary(alloc: Global, codes: Validity, values: Validity) -> Result<ArrayR
     records(alloc, "a", array, Validity::NonNullable)
 }
 
-/// The rows of a dictionary that are not null and satisfy, and its chunk, which is skipped only
-/// where no row that is not null does.
+/// Numbers, the rows above each, and the chunks that are skipped. One of nulls alone has no bounds
+/// to be skipped by.
+const ABOVE: [(i32, &[i128], &[usize]); 4] = [
+    (4, &[5, 6, 6], &[]),
+    (5, &[6, 6], &[]),
+    (6, &[], &[0, 1]),
+    (0, &[5, 1, 6, 1, 6], &[]),
+];
+
+/// The rows of dictionaries that are not null and satisfy, and the chunks in which none does: the
+/// value that no row has counts for nothing.
 pub fn nulls_of_dictionaries_are_not_found(
     alloc: Global,
     checks: &mut Checks<'_>,
@@ -134,13 +143,7 @@ pub fn nulls_of_dictionaries_are_not_found(
     for array in [first, second, third] {
         table.append_array(array)?;
     }
-    let rows: [(i32, &[i128], &[usize]); 4] = [
-        (4, &[5, 6, 6], &[2]),
-        (5, &[6, 6], &[2]),
-        (6, &[], &[0, 1, 2]),
-        (0, &[5, 1, 6, 1, 6], &[2]),
-    ];
-    for (bound, wanted, skipped) in rows {
+    for (bound, wanted, skipped) in ABOVE {
         let nullable = nullable_number(bound)?;
         let answer = scan(alloc, &table, &gt(alloc, column(alloc, "a")?, nullable)?)?;
         let tested = 4 * (3 - skipped.len()) as u64;
@@ -200,7 +203,7 @@ pub fn rows_are_selected_where_they_stand(
     }
     let all = table.select(alloc, &paths, &truth(true)?)?.selection;
     let mut same = all.selections.len() == CHUNKS.len();
-    for (selection, chunk) in all.selections.iter().zip(CHUNKS) {
+    for (selection, chunk) in all.selections.iter().zip(CHUNKS.iter()) {
         same = same && selection.rows.len() == chunk.len();
         for (place, row) in selection.rows.iter().enumerate() {
             same = same && *row == place;
