@@ -47,9 +47,6 @@ class Signatures(Reader):
 
     def __init__(self, crate, text):
         super().__init__(crate, text)
-        # The semicolon of an array's type ends no head.
-        commas = lambda found: found[0].replace(";", ",")
-        self.code = re.sub(r"\[[^\[\]{}]*\]", commas, self.code)
         self.heads, self.in_trait = {}, False
 
     def block(self, item, word, path, end):
