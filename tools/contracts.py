@@ -39,7 +39,7 @@ ITEM = re.compile(
     r"\b(?:(impl)\b|(?:unsafe\s+)?(trait)\s+(\w+)|(mod)\s+(\w+)\s*(?=\{)|"
     r"(macro_rules)!\s*(\w+)|(fn)\s+([$\w]+)|(ghost)\s+(?!use\b)(\w+))|([{(\[])"
 )
-CLAUSE = re.compile(r"\b(requires|ensures|ghost)\b[ *]*\w*\s*(?::\s*)?(?=\{)|([{;])")
+CLAUSE = re.compile(r"\b(requires|ensures|ghost)\b[ *]*\w*\s*(?::\s*)?(?=\{)")
 USE = re.compile(r"\buse\s+Rattle\.([\w.]+?)\.\{([^}]*)\}")
 NO_DEFINITION = re.compile(r"^(?:use|mod|pub mod|module|default)\b[^\n]*", re.M)
 OWN = re.compile(r"^(?:(?:abbrev|mutual|pub|record|data)\s+)+([^\s:(]+)", re.M)
@@ -115,10 +115,11 @@ class Reader:
         self.found.append(Contract(self.crate, path, clauses, self.uses))
 
     def block(self, item, word, path, end):
-        opened = self.code.find("{", item.end(), end)
-        semicolon = self.code.find(";", item.end(), end)
-        if opened < 0 or 0 <= semicolon < opened:
-            return max(semicolon + 1, item.end())
+        opened = sources.end_of_head(self.code, item.end())
+        if opened >= end:
+            return item.end()
+        if self.code[opened] == ";":
+            return opened + 1
         closed = sources.end_of_group(self.code, opened)
         if word == "impl":
             inner = head_of_impl(folded(self.text[item.end() : opened]))
@@ -133,16 +134,17 @@ class Reader:
         at = sources.end_of_group(self.code, self.start_of_parameters(item.end(), at))
         clauses = []
         while True:
-            clause = CLAUSE.search(self.code, at)
-            if clause[1] is None:
+            opened = sources.end_of_head(self.code, at)
+            clause = CLAUSE.search(self.code, at, opened + 1)
+            if clause is None:
                 break
-            at = sources.end_of_group(self.code, clause.end())
-            clauses.append(Clause(clause[1], folded(self.text[clause.end() + 1 : at - 1])))
+            at = sources.end_of_group(self.code, opened)
+            clauses.append(Clause(clause[1], folded(self.text[opened + 1 : at - 1])))
         self.keep((*path, item[9]), clauses)
-        if clause[2] == ";":
-            return clause.end()
-        ends = sources.end_of_group(self.code, clause.start())
-        self.bodies.append(Body(item[9], item.start(), clause.start(), ends))
+        if self.code[opened] == ";":
+            return opened + 1
+        ends = sources.end_of_group(self.code, opened)
+        self.bodies.append(Body(item[9], item.start(), opened, ends))
         return ends
 
     def start_of_parameters(self, at, first):

@@ -8,12 +8,13 @@ crates/*/src is public by its own `pub`, or as one of a trait, whether a door le
 line for each function that
 - has no `ensures` at all,
 - answers a `Result` of which no clause says when it is an error: none has a word for that side
-  (`IfErr`, `OnErr`, `IsErrOf`, `MatchResult`), `result` with a case of its own, or a relation that
-  `result` is handed to,
+  (`IfErr`, `OnErr`, `IsErrOf`, `MatchResult`), `result` with a case of its own, a relation that
+  `result` is handed to, or `IsOk result` alone, by which there is none,
 - or whose clauses on errors allow each of them: the relations that are handed the error are defined
   as `Unit` in each line.
-Where the type of the error has one value, as `AllocError`, it says by itself what lacked, so such
-functions are counted apart. Each crate that has any begins with its counts; the last line has all.
+Where the type of the error has one value, as `AllocError` or a struct without fields, no clause can
+tell two errors apart, so such functions are counted apart. Each crate that has any begins with its
+counts; the last line has all.
 """
 import collections
 import os
@@ -27,13 +28,16 @@ from contracts import Reader
 # Words of clauses that say something where an answer is an error, and those that don't.
 OF_ERRORS = re.compile(r"\b(?:IfErr|OnErr|IsErrOf|MatchResult|ForErr)\b")
 OF_VALUES = {"IfOk", "OnOk", "IsOk", "ForOk", "OnSome", "IfSome"}
-# A relation that is handed the answer itself: a name before it, with other arguments between.
-HANDED = re.compile(r"\b([A-Z]\w*)((?:\s+(?:[\w.]+|\([^()]*\)))*)\s+result\b(?!\.)")
+# A relation that is handed the answer itself: a name before it, with other words between, where
+# arguments in brackets are taken away.
+HANDED = re.compile(r"\b([A-Z]\w*)(?:\s+[\w.]+)*\s+result\b(?!\.)")
+ARGUMENT = re.compile(r"\s\((?:(?!\bresult\b)[^()])*\)")
 # An answer that is compared with an error, or taken apart.
 TAKEN = re.compile(r"\bresult\s*[≡≢]|[≡≢]\s*result\b|\bErr\b|\bas_err\b")
 RESULT = re.compile(r"->\s*((?:\w+::)*)Result<")
-# Types of errors that have one value.
-SINGLE = ("AllocError", "AllocFailed", "Error", "Infallible", "io::Error", "fmt::Error")
+# Types of errors that have one value, beside the structs without fields of the crates themselves.
+SINGLE = {"AllocError", "AllocFailed", "Error", "Infallible", "io::Error", "fmt::Error"}
+WITHOUT_FIELDS = re.compile(r"\bpub struct (\w+);")
 # A clause's relation on the error that it names, as `λ e. IsFault e`.
 ON_ERROR = re.compile(r"λ\s+(\w+)\.\s+(\w+)\s+\1\b")
 PUBLIC = re.compile(r"\bpub\s+(?:unsafe\s+|const\s+)*$")
@@ -47,9 +51,6 @@ class Signatures(Reader):
 
     def __init__(self, crate, text):
         super().__init__(crate, text)
-        # The semicolon of an array's type ends no head.
-        commas = lambda found: found[0].replace(";", ",")
-        self.code = re.sub(r"\[[^\[\]{}]*\]", commas, self.code)
         self.heads, self.in_trait = {}, False
 
     def block(self, item, word, path, end):
@@ -87,8 +88,11 @@ def error_of(head):
 
 def says_of_errors(text):
     """Whether a clause says something where `result` is an error."""
-    if OF_ERRORS.search(text) or TAKEN.search(text):
+    if OF_ERRORS.search(text) or TAKEN.search(text) or text == "IsOk result":
         return True
+    taken = 1
+    while taken:
+        text, taken = ARGUMENT.subn("", text)
     return any(found[1] not in OF_VALUES for found in HANDED.finditer(text))
 
 
@@ -127,7 +131,13 @@ def read(crate):
             yield Found("::".join(contract.path), error_of(head)), clauses
 
 
-def judged(crate, sides):
+def without_fields(crates):
+    """The structs of the crates that have no field."""
+    texts = (sources.read(it, file) for it in crates for file in sources.source_files(it))
+    return {name for text in texts for name in WITHOUT_FIELDS.findall(text)}
+
+
+def judged(crate, sides, single):
     """The functions of a crate by what their contracts lack, and how many it has."""
     lists, count = collections.defaultdict(list), 0
     for found, clauses in read(crate):
@@ -135,7 +145,7 @@ def judged(crate, sides):
         if not clauses:
             lists["no ensures"].append(found)
         elif found.error and not any(says_of_errors(it.text) for it in clauses):
-            kind = "errors of one kind" if found.error in SINGLE else "nothing of errors"
+            kind = "errors of one kind" if found.error in single else "nothing of errors"
             lists[kind].append(found)
         elif found.error and allows_all(clauses, sides):
             lists["each error allowed"].append(found)
@@ -147,9 +157,9 @@ KINDS = ("nothing of errors", "each error allowed", "errors of one kind", "no en
 
 def main():
     all_crates, total, functions = list(sources.crates()), collections.Counter(), 0
-    sides = definitions(all_crates)
+    sides, single = definitions(all_crates), SINGLE | without_fields(all_crates)
     for crate in sys.argv[1:] or all_crates:
-        lists, count = judged(crate, sides)
+        lists, count = judged(crate, sides, single)
         functions += count
         if not lists:
             continue

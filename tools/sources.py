@@ -87,6 +87,15 @@ def end_of_group(text, at):
     return len(text)
 
 
+def end_of_head(text, at):
+    """The place of the `{` or `;` that ends the head of an item, from this place on, in blanked
+    text, or the text's end: the first in no bracket, as the `;` of an array's type stands in one.
+    """
+    while at < len(text) and text[at] not in "{;":
+        at = end_of_group(text, at) if text[at] in "([" else at + 1
+    return at
+
+
 def page_text(path):
     """The text of a page that a tool writes, or '' where there is none."""
     if not os.path.isfile(path):

@@ -18,12 +18,14 @@ mod lists;
 mod make_arrays;
 mod masks;
 mod numbers;
+mod places;
 mod rebuilt;
 mod records;
 mod refusing;
 mod rows;
 mod strings;
 mod structs;
+mod totals;
 mod validities;
 mod views;
 
@@ -54,6 +56,8 @@ fn of_any_layout(alloc: Global, checks: &mut Checks<'_>) -> Result<(), DTypeErro
     checks.end_part("arrays are built of values");
     validities::run(alloc, checks)?;
     checks.end_part("validities say which rows are null");
+    places::run(alloc, checks)?;
+    checks.end_part("numbers are places, and bits are joined");
     Ok(())
 }
 
@@ -83,6 +87,7 @@ fn of_one_layout(alloc: Global, checks: &mut Checks<'_>) -> Result<(), DTypeErro
     structs::run(alloc, checks)?;
     checks.end_part("records have their parts");
     ends::run(alloc, checks)?;
+    totals::run(alloc, checks)?;
     checks.end_part("integers are read from bytes, validities put end to end");
     Ok(())
 }

@@ -4,7 +4,7 @@ use std::process::ExitCode;
 use vortex_dtype::DTypeError;
 
 /// The most parts that a program can have.
-const MOST_PARTS: usize = 20;
+const MOST_PARTS: usize = 32;
 
 /// A part of the checks: its name, and how many of its calls were right and wrong.
 #[derive(Clone, Copy, Drop)]

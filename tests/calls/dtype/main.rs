@@ -32,6 +32,7 @@ mod refusing;
 mod resolving;
 mod samples;
 mod sizes;
+mod storing;
 mod trees;
 mod unions;
 
@@ -57,6 +58,7 @@ fn of_kinds(alloc: Global, checks: &mut Checks<'_>) -> Result<(), DTypeError> {
     by_kind::run(checks)?;
     native_dtype::run(alloc, checks)?;
     dtype_kinds::run(alloc, checks)?;
+    storing::run(alloc, checks)?;
     nullabilities::run(alloc, checks)?;
     equality::run(alloc, checks)?;
     composites::run(alloc, checks)?;

@@ -1,7 +1,7 @@
 //! Records that nest deeper than any line says.
 
 use crate::checks::Checks;
-use crate::make::{cell, integers, number};
+use crate::make::{cell, integers, number, scalar};
 use std::alloc::{AllocError, Global};
 use vortex_dtype::{
     DType, Field, FieldName, FieldNames, FieldPath, Nullability, StructField, StructFields,
@@ -57,7 +57,9 @@ pub fn records_may_nest_deep(alloc: Global, checks: &mut Checks<'_>) -> Result<(
     let mut paths = Vec::new(alloc);
     paths.push(FieldPath::new(steps))?;
     let answer = table.scan(alloc, &paths, &above)?;
-    checks.holds("the row", answer.rows.len() == 1 && answer.rows_tested == 3);
+    let wanted = scalar(dtype.clone()?, nested_row(alloc, DEPTH, 2)?)?;
+    checks.holds("the row", answer.rows.as_slice() == [wanted].as_slice());
+    checks.holds("its chunk", answer.rows_tested == 3 && answer.skipped.is_empty());
     checks.holds("the type", answer.dtype == dtype);
     Ok(())
 }

@@ -1,7 +1,7 @@
 //! The laws of tables, with what each of their calls gives.
 
 use crate::checks::Checks;
-use crate::make::{column, filled, integers, number, row, two_columns};
+use crate::make::{begin_with, column, filled, integers, number, row, scan, truth, two_columns};
 use std::alloc::{AllocError, Global};
 use vortex_dtype::{DType, FieldPath, Nullability, PType};
 use vortex_table::expr::gt;
@@ -23,21 +23,25 @@ pub fn scans_keep_their_laws(alloc: Global, checks: &mut Checks<'_>) -> Result<(
     let table = filled(alloc)?;
     let paths = whole(alloc)?;
     let all = scan_by_true(alloc, &table, &paths)?;
-    checks.holds("by true all rows", all.rows.len() == table.len());
+    checks.holds("by true all rows", begin_with(&all, &[1, 2, 10]));
+    checks.holds("by true each chunk", all.whole.as_slice() == [0, 1].as_slice());
     let none = scan_by_false(alloc, &table, &paths)?;
-    checks.holds("by false no row", none.rows.is_empty() && none.skipped.len() == 2);
+    checks.holds("by false no row", none.rows.is_empty());
+    checks.holds("by false no chunk", none.skipped.as_slice() == [0, 1].as_slice());
 
     let other = filled(alloc)?;
     let above = gt(alloc, column(alloc, "a")?, number(1)?)?;
     let (one, two) = scan_two_tables(alloc, &table, &other, &paths, &above);
-    checks.holds("two tables", one?.rows == two?.rows);
+    let (one, two) = (one?, two?);
+    checks.holds("two tables", one.rows == two.rows && begin_with(&one, &[2, 10]));
 
     let mut named = Vec::new(alloc);
     named.push(FieldPath::from_names(alloc, &["b"])?)?;
     named.push(FieldPath::from_names(alloc, &["a"])?)?;
     let (one, two) = scan_by_two_lists(alloc, &table, &paths, &named, &above);
     let (one, two) = (one?, two?);
-    checks.holds("two lists", one.rows == two.rows && one.dtype == two.dtype);
+    checks.holds("two lists", one.rows == two.rows && begin_with(&one, &[2, 10]));
+    checks.holds("their types", one.dtype == two.dtype && one.dtype == two_columns(alloc)?);
     Ok(())
 }
 
@@ -53,12 +57,14 @@ pub fn changes_keep_their_laws(alloc: Global, checks: &mut Checks<'_>) -> Result
     let (before, appended, after) =
         scan_around_append(alloc, &mut table, &dtype, &values, &[], &paths, &above);
     appended?;
-    checks.holds("one row more", before?.rows.len() + 1 == after?.rows.len());
+    checks.holds("before an append", begin_with(&before?, &[2, 10]));
+    checks.holds("one row more", begin_with(&after?, &[2, 10, 20]));
 
     let (before, compacted, after) = scan_around_compact(alloc, &mut table, &paths, &above);
     compacted?;
     let (before, after) = (before?, after?);
-    checks.holds("compacted", before.rows == after.rows && before.skipped == after.skipped);
+    checks.holds("compacted", before.rows == after.rows && begin_with(&after, &[2, 10, 20]));
+    checks.holds("its chunks", before.skipped == after.skipped && after.skipped.is_empty());
 
     let mut direct = filled(alloc)?;
     let mut stepwise = filled(alloc)?;
@@ -74,10 +80,13 @@ pub fn changes_keep_their_laws(alloc: Global, checks: &mut Checks<'_>) -> Result
         integers(),
         DType::Primitive(PType::I64, Nullability::Nullable),
     )?;
+    let wanted = last.clone()?;
     let all = retype_in_two_steps(alloc, &mut stepwise, &mut direct, through, last)?;
     all.first?;
     all.second?;
     all.at_once?;
-    checks.holds("one type", stepwise.dtype() == direct.dtype());
+    checks.holds("one type", stepwise.dtype() == direct.dtype() && *direct.dtype() == wanted);
+    let (one, two) = (scan(alloc, &stepwise, &truth(true)?)?, scan(alloc, &direct, &truth(true)?)?);
+    checks.holds("one list of rows", one.rows == two.rows && begin_with(&one, &[1, 2, 10]));
     Ok(())
 }

@@ -59,7 +59,8 @@ fn two_texts(alloc: Global, bound_length: usize, hint: Layout) -> Result<Table, 
 const CHUNKS: [usize; 2] = [0, 1];
 const LETTERS: [u8; 2] = [b'a', b'b'];
 
-/// Counts a scan that answers the texts of these endings, and skips the chunks of these numbers.
+/// Counts a scan that answers the texts of these endings, skips the chunks of these numbers, and
+/// tests the row of each other.
 fn check(
     alloc: Global,
     checks: &mut Checks<'_>,
@@ -69,7 +70,11 @@ fn check(
     (letters, skipped): (&[u8], &[usize]),
 ) -> Result<(), TableError> {
     let answer = scan(alloc, table, predicate)?;
-    let mut same = answer.rows.len() == letters.len() && answer.skipped.as_slice() == skipped;
+    let mut same = answer.rows.len() == letters.len()
+        && answer.skipped.as_slice() == skipped
+        && answer.whole.is_empty()
+        && answer.rows_tested == (CHUNKS.len() - skipped.len()) as u64
+        && answer.proofs == CHUNKS.len() as u64;
     for (row, last) in answer.rows.iter().zip(letters) {
         same = same && is_ending(row, *last);
     }

@@ -7,6 +7,7 @@ mod arrays;
 mod checks;
 mod conversions;
 mod deep;
+mod errors;
 mod faults;
 mod groups;
 mod integers;
@@ -17,6 +18,7 @@ mod long;
 mod make;
 mod make_arrays;
 mod memory;
+mod picked;
 mod refusing;
 mod rules;
 mod scans;
@@ -28,6 +30,8 @@ use vortex_dtype::DTypeError;
 use vortex_table::table::TableError;
 
 fn run_all(alloc: Global, checks: &mut Checks<'_>) -> Result<(), TableError> {
+    errors::refusals_are_told(checks);
+    checks.end_part("refusals have numbers and names");
     faults::the_first_fault_of_a_type_is_told(alloc, checks)?;
     checks.end_part("the first fault of a type is told");
     scans::the_library_joins_predicates(alloc, checks)?;
@@ -40,6 +44,10 @@ fn run_all(alloc: Global, checks: &mut Checks<'_>) -> Result<(), TableError> {
     checks.end_part("paths cut rows together");
     leaves::chunks_are_skipped_by_any_leaf(alloc, checks)?;
     checks.end_part("chunks are skipped by any leaf");
+    picked::rows_are_found_in_any_layout(alloc, checks)?;
+    picked::nulls_of_dictionaries_are_not_found(alloc, checks)?;
+    picked::rows_are_selected_where_they_stand(alloc, checks)?;
+    checks.end_part("rows are found in any layout");
     groups::groups_are_joined(alloc, checks)?;
     checks.end_part("groups are joined");
     groups::groups_are_looked_at_first(alloc, checks)?;
@@ -54,6 +62,8 @@ fn run_all(alloc: Global, checks: &mut Checks<'_>) -> Result<(), TableError> {
     rules::rules_may_be_at_fault(alloc, checks)?;
     rules::proofs_may_be_at_fault(alloc, checks)?;
     checks.end_part("rules may be at fault");
+    rules::proofs_may_be_never_true(alloc, checks)?;
+    checks.end_part("proofs may be never true");
     arrays::lists_are_compacted(alloc, checks)?;
     arrays::long_lists_under_null_are_left_out(alloc, checks)?;
     arrays::values_under_null_are_not_read(alloc, checks)?;

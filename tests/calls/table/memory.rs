@@ -2,16 +2,17 @@
 
 use crate::checks::Checks;
 use crate::layouts::{answered, numbers, told};
-use crate::make::{cell, integers, scalar, scan, truth};
+use crate::make::{cell, column, constant, integers, scalar, scan, truth};
 use crate::refusing::{refuse_all, took_none};
 use std::alloc::{AllocError, Global};
 use std::rc::Rc;
-use vortex_arrays::{ArrayLayout, ArrayRef, StructArray, Validity};
+use vortex_arrays::{ArrayLayout, ArrayRef, ListViewArray, StructArray, Validity};
 use vortex_dtype::{
     BufferString, DType, FieldName, FieldNames, FieldPath, Nullability, PType, StructField,
     StructFields,
 };
 use vortex_scalar::{Scalar, ScalarValue};
+use vortex_table::expr::gt;
 use vortex_table::table::{Description, Layout, Precision, ScanAnswer, Table, TableError};
 
 /// The columns of each table here.
@@ -27,13 +28,17 @@ struct Seen {
     chunks: usize,
     groups: usize,
     rows: ScanAnswer,
+    above: ScanAnswer,
     told: Vec<Description>,
     layouts: Vec<i128>,
 }
 
-/// All that can be seen of a table.
+/// All that can be seen of a table: bounds also by the chunks that a scan skips.
 fn seen(alloc: Global, table: &Table) -> Result<Seen, TableError> {
     let rows = scan(alloc, table, &truth(true)?)?;
+    let most = Some(ScalarValue::Utf8(BufferString::from_static("ci")));
+    let most = constant(DType::Utf8(Nullability::NonNullable), most)?;
+    let above = scan(alloc, table, &gt(alloc, column(alloc, "s")?, most)?)?;
     let mut told = Vec::new(alloc);
     for group in 0..table.group_count() {
         for name in ["a", "s"] {
@@ -51,6 +56,7 @@ fn seen(alloc: Global, table: &Table) -> Result<Seen, TableError> {
         chunks: table.chunk_count(),
         groups: table.group_count(),
         rows,
+        above,
         told,
         layouts,
     })
@@ -100,7 +106,7 @@ fn is_same_description(one: &Description, other: &Description) -> bool {
         && one.constant == other.constant
 }
 
-/// Whether the same was found, by the same work.
+/// Whether a scan found the same, by the same work.
 fn is_same_answer(one: &ScanAnswer, other: &ScanAnswer) -> bool {
     one.rows.as_slice() == other.rows.as_slice()
         && one.dtype == other.dtype
@@ -121,6 +127,7 @@ fn is_same_table(one: &Seen, other: &Seen) -> bool {
         && one.chunks == other.chunks
         && one.groups == other.groups
         && is_same_answer(&one.rows, &other.rows)
+        && is_same_answer(&one.above, &other.above)
 }
 
 /// The outcome of a command, behind which the table has to be as before where it is refused.
@@ -188,15 +195,11 @@ fn three_chunks(alloc: Global) -> Result<Table, TableError> {
     Ok(table)
 }
 
-/// The rows 9, 10, of another width.
-fn two_rows(alloc: Global) -> Result<ArrayRef, TableError> {
+/// Two records of these numbers, of equal texts and of these lists.
+fn two_records(alloc: Global, first: ArrayRef, lists: ArrayRef) -> Result<ArrayRef, TableError> {
     let texts = scalar(DType::Utf8(Nullability::NonNullable), text(alloc, 9)?)?;
-    let items = scalar(lists(alloc)?, list(alloc, 10)?)?;
-    let fields = vec![in alloc;
-        numbers(alloc, &[9i64, 10], Validity::NonNullable)?,
-        ArrayRef::of_constant(alloc, texts, 2)?,
-        ArrayRef::of_constant(alloc, items, 2)?,
-    ]?;
+    let texts = ArrayRef::of_constant(alloc, texts, 2)?;
+    let fields = vec![in alloc; first, texts, lists]?;
     let mut names = Vec::new(alloc);
     for name in NAMES {
         names.push(FieldName::new(alloc, name)?)?;
@@ -204,6 +207,23 @@ fn two_rows(alloc: Global) -> Result<ArrayRef, TableError> {
     let names = Rc::new(alloc, FieldNames::new(names))?;
     let records = StructArray::try_new(alloc, names, fields, 2, Validity::NonNullable);
     Ok(answered(records)?.into_array())
+}
+
+/// The rows 9, 10, of another width.
+fn two_rows(alloc: Global) -> Result<ArrayRef, TableError> {
+    let first = numbers(alloc, &[9i64, 10], Validity::NonNullable)?;
+    let items = scalar(lists(alloc)?, list(alloc, 10)?)?;
+    let items = ArrayRef::of_constant(alloc, items, 2)?;
+    two_records(alloc, first, items)
+}
+
+/// Two records of these numbers, with lists that overlap until they are compacted.
+fn overlapping(alloc: Global, first: ArrayRef) -> Result<ArrayRef, TableError> {
+    let elements = numbers(alloc, &[1i32, 2, 3], Validity::NonNullable)?;
+    let offsets = numbers(alloc, &[0u32, 1], Validity::NonNullable)?;
+    let sizes = numbers(alloc, &[3u8, 2], Validity::NonNullable)?;
+    let views = ListViewArray::try_new(alloc, elements, offsets, sizes, Validity::NonNullable);
+    two_records(alloc, first, answered(views)?.into_array())
 }
 
 /// Whether an inexact bound is this text.
@@ -231,6 +251,14 @@ pub fn refused_commands_leave_tables(
     let outcome = table.append_array(array);
     judged(alloc, checks, "append_array without memory", &table, &before, outcome)?;
     let before = seen(alloc, &table)?;
+    let array = two_rows(alloc)?;
+    let outcome = table.append_hinted(array, &[Layout::Constant, Layout::Dictionary]);
+    judged(alloc, checks, "append_hinted without memory", &table, &before, outcome)?;
+    let before = seen(alloc, &table)?;
+    let array = overlapping(alloc, numbers(alloc, &[11i32, 12], Validity::NonNullable)?)?;
+    let outcome = table.append_array(array);
+    judged(alloc, checks, "append_array, kept, without memory", &table, &before, outcome)?;
+    let before = seen(alloc, &table)?;
     let outcome = table.join(1);
     judged(alloc, checks, "join without memory", &table, &before, outcome)?;
     let joined = table.describe(alloc, &FieldPath::from_names(alloc, &["s"])?, 1)?;
@@ -240,12 +268,18 @@ pub fn refused_commands_leave_tables(
     let wide = columns(alloc, DType::Primitive(PType::I64, Nullability::Nullable))?;
     let outcome = table.retype(wide);
     judged(alloc, checks, "retype without memory", &table, &before, outcome)?;
+    let first = numbers(alloc, &[13i64, 14], Validity::AllValid)?;
+    table.append_array(overlapping(alloc, first)?)?;
     let before = seen(alloc, &table)?;
     let outcome = table.compact();
     judged(alloc, checks, "compact without memory", &table, &before, outcome)?;
     let last = seen(alloc, &table)?;
-    checks.holds("what commands leave", last.len == 8 && last.chunks == 5 && last.groups == 4);
+    checks.holds("what commands leave", last.len == 14 && last.chunks == 8 && last.groups == 7);
     checks.holds("what compact leaves", is_same_table(&before, &last));
+    let is_another = before.layouts.as_slice() != last.layouts.as_slice();
+    checks.holds("a layout that compact changes", is_another);
+    let skipped = last.above.skipped.as_slice();
+    checks.holds("chunks without a text above", skipped == [1, 2, 4, 5, 6, 7].as_slice());
     let all = told(alloc, &table, &["a"], 1)?;
     checks.holds("a joined group", all == [Some(3), Some(4), Some(0), Some(7), Some(0)]);
     Ok(())

@@ -1,7 +1,7 @@
 //! Scans by proofs that are made with rewrite rules of the caller.
 
 use crate::checks::Checks;
-use crate::make::{cell, column, constant, integers, number, truth};
+use crate::make::{begin_with, cell, column, constant, integers, number, truth};
 use std::alloc::{AllocError, Global};
 use vortex_dtype::{
     BufferString, DType, FieldName, FieldPath, Nullability, StructField, StructFields,
@@ -10,7 +10,7 @@ use vortex_scalar::ScalarValue;
 use vortex_stats::{
     Never, NotLiteral, ScalarFnId, StatsError, StatsRewriteRule, StatsRewriteRuleRef,
 };
-use vortex_table::expr::{Expression, LikeOptions, eq, like, not};
+use vortex_table::expr::{Expression, LikeOptions, and, eq, gt, like, not};
 use vortex_table::table::{ScanAnswer, Table, TableError};
 
 /// What a rule for NOT answers.
@@ -182,7 +182,7 @@ pub fn rules_add_proofs(alloc: Global, checks: &mut Checks<'_>) -> Result<(), Ta
     let whole = scan_not(alloc, &table, false, &rules)?;
     checks.holds(
         "two rules: whole",
-        whole.rows.len() == 2 && whole.rows_tested == 0 && whole.proofs == 2,
+        begin_with(&whole, &[1, 2]) && whole.rows_tested == 0 && whole.proofs == 2,
     );
     checks.holds("two rules: taken whole", whole.whole.as_slice() == [0].as_slice());
     Ok(())
@@ -229,12 +229,11 @@ pub fn rules_may_be_at_fault(alloc: Global, checks: &mut Checks<'_>) -> Result<(
     };
     checks.holds("a path goes first", path == Some(TableError::UnknownPath(0)));
     let answer = scan_not(alloc, &table, false, &[])?;
-    checks.holds("the table stays", answer.rows.len() == 2 && table.chunk_count() == 1);
+    checks.holds("the table stays", begin_with(&answer, &[1, 2]) && table.chunk_count() == 1);
     Ok(())
 }
 
-/// A proof that can't be used refuses the scan, and one that is never true changes none of its
-/// rows.
+/// A proof that can't be used refuses the scan.
 pub fn proofs_may_be_at_fault(alloc: Global, checks: &mut Checks<'_>) -> Result<(), TableError> {
     let table = one_column(alloc, &[1, 2])?;
     for (name, answer) in [
@@ -246,19 +245,94 @@ pub fn proofs_may_be_at_fault(alloc: Global, checks: &mut Checks<'_>) -> Result<
         let fault = error_with(alloc, &table, &rules)?;
         checks.holds(name, fault == Some(TableError::RuleFault));
     }
+    Ok(())
+}
+
+/// A table of {a=i32} in the chunks 1, 2; 3; 0.
+fn three_chunks(alloc: Global) -> Result<Table, TableError> {
+    let mut table = one_column(alloc, &[1, 2])?;
+    let dtype = table.dtype().clone()?;
+    for n in [3, 0] {
+        let cells = Vec::from_array(alloc, [cell(n)])?;
+        let values = Vec::from_array(alloc, [Some(ScalarValue::Tuple(cells))])?;
+        table.append_owned(&dtype, values, &[])?;
+    }
+    Ok(table)
+}
+
+/// What a scan has to find: the rows, the chunks that it skips and takes whole, and its counts.
+#[derive(Clone, Copy, Drop)]
+struct Wanted {
+    rows: &'static [i128],
+    skipped: &'static [usize],
+    whole: &'static [usize],
+    rows_tested: u64,
+    proofs: u64,
+}
+
+/// No chunk is skipped or taken whole, and each row is tested.
+const ALL_TESTED: Wanted = Wanted {
+    rows: &[1, 2, 3, 0],
+    skipped: &[],
+    whole: &[],
+    rows_tested: 4,
+    proofs: 6,
+};
+
+fn is_wanted(answer: &ScanAnswer, wanted: &Wanted) -> bool {
+    begin_with(answer, wanted.rows)
+        && answer.skipped.as_slice() == wanted.skipped
+        && answer.whole.as_slice() == wanted.whole
+        && answer.rows_tested == wanted.rows_tested
+        && answer.proofs == wanted.proofs
+}
+
+/// A rule whose proof is false or null decides no chunk, and takes nothing from what another proof
+/// decides: of the same node, or of another.
+pub fn proofs_may_be_never_true(alloc: Global, checks: &mut Checks<'_>) -> Result<(), TableError> {
+    let table = three_chunks(alloc)?;
     for answer in [Answer::False, Answer::Null] {
-        let mut rules: Vec<StatsRewriteRuleRef> = Vec::new(alloc);
-        let rule = Faulty {
+        let rule = || Faulty {
             answer,
             to_satisfy_alone: false,
         };
-        rules.push(Box::new(alloc, rule)?)?;
+        let mut rules: Vec<StatsRewriteRuleRef> = Vec::new(alloc);
+        rules.push(Box::new(alloc, rule())?)?;
         let found = scan_not(alloc, &table, false, &rules)?;
-        checks.holds("a proof that is never true: rows", found.rows.len() == 2);
-        checks.holds(
-            "a proof that is never true: counts",
-            found.rows_tested == 2 && found.proofs == 2 && found.whole.is_empty(),
-        );
+        checks.holds("a proof that is never true", is_wanted(&found, &ALL_TESTED));
+        let found = scan_not(alloc, &table, true, &rules)?;
+        let none = Wanted { rows: &[], ..ALL_TESTED };
+        checks.holds("a proof that is never true, of no row", is_wanted(&found, &none));
+        let above = gt(alloc, column(alloc, "a")?, number(1)?)?;
+        let both = and(alloc, not(alloc, truth(false)?)?, above)?;
+        let mut paths = Vec::new(alloc);
+        paths.push(FieldPath::from_names(alloc, &["a"])?)?;
+        let found = table.scan_with(alloc, &paths, &both, &rules)?;
+        let wanted = Wanted {
+            rows: &[2, 3],
+            skipped: &[2],
+            whole: &[],
+            rows_tested: 3,
+            proofs: 3,
+        };
+        checks.holds("beside another node's proof", is_wanted(&found, &wanted));
+        for is_first in [true, false] {
+            let mut rules = two_rules(alloc)?;
+            let at = if is_first { 0 } else { rules.len() };
+            rules.insert(at, Box::new(alloc, rule())?)?;
+            let found = scan_not(alloc, &table, false, &rules)?;
+            let whole = Wanted { whole: &[0, 1, 2], rows_tested: 0, ..ALL_TESTED };
+            checks.holds("beside a proof that takes all whole", is_wanted(&found, &whole));
+            let found = scan_not(alloc, &table, true, &rules)?;
+            let wanted = Wanted {
+                rows: &[],
+                skipped: &[0, 1, 2],
+                whole: &[],
+                rows_tested: 0,
+                proofs: 3,
+            };
+            checks.holds("beside a proof that skips all", is_wanted(&found, &wanted));
+        }
     }
     Ok(())
 }

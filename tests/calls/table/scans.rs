@@ -1,7 +1,7 @@
 //! Scans by predicates that no line says yet, and along several paths.
 
 use crate::checks::Checks;
-use crate::make::{cell, column, filled, integers, number, record, scan, truth};
+use crate::make::{begin_with, cell, column, filled, integers, number, record, scan, truth};
 use std::alloc::{AllocError, Global};
 use vortex_dtype::{DType, FieldPath, Nullability};
 use vortex_scalar::{Scalar, ScalarValue};
@@ -22,7 +22,7 @@ pub fn the_library_joins_predicates(
     let answer = scan(alloc, &table, &and(alloc, above, below)?)?;
     checks.holds(
         "both: rows",
-        answer.rows.len() == 1 && answer.rows_tested == 2,
+        begin_with(&answer, &[2]) && answer.rows_tested == 2,
     );
     checks.holds("both: skipped", answer.skipped.as_slice() == [1].as_slice());
     checks.holds("both: whole", answer.whole.is_empty() && answer.proofs == 2);
@@ -32,14 +32,14 @@ pub fn the_library_joins_predicates(
     let answer = scan(alloc, &table, &or(alloc, one, ten)?)?;
     checks.holds(
         "either: rows",
-        answer.rows.len() == 2 && answer.rows_tested == 3,
+        begin_with(&answer, &[1, 10]) && answer.rows_tested == 3,
     );
     checks.holds("either: skipped", answer.skipped.is_empty());
 
     let answer = scan(alloc, &table, &truth(true)?)?;
     checks.holds(
         "true: rows",
-        answer.rows.len() == 3 && answer.rows_tested == 0,
+        begin_with(&answer, &[1, 2, 10]) && answer.rows_tested == 0,
     );
     checks.holds("true: whole", answer.whole.as_slice() == [0, 1].as_slice());
     checks.holds("true: proofs", answer.proofs == 4);
@@ -47,7 +47,7 @@ pub fn the_library_joins_predicates(
     checks.holds("false: rows", answer.rows.is_empty());
     checks.holds(
         "false: skipped",
-        answer.skipped.len() == 2 && answer.proofs == 2,
+        answer.skipped.as_slice() == [0, 1].as_slice() && answer.proofs == 2,
     );
     Ok(())
 }

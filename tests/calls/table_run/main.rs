@@ -1,5 +1,6 @@
 //! Runs a session of lines in memory: one line more each time, cut anywhere, ended at many places,
-//! with each read, many a write and the flush failing in turn, and where all memory is refused.
+//! with each read, many a write and the flush failing in turn, and where all memory is refused; and
+//! calls the sources and sinks, the short texts and the session that a run is made of.
 #![tactic(auto)]
 
 mod checks;
@@ -9,6 +10,7 @@ mod faults;
 mod no_memory;
 mod refusing;
 mod session;
+mod streams;
 
 use crate::checks::Checks;
 use std::alloc::{AllocError, Global};
@@ -30,6 +32,11 @@ fn run_all(alloc: Global, checks: &mut Checks<'_>) -> Result<(), AllocError> {
     checks.end_part("writes may fail");
     no_memory::refusals_take_no_memory(alloc, checks)?;
     checks.end_part("refusals take no memory");
+    streams::sources_and_sinks(alloc, checks)?;
+    checks.end_part("sources and sinks pass on what they are given");
+    streams::short_texts(checks);
+    streams::sessions(alloc, checks)?;
+    checks.end_part("a session answers line by line");
     Ok(())
 }
 
