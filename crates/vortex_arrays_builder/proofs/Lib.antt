@@ -9,3 +9,4 @@ pub mod RecordLemmas
 pub mod StringLemmas
 pub mod TypeLemmas
 pub mod IntegerLemmas
+pub mod TooLargeLemmas

@@ -28,6 +28,7 @@ use Rattle.vortex_arrays_model.specs.Layout.{strings, Strings, texts, byte_strin
 use Rattle.vortex_arrays_builder.specs.Plain.{is_held, is_there, MarksNulls, IsPlain}
 use Rattle.vortex_arrays_builder.specs.Strings.{bytes_in, buffered, buffered_len, AreViewsOf, IsStringsFault}
 use Rattle.vortex_arrays_builder.proofs.ItemLemmas.{taken}
+use Rattle.vortex_arrays_builder.proofs.TooLargeLemmas.{no_memory, string_fault, strings_fit}
 
 abbrev Value : Type 0
 Value = Option (Bor ScalarValue)
@@ -188,7 +189,7 @@ plain_strings s n rs v views buffers h w p = record {
   content = λ i l c. string_row s n (get_or rs i raw_null) (is_valid v i) (value_of (get_or views i []) buffers) (p.bits i l) (w.reads i l) c;
 }
 
-pub ruleset plain = (plain_strings, memory_fault)
+pub ruleset plain = (plain_strings, no_memory, string_fault, strings_fit)
 
 -- ---- views of short values
 

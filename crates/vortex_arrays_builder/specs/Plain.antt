@@ -1,15 +1,13 @@
 -- An array that is laid out plain from values.
-use Rattle.std.specs.Prelude.{◌≡◌, ◌<◌, ◌⊎◌, ℕ, suc, ℤ, pos, List, length, map, Bool, true, false, not, slice_index_or}
-use Rattle.std.specs.List.{flat_map}
-use Rattle.vortex_model.specs.LogicalType.{LogicalType, utf8, binary, list, fixed_list, struct, Fields, no_fields, field, Nullability, non_nullable, nullable}
-use Rattle.vortex_model.specs.Content.{content_of, is_null, Raw, raw_null, raw_boolean, raw_number}
+use Rattle.std.specs.Prelude.{◌≡◌, ◌<◌, ℕ, suc, ℤ, pos, List, length, map, Bool, true, false, not, slice_index_or}
+use Rattle.vortex_model.specs.LogicalType.{LogicalType, Fields, no_fields, field, Nullability, non_nullable, nullable}
+use Rattle.vortex_model.specs.Content.{Content, content_of, is_null, Raw, raw_null, raw_boolean, raw_number}
 use Rattle.vortex_model.specs.Valid.{valid}
 use Rattle.vortex_scalar_value.specs.Parts.{raw_part}
 use Rattle.vortex_arrays_view.specs.declared.error.ArrayError.{ArrayError}
 use Rattle.vortex_arrays_view.specs.declared.error.ArrayError.TheVariants as error
 use Rattle.vortex_arrays_model.specs.Layout.{Layout, Valid, Columns, no_columns, column, len_of, array_type_of, content_at, is_valid, nullability_by, IsSound, HasLength}
-use Rattle.vortex_arrays_builder.specs.Items.{raw_items, fixed_items}
-use Rattle.vortex_arrays_builder.specs.Strings.{IsStringsFault}
+use Rattle.vortex_arrays_builder.specs.TooLarge.{AreTooLarge}
 use Rattle.vortex_arrays_builder.specs.Types.{IsPlainLayout}
 
 -- the raw value is null or one of the type
@@ -58,22 +56,8 @@ ArePlain (field x k fs) i rs (column y a cs) =
     (y ≡ x) × IsPlain k (parts_at i rs) a × ArePlain fs (suc i) rs cs
 ArePlain fs i rs cs = ⊥
 
--- A column of texts or of bytes, at whatever depth, can't be held by views and buffers.
-abbrev mutual
-  pub IsTooLarge : LogicalType → List Raw → Type 0
-  IsTooLarge (utf8 n) rs = IsStringsFault error.Total rs
-  IsTooLarge (binary n) rs = IsStringsFault error.Total rs
-  IsTooLarge (list k n) rs = IsTooLarge k (flat_map raw_items rs)
-  IsTooLarge (fixed_list k m n) rs = IsTooLarge k (flat_map (fixed_items m) rs)
-  IsTooLarge (struct fs n) rs = HasTooLarge fs 0 rs
-  IsTooLarge k rs = ⊥
-
-  pub HasTooLarge : Fields → ℕ → List Raw → Type 0
-  HasTooLarge no_fields i rs = ⊥
-  HasTooLarge (field x k fs) i rs = IsTooLarge k (parts_at i rs) ⊎ HasTooLarge fs (suc i) rs
-
--- why values are not laid out plain
-abbrev pub IsPlainFault : ArrayError → LogicalType → List Raw → Type 0
-IsPlainFault error.Memory k rs = Unit {0}
-IsPlainFault error.Total k rs = IsTooLarge k rs
-IsPlainFault e k rs = ⊥
+-- why rows are not laid out plain
+abbrev pub IsPlainFault : ArrayError → LogicalType → List Content → Type 0
+IsPlainFault error.Memory k rows = Unit {0}
+IsPlainFault error.Total k rows = AreTooLarge k rows
+IsPlainFault e k rows = ⊥

@@ -1,23 +1,21 @@
 -- Texts and bytes as views and buffers.
-use Rattle.std.specs.Prelude.{◌≡◌, ◌<◌, ℕ, List, [], length, map, cond, leb, slice_index_or}
+use Rattle.std.specs.Prelude.{◌≡◌, ◌<◌, ℕ, List, [], length, map, slice_index_or}
 use Rattle.std.specs.List.{flat_map}
-use Rattle.vortex_model.specs.Content.{Raw, raw_null, raw_text, raw_byte_string}
+use Rattle.vortex_model.specs.Content.{content_of, Raw, raw_null}
 use Rattle.vortex_arrays_view.specs.Views.{value_of, HasValue}
 use Rattle.vortex_arrays_view.specs.Built.{IsLimitFault}
 use Rattle.vortex_arrays_view.specs.declared.error.ArrayError.{ArrayError}
+use Rattle.vortex_arrays_builder.specs.TooLarge.{string_bytes, buffered_bytes, buffered_count}
 
--- the bytes of a text or of bytes, and none of anything else
+-- the same of raw values as of what they say
 abbrev pub bytes_in : Raw → List ℕ
-bytes_in (raw_text bs) = bs
-bytes_in (raw_byte_string bs) = bs
-bytes_in r = []
+bytes_in r = string_bytes (content_of r)
 
--- the bytes that stand in a buffer: those of a value that no view has room for
 abbrev pub buffered : Raw → List ℕ
-buffered r = cond (leb (length (bytes_in r)) 12) [] (bytes_in r)
+buffered r = buffered_bytes (content_of r)
 
 abbrev pub buffered_len : Raw → ℕ
-buffered_len r = length (buffered r)
+buffered_len r = buffered_count (content_of r)
 
 -- each view stands for the bytes of its value
 pub record AreViewsOf (rs : List Raw) (buffers views : List (List ℕ)) : Type 0 where

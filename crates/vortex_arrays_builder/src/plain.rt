@@ -8,7 +8,8 @@ ghost use Rattle.vortex_scalar_value.specs.View.{raw_at, content_at};
 ghost use Rattle.vortex_arrays_model.specs.Layout.{array_type_of, rows_of};
 ghost use Rattle.vortex_arrays_model.specs.Parts.{columns_of};
 ghost use Rattle.vortex_arrays_builder.specs.Types.{HasPlain, HavePlain, IsPlainLayout};
-ghost use Rattle.vortex_arrays_builder.specs.Plain.{is_held, IsPlain, ArePlain, IsPlainFault, IsTooLarge, HasTooLarge};
+ghost use Rattle.vortex_arrays_builder.specs.Plain.{is_held, IsPlain, ArePlain, IsPlainFault};
+ghost use Rattle.vortex_arrays_builder.specs.TooLarge.{AreTooLarge, HaveTooLarge};
 
 use crate::items::{column_of, end_to_end, fixed_end_to_end};
 use crate::leaves::{of_booleans, of_integers};
@@ -38,9 +39,9 @@ pub fn build_plain(
     ensures rows { IfOk result (λ array. rows_of array ≡ map content_at values.now) }
     ensures layout { IfOk result (λ array. IsPlainLayout array) }
     ensures accepted { OnOk result
-        (¬ IsTooLarge (type_of dtype.now) (map raw_at values.now)) }
+        (¬ AreTooLarge (type_of dtype.now) (map content_at values.now)) }
     ensures refused { IfErr result
-        (λ e. IsPlainFault e (type_of dtype.now) (map raw_at values.now)) }
+        (λ e. IsPlainFault e (type_of dtype.now) (map content_at values.now)) }
 {
     plain_of(alloc, dtype, values)
 }
@@ -59,9 +60,9 @@ fn plain_of(
     ensures plain { IfOk result
         (λ array. IsPlain (type_of dtype.now) (map raw_at values.now) array) }
     ensures accepted { OnOk result
-        (¬ IsTooLarge (type_of dtype.now) (map raw_at values.now)) }
+        (¬ AreTooLarge (type_of dtype.now) (map content_at values.now)) }
     ensures refused { IfErr result
-        (λ e. IsPlainFault e (type_of dtype.now) (map raw_at values.now)) }
+        (λ e. IsPlainFault e (type_of dtype.now) (map content_at values.now)) }
 {
     match dtype {
         DType::Bool(nullability) => Ok(of_booleans(alloc, *nullability, values)?),
@@ -91,7 +92,7 @@ fn plain_of(
 
 // An array for each field, of what the records have there.
 #[cycle(plain)]
-#[tactic(auto, using(crate::proofs::PlainLemmas::fields))]
+#[tactic(auto, using(crate::proofs::TooLargeLemmas::fields))]
 fn field_arrays(
     alloc: Global,
     fields: &[StructField],
@@ -103,9 +104,9 @@ fn field_arrays(
     ensures plain { IfOk result (λ arrays. ArePlain (fields_of fields.now) 0 (map raw_at values.now)
         (columns_of (names_of (fields_of fields.now)) arrays.items)) }
     ensures accepted { OnOk result
-        (¬ HasTooLarge (fields_of fields.now) 0 (map raw_at values.now)) }
+        (¬ HaveTooLarge (fields_of fields.now) 0 (map content_at values.now)) }
     ensures refused { IfErr result (λ e.
-        IsPlainFault e (struct (fields_of fields.now) nullable) (map raw_at values.now)) }
+        IsPlainFault e (struct (fields_of fields.now) nullable) (map content_at values.now)) }
 {
     let mut arrays = Vec::with_capacity(alloc, fields.len())?;
     for i in 0..fields.len() {

@@ -4,13 +4,14 @@ ghost use Rattle.std.specs.Prelude.{◌≡◌, ◌<◌, ℕ, [], true, length, m
 ghost use Rattle.std.specs.List.{flat_map};
 ghost use Rattle.vortex_model.specs.Content.{raw_null};
 ghost use Rattle.vortex_dtype_ptype.specs.View.{nullability_of_flag};
-ghost use Rattle.vortex_scalar_value.specs.View.{raw_at};
+ghost use Rattle.vortex_scalar_value.specs.View.{raw_at, content_at};
 ghost use Rattle.vortex_arrays_view.specs.Made.{short_view};
 ghost use Rattle.vortex_arrays_view.specs.declared.error.ArrayError.TheVariants.{Total};
 ghost use Rattle.vortex_arrays_model.specs.Layout.{type_of_strings};
 ghost use Rattle.vortex_arrays_core.specs.LayoutOf.{strings_of};
 ghost use Rattle.vortex_arrays_builder.specs.Strings.{bytes_in, buffered, buffered_len, AreViewsOf, IsStringsFault};
-ghost use Rattle.vortex_arrays_builder.specs.Plain.{is_held, IsPlain};
+ghost use Rattle.vortex_arrays_builder.specs.Plain.{is_held, IsPlain, IsPlainFault};
+ghost use Rattle.vortex_arrays_builder.specs.TooLarge.{AreTooLarge};
 
 use crate::leaves::nulls_of;
 use bytes::Bytes;
@@ -39,8 +40,12 @@ pub fn of_strings(
     ensures plain { IfOk result
         (λ array. IsPlain (type_of_strings (strings_of kind) (nullability_of_flag nullability))
         (map raw_at values.now) array) }
-    ensures accepted { OnOk result (¬ IsStringsFault Total (map raw_at values.now)) }
-    ensures refused { IfErr result (λ e. IsStringsFault e (map raw_at values.now)) }
+    ensures accepted { OnOk result
+        (¬ AreTooLarge (type_of_strings (strings_of kind) (nullability_of_flag nullability))
+        (map content_at values.now)) }
+    ensures refused { IfErr result
+        (λ e. IsPlainFault e (type_of_strings (strings_of kind) (nullability_of_flag nullability))
+        (map content_at values.now)) }
 {
     let (buffers, views) = views_of(alloc, values)?;
     let views = Buffer::from_vec(views)?;

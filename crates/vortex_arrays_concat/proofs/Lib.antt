@@ -7,3 +7,5 @@ pub mod RowLemmas
 pub mod StringLemmas
 pub mod TypeLemmas
 pub mod ValidityLemmas
+pub mod ArrayRoom
+pub mod RoomLemmas

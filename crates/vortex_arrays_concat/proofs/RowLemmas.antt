@@ -7,7 +7,7 @@ use Rattle.std.proofs.lemmas.List.Sums.{sum_by-cons}
 use Rattle.std.proofs.lemmas.List.Elements.{All-nil, All-append, All-cons, All-tail}
 use Rattle.std.proofs.Math.Seq.{drop-cons}
 use Rattle.vortex_model.specs.LogicalType.{LogicalType}
-use Rattle.vortex_model.specs.Content.{content_of}
+use Rattle.vortex_model.specs.Content.{Content, content_of}
 use Rattle.vortex_model.specs.Valid.{valid}
 use Rattle.vortex_dtype_core.specs.Parts.{is_struct_type}
 use Rattle.vortex_scalar_value.specs.View.{raw_in, raw_at, content_in, content_at as value_content}
@@ -18,6 +18,7 @@ use Rattle.vortex_arrays_model.specs.Layout.{Layout, bools, numbers, strings, te
 use Rattle.vortex_arrays_model.proofs.RowsLemmas.{row_at_position, row_count}
 use Rattle.vortex_arrays_struct.specs.Records.{AreRecords}
 use Rattle.vortex_arrays_builder.specs.Plain.{IsPlainFault}
+use Rattle.vortex_arrays_builder.specs.TooLarge.{AreTooLarge}
 use Rattle.vortex_arrays_builder.specs.Types.{HasPlain, IsPlainLayout}
 use Rattle.vortex_arrays_concat.specs.PlainTypes.{has_plain}
 use Rattle.vortex_arrays_concat.specs.EndToEnd.{rows_of_arrays, rows_in_all, AreOfType, IsConcatenation, IsConcatFault}
@@ -174,31 +175,22 @@ valid_lent k vs bs e h = λ i d l.
     (sym (get_or-map raw_in vs i None (raw_at d) m) ∙ sym (ap (λ rs. get_or rs i (raw_at d)) e) ∙ get_or-map raw_at bs i d (raw_at d) l)
     (h i None m)
 
+pub same_rows : (ls : List Layout) (vs : List Value) (bs : List Lent) → map content_in vs ≡ rows_of_arrays ls → map raw_at bs ≡ map raw_in vs → map value_content bs ≡ rows_of_arrays ls
+same_rows ls vs bs r e = sym (contents_of bs) ∙ ap (map content_of) e ∙ contents_in vs ∙ r
+
 pub concat_made : (ls : List Layout) (k : LogicalType) (vs : List Value) (bs : List Lent) (a : Layout) → AreOfType ls k → map content_in vs ≡ rows_of_arrays ls → map raw_at bs ≡ map raw_in vs → array_type_of a ≡ k → rows_of a ≡ map value_content bs → IsConcatenation ls a
 concat_made ls k vs bs a t r e f g = record {
   kinds = subst (AreOfType ls) (sym f) t;
-  rows = g ∙ sym (contents_of bs) ∙ ap (map content_of) e ∙ contents_in vs ∙ r;
+  rows = g ∙ same_rows ls vs bs r e;
 }
 
-all_valid : (k : LogicalType) (vs : List Value) → AreOf k vs → list_all (valid k) (map raw_in vs) ≡ true
-all_valid k [] h = refl
-all_valid k (v ∷ vs) h =
-    let first : 0 < length (v ∷ vs) = omega arith in
-    λ i. h 0 None first i && all_valid k vs (All-tail (λ row. valid k (raw_in row) ≡ true) v vs h) i
+pub concat_fault : (e : ArrayError) (ls : List Layout) (k : LogicalType) (vs : List Value) (bs : List Lent) → AreOfType ls k → map content_in vs ≡ rows_of_arrays ls → map raw_at bs ≡ map raw_in vs → IsPlainFault e k (map value_content bs) → IsConcatFault e ls
+concat_fault error.Memory ls k vs bs t r e h = tt
+concat_fault error.Total ls k vs bs t r e h = (k, t, inr (subst (AreTooLarge k) (same_rows ls vs bs r e) h))
+concat_fault x ls k vs bs t r e h = absurd h
 
-pub concat_fault : (e : ArrayError) (ls : List Layout) (k : LogicalType) (vs : List Value) (bs : List Lent) → AreOfType ls k → map content_in vs ≡ rows_of_arrays ls → map raw_at bs ≡ map raw_in vs → AreOf k vs → IsPlainFault e k (map raw_at bs) → IsConcatFault e ls
-concat_fault error.Memory ls k vs bs t r e v h = tt
-concat_fault error.Total ls k vs bs t r e v h = (
-  k,
-  t,
-  inr (record {
-    values = map raw_at bs;
-    are_rows = ap (map content_of) e ∙ contents_in vs ∙ r;
-    are_valid = ap (list_all (valid k)) e ∙ all_valid k vs v;
-    too_large = h;
-  }),
-)
-concat_fault x ls k vs bs t r e v h = absurd h
+pub rows_fit : (k : LogicalType) (rows : List Content) (a : Layout) → array_type_of a ≡ k → rows_of a ≡ rows → ¬ AreTooLarge k rows → ¬ AreTooLarge (array_type_of a) (rows_of a)
+rows_fit k rows a e f h = subst (λ t. ¬ AreTooLarge t (rows_of a)) (sym e) (subst (λ cs. ¬ AreTooLarge k cs) (sym f) h)
 
 pub uncounted : (ls : List Layout) (k : LogicalType) → AreOfType ls k → 2 ^ 64 ≤ rows_in_all ls → IsConcatFault error.Total ls
 uncounted ls k t h = (k, t, inl h)
@@ -209,7 +201,7 @@ all_kinds ls k h = h.kinds
 pub has_layout : (ls : List Layout) (k : LogicalType) → AreOfType ls k → HasPlain k
 has_layout ls k h = h.plain
 
-pub ruleset whole = (valid_lent, concat_made, concat_fault, uncounted, all_kinds, has_layout)
+pub ruleset whole = (valid_lent, concat_made, concat_fault, rows_fit, uncounted, all_kinds, has_layout)
 
 -- ---- records
 
@@ -233,4 +225,7 @@ plain_records a h e = absurd h
 pub are_records : (ls : List Layout) (a : Layout) → IsConcatenation ls a → IsPlainLayout a → AreRecords a
 are_records ls a c h = plain_records a h (let t = c.kinds in t.records)
 
-pub ruleset of_records = (as_seen, fault_seen, are_records)
+pub counted_seen : (ls : List Layout) → rows_in_all ls < 2 ^ 64 → rows_in_all (map (λ a. a) ls) < 2 ^ 64
+counted_seen ls h = subst (λ xs. rows_in_all xs < 2 ^ 64) (sym (map-id ls)) h
+
+pub ruleset of_records = (as_seen, fault_seen, counted_seen, are_records)

@@ -48,6 +48,12 @@ counted_all ps i n h l =
 pub counted_past : (ps : List Held) (i n : ℕ) (p : Held) → Counted ps i n → i < length ps → p ≡ get_or ps i p → 2 ^ 64 ≤ n + p.1 → 2 ^ 64 ≤ lengths_of_all (parts_of ps)
 counted_past ps i n p h l e f = let s = lengths_left ps i p l e in omega (arith, h, s, f)
 
+pub none_counted : (ps : List Held) → length ps ≡ 0 → lengths_of_all (parts_of ps) < 2 ^ 64
+none_counted [] h = omega arith
+none_counted (p ∷ ps) h = absurd (omega (arith, h))
+
+pub ruleset whole = (none_counted)
+
 pub ruleset counted = (counted_none, counted_more, counted_all, counted_past)
 
 -- ---- tests of all

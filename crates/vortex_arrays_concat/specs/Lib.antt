@@ -4,4 +4,5 @@ pub mod FixedLists
 pub mod Lists
 pub mod PlainParts
 pub mod PlainTypes
+pub mod Room
 pub mod Strings

@@ -8,6 +8,7 @@ mod nested;
 mod plain_parts;
 mod plain_types;
 mod records;
+mod room;
 mod rows;
 mod strings;
 pub mod struct_array_concat;

@@ -1,14 +1,16 @@
 //! Records end to end.
-ghost use Rattle.std.specs.Prelude.{◌≡◌, ◌↔◌, map, length, IfOk, IfErr, IsTrue, MatchOption, All};
+ghost use Rattle.std.specs.Prelude.{◌≡◌, ◌<◌, ◌^◌, ◌↔◌, map, length, IfOk, OnOk, IfErr, IsTrue, MatchOption, All};
 ghost use Rattle.vortex_model.specs.LogicalType.{LogicalType};
 ghost use Rattle.vortex_dtype_core.specs.View.{type_of};
-ghost use Rattle.vortex_arrays_model.specs.Layout.{Layout, array_type_of};
+ghost use Rattle.vortex_arrays_model.specs.Layout.{Layout, array_type_of, rows_of};
+ghost use Rattle.vortex_arrays_builder.specs.TooLarge.{AreTooLarge};
 ghost use Rattle.vortex_arrays_builder.specs.Types.{HasPlain, IsPlainLayout};
-ghost use Rattle.vortex_arrays_concat.specs.EndToEnd.{AreOfType, IsConcatenation, IsConcatFault};
+ghost use Rattle.vortex_arrays_concat.specs.EndToEnd.{rows_in_all, AreOfType, IsConcatenation, IsConcatFault};
 
 use crate::nested::concat_column;
 use crate::plain_parts::is_of_type;
 use crate::plain_types::has_plain;
+use crate::room::have_room;
 use crate::rows::{count_rows, lend, rows_of};
 use std::alloc::{AllocError, Global};
 use vortex_arrays_builder::plain::build_plain;
@@ -32,6 +34,9 @@ pub trait StructArrayConcat: Sized {
     fn try_concat(alloc: Global, arrays: &[Self]) -> Result<Self, ArrayError>
         ensures made { IfOk result (λ a. IsConcatenation (map layout arrays.now) (layout a)) }
         ensures layout { IfOk result (λ a. IsPlainLayout (layout a)) }
+        ensures counted { OnOk result (rows_in_all (map layout arrays.now) < 2 ^ 64) }
+        ensures accepted { IfOk result
+            (λ a. ¬ AreTooLarge (array_type_of (layout a)) (rows_of (layout a))) }
         ensures refused { IfErr result (λ e. IsConcatFault e (map layout arrays.now)) };
 }
 
@@ -48,12 +53,14 @@ impl StructArrayConcat for StructArray {
     }
 }
 
-// The records of the arrays as an array of any layout: column by column, and by the values of all
-// rows where that can't be.
+// The records of the arrays as an array of any layout: column by column, which keeps the buffers of
+// texts and bytes, and by the values of all rows where that can't be or buffers may be too few.
 #[tactic(auto, using(crate::proofs::RecordLemmas::whole))]
 fn concat(alloc: Global, arrays: &[StructArray]) -> Result<ArrayRef, ArrayError>
     ensures made { IfOk result (λ a. IsConcatenation arrays.now a) }
     ensures layout { IfOk result (λ a. IsPlainLayout a) }
+    ensures counted { OnOk result (rows_in_all arrays.now < 2 ^ 64) }
+    ensures accepted { IfOk result (λ a. ¬ AreTooLarge (array_type_of a) (rows_of a)) }
     ensures refused { IfErr result (λ e. IsConcatFault e arrays.now) }
 {
     let Some(dtype) = type_of_all(arrays) else {
@@ -64,7 +71,9 @@ fn concat(alloc: Global, arrays: &[StructArray]) -> Result<ArrayRef, ArrayError>
     };
     let shared = share(alloc, arrays)?;
     if let Some(array) = concat_column(alloc, dtype, shared.as_slice(), count)? {
-        return Ok(array);
+        if have_room(&array) {
+            return Ok(array);
+        }
     }
     concat_rows(alloc, dtype, arrays, count)
 }
@@ -91,6 +100,7 @@ fn concat_rows(
     requires { AreOfType arrays.now (type_of dtype.now) }
     ensures made { IfOk result (λ a. IsConcatenation arrays.now a) }
     ensures layout { IfOk result (λ a. IsPlainLayout a) }
+    ensures accepted { IfOk result (λ a. ¬ AreTooLarge (array_type_of a) (rows_of a)) }
     ensures refused { IfErr result (λ e. IsConcatFault e arrays.now) }
 {
     let rows = rows_of(alloc, arrays, count)?;

@@ -39,6 +39,8 @@ pub trait ValidityConcat: Sized {
         ensures made { IfOk result (λ found. MatchOption found (length parts.now ≡ 0)
             (λ v. (0 < length parts.now)
             × IsEndToEnd (map (λ part. (valid part.0, part.1)) parts.now) (valid v))) }
+        ensures accepted { OnOk result
+            (lengths_of_all (map (λ part. (valid part.0, part.1)) parts.now) < 2 ^ 64) }
         ensures refused { IfErr result
             (λ e. IsEndToEndFault e (map (λ part. (valid part.0, part.1)) parts.now)) };
 }
@@ -52,6 +54,7 @@ impl ValidityConcat for Validity {
         DType::Bool(Nullability::NonNullable)
     }
 
+    #[tactic(auto, using(crate::proofs::ValidityLemmas::whole))]
     fn concat(alloc: Global, parts: &[(Validity, usize)]) -> Result<Option<Validity>, ArrayError> {
         if parts.is_empty() {
             return Ok(None);

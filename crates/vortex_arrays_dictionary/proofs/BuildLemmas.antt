@@ -11,23 +11,18 @@ use Rattle.vortex_model.specs.Valid.{valid}
 use Rattle.vortex_dtype_ptype.specs.Numbers.{HoldsNarrowly}
 use Rattle.vortex_scalar_value.specs.View.{raw_at, content_at as value_content}
 use Rattle.vortex_scalar_value.specs.declared.scalar_value.ScalarValue.{ScalarValue}
-use Rattle.vortex_arrays_view.specs.declared.error.ArrayError.{ArrayError}
-use Rattle.vortex_arrays_view.specs.declared.error.ArrayError.TheVariants as error
 use Rattle.vortex_arrays_model.specs.Layout.{Layout, dictionary, numbers, Valid, len_of, content_at, is_valid, rows_of, pick, IsCode, IsSound}
 use Rattle.vortex_arrays_model.proofs.RowsLemmas.{rows_by_position, row_at_position, row_count}
 use Rattle.vortex_arrays_builder.specs.Types.{HasPlain, IsPlainLayout}
-use Rattle.vortex_arrays_builder.specs.Plain.{is_there, MarksNulls, IsPlainFault}
+use Rattle.vortex_arrays_builder.specs.Plain.{is_there, MarksNulls}
+use Rattle.vortex_arrays_builder.proofs.TooLargeLemmas.{contents, no_memory}
 use Rattle.vortex_arrays_dictionary.specs.Distinct.{distinct}
 use Rattle.vortex_arrays_dictionary.specs.Codes.{AreCodes}
-use Rattle.vortex_arrays_dictionary.specs.Dictionary.{IsDictionaryOf, IsDictionaryFault}
+use Rattle.vortex_arrays_dictionary.specs.Dictionary.{IsDictionaryOf}
 use Rattle.vortex_arrays_dictionary.specs.Numbering.{AreOf, IsNumbering}
 
 abbrev Value : Type 0
 Value = Option (Bor ScalarValue)
-
-pub contents : (vs : List Value) → map content_of (map raw_at vs) ≡ map value_content vs
-contents [] = refl
-contents (v ∷ vs) = ap (λ cs. value_content v ∷ cs) (contents vs)
 
 pub leaves_plain : (k : LogicalType) → is_leaf k ≡ true → HasPlain k
 leaves_plain (boolean_type n) l = tt
@@ -153,14 +148,10 @@ value_rows vs a h = h ∙ contents vs
 pub value_dictionary : (vs : List Value) (a : Layout) → IsDictionaryOf (map content_of (map raw_at vs)) a → IsDictionaryOf (map value_content vs) a
 value_dictionary vs a h = subst (λ cs. IsDictionaryOf cs a) (contents vs) h
 
--- ---- refusals
+-- ---- what is too large
 
-pub no_memory : (e : ArrayError) (k : LogicalType) (rs : List Raw) → e ≡ error.Memory → IsDictionaryFault e k rs
-no_memory e k rs h = subst (λ x. IsDictionaryFault x k rs) (sym h) tt
-
-pub plain_fault : (e : ArrayError) (k : LogicalType) (rs ds : List Raw) → map content_of ds ≡ distinct (map content_of rs) → IsPlainFault e k ds → IsDictionaryFault e k rs
-plain_fault error.Memory k rs ds d h = tt
-plain_fault error.Total k rs ds d h = (ds, d, h)
-plain_fault e k rs ds d h = absurd h
+-- what is laid out plain is the distinct values
+pub each_distinct : (vs items : List Value) → map content_of (map raw_at items) ≡ distinct (map content_of (map raw_at vs)) → map value_content items ≡ distinct (map value_content vs)
+each_distinct vs items e = sym (contents items) ∙ e ∙ ap distinct (contents vs)
 
 pub ruleset built = (no_memory, leaves_plain)

@@ -1,12 +1,9 @@
 -- Columns as dictionaries.
-use Rattle.std.specs.Prelude.{◌≡◌, ◌<◌, ◌-◌, ℕ, ℤ, pos, List, length, map, true, false, not, slice_index_or}
-use Rattle.vortex_model.specs.LogicalType.{LogicalType, IntKind}
-use Rattle.vortex_model.specs.Content.{Content, null, is_null, content_of, Raw}
+use Rattle.std.specs.Prelude.{◌≡◌, ◌<◌, ◌-◌, ℕ, ℤ, pos, List, length, true, false, not, slice_index_or}
+use Rattle.vortex_model.specs.LogicalType.{IntKind}
+use Rattle.vortex_model.specs.Content.{Content, null, is_null}
 use Rattle.vortex_dtype_ptype.specs.Numbers.{HoldsNarrowly}
-use Rattle.vortex_arrays_view.specs.declared.error.ArrayError.{ArrayError}
-use Rattle.vortex_arrays_view.specs.declared.error.ArrayError.TheVariants as error
 use Rattle.vortex_arrays_model.specs.Layout.{Layout, dictionary, numbers, Valid, is_valid, rows_of}
-use Rattle.vortex_arrays_builder.specs.Plain.{IsTooLarge}
 use Rattle.vortex_arrays_builder.specs.Types.{IsPlainLayout}
 use Rattle.vortex_arrays_dictionary.specs.Distinct.{distinct}
 
@@ -25,11 +22,3 @@ pub record IsDictionaryOf (cs : List Content) (a : Layout) : Type 0 where
   pub narrow : HoldsNarrowly true (pos (length (distinct cs) - 1)) kind
   pub null_codes : (i : ℕ) → i < length cs →
       is_valid nulls i ≡ not (is_null (slice_index_or cs i null))
-
--- why values are not laid out as a dictionary: want of memory, or their distinct ones are too large
--- to be laid out plain
-abbrev pub IsDictionaryFault : ArrayError → LogicalType → List Raw → Type 0
-IsDictionaryFault error.Memory k rs = Unit {0}
-IsDictionaryFault error.Total k rs =
-    (ds : List Raw) × (map content_of ds ≡ distinct (map content_of rs)) × IsTooLarge k ds
-IsDictionaryFault e k rs = ⊥

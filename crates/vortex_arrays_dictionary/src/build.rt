@@ -1,11 +1,14 @@
 //! Arrays of values, laid out as a dictionary.
-ghost use Rattle.std.specs.Prelude.{◌≡◌, true, map, IfOk, IfErr, All};
+ghost use Rattle.std.specs.Prelude.{◌≡◌, true, map, IfOk, OnOk, IfErr, All};
 ghost use Rattle.vortex_model.specs.Kept.{is_leaf};
 ghost use Rattle.vortex_model.specs.Valid.{valid};
 ghost use Rattle.vortex_dtype_core.specs.View.{type_of};
 ghost use Rattle.vortex_scalar_value.specs.View.{raw_at, content_at};
 ghost use Rattle.vortex_arrays_model.specs.Layout.{array_type_of, rows_of};
-ghost use Rattle.vortex_arrays_dictionary.specs.Dictionary.{IsDictionaryOf, IsDictionaryFault};
+ghost use Rattle.vortex_arrays_builder.specs.Plain.{IsPlainFault};
+ghost use Rattle.vortex_arrays_builder.specs.TooLarge.{AreTooLarge};
+ghost use Rattle.vortex_arrays_dictionary.specs.Dictionary.{IsDictionaryOf};
+ghost use Rattle.vortex_arrays_dictionary.specs.Distinct.{distinct};
 
 use crate::codes::codes_of;
 use crate::number::number_values;
@@ -34,8 +37,10 @@ pub fn build_dictionary(
     ensures dtype { IfOk result (λ array. array_type_of array ≡ type_of dtype.now) }
     ensures rows { IfOk result (λ array. rows_of array ≡ map content_at values.now) }
     ensures layout { IfOk result (λ array. IsDictionaryOf (map content_at values.now) array) }
+    ensures accepted { OnOk result
+        (¬ AreTooLarge (type_of dtype.now) (distinct (map content_at values.now))) }
     ensures refused { IfErr result
-        (λ e. IsDictionaryFault e (type_of dtype.now) (map raw_at values.now)) }
+        (λ e. IsPlainFault e (type_of dtype.now) (distinct (map content_at values.now))) }
 {
     let numbering = number_values(alloc, values)?;
     let distinct = build_plain(alloc, dtype, numbering.values.as_slice())?;

@@ -11,14 +11,12 @@ use Rattle.vortex_arrays_view.specs.declared.error.ArrayError.TheVariants as err
 use Rattle.vortex_arrays_model.specs.Layout.{Layout, array_type_of}
 use Rattle.vortex_arrays_builder.specs.Fits.{fits_dictionary}
 use Rattle.vortex_arrays_builder.specs.Types.{IsPlainLayout}
-use Rattle.vortex_arrays_builder.proofs.PlainLemmas.{no_memory}
+use Rattle.vortex_arrays_builder.specs.Plain.{IsPlainFault}
+use Rattle.vortex_arrays_builder.specs.TooLarge.{AreTooLarge}
+use Rattle.vortex_arrays_builder.proofs.TooLargeLemmas.{no_memory}
 use Rattle.vortex_arrays_dictionary.specs.Distinct.{distinct}
-use Rattle.vortex_arrays_dictionary.specs.Dictionary.{IsDictionaryOf, IsDictionaryFault}
-use Rattle.vortex_table_layout.specs.Hinted.{AreDistinctTooLarge, IsDictionaryWhere, IsLaidOutBy}
-use Rattle.vortex_table_layout.proofs.LaidLemmas.{contents}
-
-abbrev Value : Type 0
-Value = Option (Bor ScalarValue)
+use Rattle.vortex_arrays_dictionary.specs.Dictionary.{IsDictionaryOf}
+use Rattle.vortex_table_layout.specs.Hinted.{IsDictionaryWhere, IsLaidOutBy}
 
 first_true : (a b : Bool) → (a && b) ≡ true → a ≡ true
 first_true true b h = refl
@@ -38,17 +36,13 @@ by_dictionary k cs a e f d = where_fits true k cs a e f (inl d)
 pub by_unfit : (k : LogicalType) (cs : List Content) (a : Layout) → array_type_of a ≡ k → fits_dictionary k cs ≡ false → IsPlainLayout a → IsLaidOutBy hints.Dictionary cs a
 by_unfit k cs a e f p = where_fits false k cs a e f p
 
--- a fault that is not want of memory is one of the distinct values
-pub distinct_fault : (e : ArrayError) (k : LogicalType) (vs : List Value) → IsDictionaryFault e k (map raw_at vs) → (e ≡ error.Memory → ⊥) → AreDistinctTooLarge k (map value_content vs)
-distinct_fault error.Memory k vs h n = absurd (n refl)
-distinct_fault error.Total k vs h n = record {
-  values = h.0;
-  are_distinct = h.1 ∙ ap distinct (contents vs);
-  too_large = h.2;
-}
-distinct_fault e k vs h n = absurd h
+-- a fault that is not want of memory is that the rows are too large
+pub rows_fault : (e : ArrayError) (k : LogicalType) (cs : List Content) → IsPlainFault e k cs → (e ≡ error.Memory → ⊥) → AreTooLarge k cs
+rows_fault error.Memory k cs h n = absurd (n refl)
+rows_fault error.Total k cs h n = h
+rows_fault e k cs h n = absurd h
 
-pub by_too_large : (e : ArrayError) (k : LogicalType) (vs : List Value) (a : Layout) → array_type_of a ≡ k → fits_dictionary k (map value_content vs) ≡ true → IsDictionaryFault e k (map raw_at vs) → (e ≡ error.Memory → ⊥) → IsPlainLayout a → IsLaidOutBy hints.Dictionary (map value_content vs) a
-by_too_large e k vs a t f h n p = where_fits true k (map value_content vs) a t f (inr (distinct_fault e k vs h n, p))
+pub by_too_large : (e : ArrayError) (k : LogicalType) (cs : List Content) (a : Layout) → array_type_of a ≡ k → fits_dictionary k cs ≡ true → IsPlainFault e k (distinct cs) → (e ≡ error.Memory → ⊥) → IsPlainLayout a → IsLaidOutBy hints.Dictionary cs a
+by_too_large e k cs a t f h n p = where_fits true k cs a t f (inr (rows_fault e k (distinct cs) h n, p))
 
 pub ruleset laid = (of_leaves, by_dictionary, by_unfit, by_too_large, no_memory)

@@ -19,12 +19,14 @@ use Rattle.vortex_arrays_model.proofs.PicksLemmas.{have_length, each_length}
 use Rattle.vortex_arrays_model.proofs.RowsLemmas.{row_at_position, row_count, rows_by_position}
 use Rattle.vortex_arrays_builder.specs.Fits.{fits_constant, fits_dictionary}
 use Rattle.vortex_arrays_builder.specs.Types.{HasPlain, HavePlain, IsPlainLayout}
+use Rattle.vortex_arrays_builder.specs.Plain.{IsPlainFault}
+use Rattle.vortex_arrays_dictionary.specs.Distinct.{distinct}
 use Rattle.vortex_arrays_builder.proofs.TypeLemmas.{held_plain}
-use Rattle.vortex_arrays_dictionary.specs.Dictionary.{IsDictionaryOf, IsDictionaryFault}
-use Rattle.vortex_table_layout.specs.Hinted.{hint_at, IsConstant, IsConstantWhere, IsDictionaryWhere, IsLaidOutBy, AreLaidOutBy, HasHintedColumns, AreDistinctTooLarge}
+use Rattle.vortex_arrays_dictionary.specs.Dictionary.{IsDictionaryOf}
+use Rattle.vortex_table_layout.specs.Hinted.{hint_at, IsConstant, IsConstantWhere, IsDictionaryWhere, IsLaidOutBy, AreLaidOutBy, HasHintedColumns}
 use Rattle.vortex_table_layout.specs.HintedAnew.{IsConstantOr, IsDictionaryOr, IsHinted, AreHinted, IsHintedArray, IsColumnFrom, AreColumnsFrom, IsArrayFrom}
 use Rattle.vortex_table_layout.proofs.LaidLemmas.{contents, all_unmapped}
-use Rattle.vortex_table_layout.proofs.DictionaryLemmas.{distinct_fault, of_leaves}
+use Rattle.vortex_table_layout.proofs.DictionaryLemmas.{rows_fault, of_leaves}
 
 abbrev Value : Type 0
 Value = Option (Bor ScalarValue)
@@ -275,9 +277,9 @@ pub ruleset dictionaries = (dictionary_fits, dictionary_unfit)
 pub dictionary_of_rows : (a b : Layout) (cs : List Content) → cs ≡ rows_of a → fits_dictionary (array_type_of a) (rows_of a) ≡ true → IsDictionaryOf cs b → IsHinted hints.Dictionary a b
 dictionary_of_rows a b cs e f d = dictionary_fits a b f (subst (λ rs. IsDictionaryOf rs b) e d)
 
-pub dictionary_too_large : (x : ArrayError) (a b : Layout) (vs : List Value) → map value_content vs ≡ rows_of a → fits_dictionary (array_type_of a) (rows_of a) ≡ true → IsDictionaryFault x (array_type_of a) (map raw_at vs) → (x ≡ error.Memory → ⊥) → b ≡ a → IsHinted hints.Dictionary a b
+pub dictionary_too_large : (x : ArrayError) (a b : Layout) (vs : List Value) → map value_content vs ≡ rows_of a → fits_dictionary (array_type_of a) (rows_of a) ≡ true → IsPlainFault x (array_type_of a) (distinct (map value_content vs)) → (x ≡ error.Memory → ⊥) → b ≡ a → IsHinted hints.Dictionary a b
 dictionary_too_large x a b vs e f h n c =
     subst (λ t. IsDictionaryOr t a b) (sym f)
-    (inr (subst (AreDistinctTooLarge (array_type_of a)) e (distinct_fault x (array_type_of a) vs h n), c))
+    (inr (rows_fault x (array_type_of a) (distinct (rows_of a)) (subst (λ cs. IsPlainFault x (array_type_of a) (distinct cs)) e h) n, c))
 
 pub ruleset dictionaries_of_values = (column_rows, column_valid, of_leaves, dictionary_of_rows, dictionary_too_large)

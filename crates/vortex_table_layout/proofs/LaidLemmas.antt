@@ -28,11 +28,10 @@ use Rattle.vortex_arrays_model.specs.Parts.{columns_of}
 use Rattle.vortex_arrays_model.proofs.RowsLemmas.{row_at_position, row_count, rows_by_position}
 use Rattle.vortex_arrays_builder.specs.Fits.{fits_constant}
 use Rattle.vortex_arrays_builder.specs.Types.{HasPlain, HavePlain, IsPlainLayout}
-use Rattle.vortex_arrays_builder.specs.Plain.{parts_at, IsTooLarge, IsPlainFault}
-use Rattle.vortex_arrays_builder.proofs.PlainLemmas.{no_memory, field_fault}
+use Rattle.vortex_arrays_builder.specs.Plain.{parts_at, IsPlainFault}
+use Rattle.vortex_arrays_builder.proofs.TooLargeLemmas.{no_memory, part_rows, field_fault}
 use Rattle.vortex_arrays_builder.proofs.TypeLemmas.{held_plain}
 use Rattle.vortex_table_layout.specs.Hinted.{hint_at, IsConstant, IsConstantWhere, IsLaidOutBy, AreLaidOutBy, HasHintedColumns, IsColumnBy, AreColumnsBy}
-use Rattle.vortex_table_layout.specs.TooLarge.{IsLayOutFault}
 
 abbrev Value : Type 0
 Value = Option (Bor ScalarValue)
@@ -242,8 +241,9 @@ kind_plain (g ∷ fs) (suc j) f h l e = kind_plain fs j f h.1 (omega (arith, l))
 
 -- ---- refusals
 
-pub column_fault : (x : ArrayError) (fs : List StructField) (j : ℕ) (f : StructField) (rows : List ScalarValue) (vs : List Value) → j < length fs → f ≡ get_or fs j f → map raw_at vs ≡ parts_at j (map raw_of rows) → IsPlainFault x (type_of f.dtype) (map raw_at vs) → IsPlainFault x (struct (fields_of fs) nullable) (map raw_of rows)
-column_fault x fs j f rows vs l e m h = field_fault x fs j f (map raw_of rows) l e (subst (IsPlainFault x (type_of f.dtype)) m h)
+pub column_fault : (x : ArrayError) (fs : List StructField) (j : ℕ) (f : StructField) (rows : List ScalarValue) (vs : List Value) → j < length fs → f ≡ get_or fs j f → map raw_at vs ≡ parts_at j (map raw_of rows) → IsPlainFault x (type_of f.dtype) (map value_content vs) → IsPlainFault x (struct (fields_of fs) non_nullable) (map row_content rows)
+column_fault x fs j f rows vs l e m h =
+    field_fault x fs non_nullable j f (map row_content rows) (map value_content vs) h (part_rows j vs (map raw_of rows) (map row_content rows) m (row_contents rows)) l e
 
 pub ruleset fields = (first_none, first_more, first_all, column_valid, kind_plain, column_fault, no_memory)
 
@@ -267,20 +267,7 @@ rows_valid k (row ∷ rows) h =
     All-cons (λ r. valid k r ≡ true) (raw_of row) (map raw_of rows) (left (valid k (raw_of row)) (list_all (λ r. valid k (raw_of r)) rows) h)
     (rows_valid k rows (right (valid k (raw_of row)) (list_all (λ r. valid k (raw_of r)) rows) h))
 
-raws_valid : (k : LogicalType) (rows : List ScalarValue) → IsTrue (list_all (λ row. valid k (raw_of row)) rows) → list_all (valid k) (map raw_of rows) ≡ true
-raws_valid k rows h = list_all-map (valid k) raw_of rows ∙ h
+pub fields_fault : (x : ArrayError) (k : LogicalType) (fs : Fields) (cs : List Content) → k ≡ struct fs non_nullable → IsPlainFault x (struct fs non_nullable) cs → IsPlainFault x k cs
+fields_fault x k fs cs e h = subst (λ t. IsPlainFault x t cs) (sym e) h
 
-pub fields_fault : (x : ArrayError) (k : LogicalType) (fs : Fields) (rows : List ScalarValue) → k ≡ struct fs non_nullable → IsTrue (list_all (λ row. valid k (raw_of row)) rows) → IsPlainFault x (struct fs nullable) (map raw_of rows) → IsLayOutFault x k (map row_content rows)
-fields_fault error.Memory k fs rows e v h = tt
-fields_fault error.Total k fs rows e v h = record {
-  values = map raw_of rows;
-  are_rows = row_contents rows;
-  are_valid = raws_valid k rows v;
-  too_large = subst (λ t. IsTooLarge t (map raw_of rows)) (sym e) h;
-}
-fields_fault x k fs rows e v h = absurd h
-
-pub no_room : (x : ArrayError) (k : LogicalType) (cs : List Content) → x ≡ error.Memory → IsLayOutFault x k cs
-no_room x k cs h = subst (λ y. IsLayOutFault y k cs) (sym h) tt
-
-pub ruleset laid = (kept_record, kept_fields, kept_plain, rows_valid, fields_fault, no_room, fields_in-items_of)
+pub ruleset laid = (kept_record, kept_fields, kept_plain, rows_valid, fields_fault, no_memory, fields_in-items_of)

@@ -1,5 +1,5 @@
 -- Rows that are laid out plain.
-use Rattle.std.proofs.Common.{◌≡◌, refl, sym, ◌∙◌, ap, ℕ, zero, suc, ◌+◌, ◌<◌, List, [], ◌∷◌, ◌++◌, length, take, get_or, map, true, ◌&&◌, Option, Some, None, arith}
+use Rattle.std.proofs.Common.{◌≡◌, refl, sym, ◌∙◌, ap, subst, ℕ, zero, suc, ◌+◌, ◌<◌, List, [], ◌∷◌, ◌++◌, length, take, get_or, map, true, ◌&&◌, Option, Some, None, arith}
 use Rattle.std.specs.Borrow.{Bor}
 use Rattle.std.specs.List.{All, list_all}
 use Rattle.std.proofs.lemmas.List.{map_more, map-append}
@@ -8,7 +8,6 @@ use Rattle.vortex_model.specs.Content.{content_of}
 use Rattle.vortex_model.specs.Kept.{type_fault}
 use Rattle.vortex_model.specs.Valid.{valid}
 use Rattle.vortex_model_table.proofs.ContentOrder.{true_left, true_right}
-use Rattle.vortex_arrays_builder.specs.Plain.{IsTooLarge}
 use Rattle.vortex_arrays_builder.specs.Types.{HasPlain, TablesHoldPlainTypes}
 use Rattle.vortex_arrays_model.specs.Layout.{Layout, rows_of}
 use Rattle.vortex_scalar_value.specs.View.{raw_of, raw_at, content_at}
@@ -47,17 +46,14 @@ row_contents : (rows : List ScalarValue) → map content_of (map raw_of rows) �
 row_contents [] = refl
 row_contents (row ∷ rows) = ap (λ l. row_content row ∷ l) (row_contents rows)
 
-pub rows_made : (a : Layout) (values : Values) (rows : List ScalarValue) → map raw_at values ≡ map raw_of rows → rows_of a ≡ map content_at values → rows_of a ≡ map row_content rows
-rows_made a values rows e made = made ∙ contents values ∙ ap (map content_of) e ∙ row_contents rows
+pub same_rows : (values : Values) (rows : List ScalarValue) → map raw_at values ≡ map raw_of rows → map content_at values ≡ map row_content rows
+same_rows values rows e = contents values ∙ ap (map content_of) e ∙ row_contents rows
 
-pub too_large : (k : LogicalType) (values : Values) (rows : List ScalarValue) → map raw_at values ≡ map raw_of rows → list_all (λ row. valid k (raw_of row)) rows ≡ true →
-    IsTooLarge k (map raw_at values) → AreTooLarge k (map row_content rows)
-too_large k values rows e h large = record {
-  values = map raw_at values;
-  are_rows = ap (map content_of) e ∙ row_contents rows;
-  are_valid = raws_valid k values rows e h;
-  too_large = large;
-}
+pub rows_made : (a : Layout) (values : Values) (rows : List ScalarValue) → map raw_at values ≡ map raw_of rows → rows_of a ≡ map content_at values → rows_of a ≡ map row_content rows
+rows_made a values rows e made = made ∙ same_rows values rows e
+
+pub rows_fit : (k : LogicalType) (values : Values) (rows : List ScalarValue) → map raw_at values ≡ map raw_of rows → ¬ AreTooLarge k (map content_at values) → ¬ AreTooLarge k (map row_content rows)
+rows_fit k values rows e fits = subst (λ cs. ¬ AreTooLarge k cs) (same_rows values rows e) fits
 
 -- one more value
 pub one_borrowed : (rows : List ScalarValue) (i : ℕ) (row : Bor ScalarValue) (old new : Values) → i < length rows → row.now ≡ get_or rows i row.now → new ≡ old ++ Some row ∷ [] →
@@ -66,6 +62,6 @@ one_borrowed rows i row old new inside is pushed h =
     ap (map raw_at) pushed ∙ map-append raw_at old (Some row ∷ []) ∙ ap (λ l. l ++ raw_of row.now ∷ []) h
     ∙ sym (map_more raw_of rows i row.now inside ∙ ap (λ r. map raw_of (take i rows) ++ raw_of r ∷ []) (sym is))
 
-pub ruleset plain = (has_plain, all_valid, rows_made, too_large)
+pub ruleset plain = (has_plain, all_valid, rows_made, rows_fit)
 
 pub ruleset lent = (one_borrowed)

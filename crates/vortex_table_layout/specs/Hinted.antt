@@ -4,7 +4,8 @@ use Rattle.vortex_model.specs.LogicalType.{LogicalType, Fields, no_fields, field
 use Rattle.vortex_model.specs.Content.{Content, content_of, Raw}
 use Rattle.vortex_arrays_model.specs.Layout.{Layout, constant, records, Columns, no_columns, column, array_type_of, rows_of, IsSound}
 use Rattle.vortex_arrays_builder.specs.Fits.{fits_constant, fits_dictionary}
-use Rattle.vortex_arrays_builder.specs.Plain.{parts_at, IsTooLarge}
+use Rattle.vortex_arrays_builder.specs.Plain.{parts_at}
+use Rattle.vortex_arrays_builder.specs.TooLarge.{AreTooLarge}
 pub use Rattle.vortex_arrays_builder.specs.Types.{IsPlainLayout}
 use Rattle.vortex_arrays_dictionary.specs.Distinct.{distinct}
 use Rattle.vortex_arrays_dictionary.specs.Dictionary.{IsDictionaryOf}
@@ -20,16 +21,10 @@ abbrev pub IsConstantWhere : Bool → Layout → Type 0
 IsConstantWhere true a = IsConstant a
 IsConstantWhere false a = IsPlainLayout a
 
--- The distinct ones of the rows have texts or bytes that views and buffers can't hold.
-pub record AreDistinctTooLarge (k : LogicalType) (rows : List Content) : Type 0 where
-  pub values : List Raw
-  pub are_distinct : map content_of values ≡ distinct rows
-  pub too_large : IsTooLarge k values
-
 -- a dictionary where one fits, unless its values can't be held, and else plain
 abbrev pub IsDictionaryWhere : Bool → LogicalType → List Content → Layout → Type 0
 IsDictionaryWhere true k rows a =
-    IsDictionaryOf rows a ⊎ (AreDistinctTooLarge k rows × IsPlainLayout a)
+    IsDictionaryOf rows a ⊎ (AreTooLarge k (distinct rows) × IsPlainLayout a)
 IsDictionaryWhere false k rows a = IsPlainLayout a
 
 -- A column with these rows is laid out by the hint where that fits, and else plain.

@@ -2,10 +2,12 @@
 use Rattle.std.specs.Prelude.{◌≡◌, ◌⊎◌, ℕ, suc, List, Bool, true, false}
 use Rattle.vortex_arrays_model.specs.Layout.{Layout, records, Columns, no_columns, column, array_type_of, rows_of, IsSound}
 use Rattle.vortex_arrays_builder.specs.Fits.{fits_constant, fits_dictionary}
+use Rattle.vortex_arrays_builder.specs.TooLarge.{AreTooLarge}
+use Rattle.vortex_arrays_dictionary.specs.Distinct.{distinct}
 use Rattle.vortex_arrays_dictionary.specs.Dictionary.{IsDictionaryOf}
 use Rattle.vortex_table_schema.specs.declared.layout.Layout as hint
 use Rattle.vortex_table_schema.specs.declared.layout.Layout.TheVariants.{Plain, Dictionary, Constant}
-use Rattle.vortex_table_layout.specs.Hinted.{hint_at, IsConstant, AreDistinctTooLarge}
+use Rattle.vortex_table_layout.specs.Hinted.{hint_at, IsConstant}
 
 -- b is a constant where one fits, and else a
 abbrev pub IsConstantOr : Bool → Layout → Layout → Type 0
@@ -16,7 +18,7 @@ IsConstantOr false a b = b ≡ a
 abbrev pub IsDictionaryOr : Bool → Layout → Layout → Type 0
 IsDictionaryOr true a b =
     IsDictionaryOf (rows_of a) b
-    ⊎ (AreDistinctTooLarge (array_type_of a) (rows_of a) × (b ≡ a))
+    ⊎ (AreTooLarge (array_type_of a) (distinct (rows_of a)) × (b ≡ a))
 IsDictionaryOr false a b = b ≡ a
 
 -- b is the column a laid out by the hint where that fits, and else a as it is

@@ -1,7 +1,7 @@
 //! Rows of values laid out as arrays of records, column by column.
 ghost use Rattle.std.specs.Prelude.{◌≡◌, true, None, map, IfOk, IfErr, IsTrue, All};
 ghost use Rattle.std.specs.List.{list_all};
-ghost use Rattle.vortex_model.specs.LogicalType.{struct, non_nullable, nullable};
+ghost use Rattle.vortex_model.specs.LogicalType.{struct, non_nullable};
 ghost use Rattle.vortex_model.specs.Kept.{type_fault};
 ghost use Rattle.vortex_model.specs.Valid.{valid};
 ghost use Rattle.vortex_dtype_core.specs.View.{type_of, fields_of, fields_in};
@@ -22,7 +22,6 @@ ghost use Rattle.vortex_table_layout.specs.Hinted.{
   IsConstant,
   IsLaidOutBy,
 };
-ghost use Rattle.vortex_table_layout.specs.TooLarge.{IsLayOutFault};
 
 use std::alloc::{AllocError, Global};
 use std::rc::Rc;
@@ -59,7 +58,7 @@ pub fn lay_out(
     ensures rows { IfOk result (λ array. rows_of array ≡ map row_content rows.now) }
     ensures layout { IfOk result (λ array. HasHintedColumns hints.now array) }
     ensures refused { IfErr result
-        (λ e. IsLayOutFault e (type_of dtype.now) (map row_content rows.now)) }
+        (λ e. IsPlainFault e (type_of dtype.now) (map row_content rows.now)) }
 {
     let Some(fields) = dtype.as_struct_fields_opt() else {
         unreachable!()
@@ -107,7 +106,7 @@ fn lay_out_columns(
         (λ columns. AreColumnsBy hints.now (fields_of fields.now) 0 (map raw_of rows.now)
         (columns_of (names_of (fields_of fields.now)) columns.items)) }
     ensures refused { IfErr result
-        (λ e. IsPlainFault e (struct (fields_of fields.now) nullable) (map raw_of rows.now)) }
+        (λ e. IsPlainFault e (struct (fields_of fields.now) non_nullable) (map row_content rows.now)) }
 {
     let mut columns = Vec::with_capacity(alloc, fields.len())?;
     for i in 0..fields.len() {
@@ -159,7 +158,7 @@ fn lay_out_column(
     ensures made { IfOk result
         (λ array. IsColumnBy hint (type_of dtype.now) (map raw_at values.now) array) }
     ensures refused { IfErr result
-        (λ e. IsPlainFault e (type_of dtype.now) (map raw_at values.now)) }
+        (λ e. IsPlainFault e (type_of dtype.now) (map content_at values.now)) }
 {
     let array = lay_out_by(alloc, dtype, values, hint)?;
     // Tells the proof that its parts fit together.
@@ -181,7 +180,7 @@ fn lay_out_by(
     ensures layout { IfOk result
         (λ array. IsLaidOutBy hint (map content_at values.now) array) }
     ensures refused { IfErr result
-        (λ e. IsPlainFault e (type_of dtype.now) (map raw_at values.now)) }
+        (λ e. IsPlainFault e (type_of dtype.now) (map content_at values.now)) }
 {
     match hint {
         Layout::Constant => {
@@ -211,7 +210,7 @@ fn dictionary_or_plain(
     ensures layout { IfOk result
         (λ array. IsLaidOutBy Dictionary (map content_at values.now) array) }
     ensures refused { IfErr result
-        (λ e. IsPlainFault e (type_of dtype.now) (map raw_at values.now)) }
+        (λ e. IsPlainFault e (type_of dtype.now) (map content_at values.now)) }
 {
     if fits_dictionary(dtype, values) {
         match build_dictionary(alloc, dtype, values) {

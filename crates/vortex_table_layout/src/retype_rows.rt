@@ -123,6 +123,8 @@ pub fn lay_out_plain(
     ensures dtype { IfOk result (λ array. array_type_of array ≡ type_of dtype.now) }
     ensures rows { IfOk result (λ array. rows_of array ≡ map row_content rows.now) }
     ensures layout { IfOk result (λ array. IsPlainLayout array) }
+    ensures accepted { OnOk result
+        (¬ AreTooLarge (type_of dtype.now) (map row_content rows.now)) }
     ensures refused { IfErr result (λ e. (fault : Option Refusal)
         → Explains (AreTooLarge (type_of dtype.now) (map row_content rows.now)) fault e) }
 {

@@ -8,9 +8,10 @@ use Rattle.vortex_scalar_value.specs.View.{raw_at, content_at}
 use Rattle.vortex_arrays_model.specs.Layout.{HasLength}
 use Rattle.vortex_arrays_core.specs.LayoutOf.{valid_of}
 use Rattle.vortex_arrays_builder.specs.Plain.{IsPlainFault}
-use Rattle.vortex_arrays_dictionary.specs.Dictionary.{IsDictionaryFault}
+use Rattle.vortex_arrays_builder.specs.TooLarge.{AreTooLarge}
+use Rattle.vortex_arrays_dictionary.specs.Distinct.{distinct}
 use Rattle.vortex_arrays_dictionary.specs.Numbering.{IsNumbering}
-use Rattle.vortex_arrays_dictionary.proofs.BuildLemmas.{values_held, held_values, numbered, built_sound, built_rows, built_dictionary, value_rows, value_dictionary, plain_fault}
+use Rattle.vortex_arrays_dictionary.proofs.BuildLemmas.{values_held, held_values, numbered, built_sound, built_rows, built_dictionary, value_rows, value_dictionary, each_distinct}
 use Rattle.vortex_arrays_dictionary.proofs.build.build_dictionary.Goals as goal
 
 pub build_plain-requires-clause-valid : goal.build_plain-requires-clause-valid
@@ -23,13 +24,20 @@ build_plain-requires-clause-valid c =
 pub returns-in_err-distinct-clause-refused : goal.returns-in_err-distinct-clause-refused
 returns-in_err-distinct-clause-refused c =
     let k = type_of c.args.dtype.now in
-    let rs = map raw_at c.args.values.now in
+    let vs = c.args.values.now in
     let e = c.in_err-distinct.field-0.0 in
-    let items = c.in_ok-numbering.numbering.values.items in
-    let p = c.in_ok-numbering.ensures k c.requires.kind (values_held k c.args.values.now c.requires.valid) in
-    let plain : IsPlainFault e k (map raw_at items) = subst (λ vs. IsPlainFault e k (map raw_at vs)) c.as_slice.ensures.value c.in_err-distinct.ensures.refused in
-    let fault : IsDictionaryFault e k rs = plain_fault e k rs (map raw_at items) p.each_once plain in
+    let p = c.in_ok-numbering.ensures k c.requires.kind (values_held k vs c.requires.valid) in
+    let same = ap (map content_at) c.as_slice.ensures.value ∙ each_distinct vs c.in_ok-numbering.numbering.values.items p.each_once in
+    let fault : IsPlainFault e k (distinct (map content_at vs)) = subst (IsPlainFault e k) same c.in_err-distinct.ensures.refused in
     grind (arith, fault)
+
+pub returns-clause-accepted : goal.returns-clause-accepted
+returns-clause-accepted c =
+    let k = type_of c.args.dtype.now in
+    let vs = c.args.values.now in
+    let p = c.in_ok-numbering.ensures k c.requires.kind (values_held k vs c.requires.valid) in
+    let same = ap (map content_at) c.as_slice.ensures.value ∙ each_distinct vs c.in_ok-numbering.numbering.values.items p.each_once in
+    subst (λ cs. ¬ AreTooLarge k cs) same c.in_ok-distinct.ensures.accepted
 
 pub codes_of-requires-clause-small : goal.codes_of-requires-clause-small
 codes_of-requires-clause-small c =

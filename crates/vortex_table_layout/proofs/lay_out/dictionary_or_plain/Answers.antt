@@ -10,7 +10,7 @@ returns-clause-layout c =
     let k = type_of c.args.dtype.now in let vs = c.args.values.now in let a = c.in_ok-array.array in let made = c.in_ok-array.ensures in
     elim c.if-fits_dictionary.branch [
       | then-fits_dictionary+in-Err w ↦
-          by_too_large w.in-Err.field-0 k vs a made.dtype (sym w.if-fits_dictionary.ensures) w.in-Err.ensures.refused
+          by_too_large w.in-Err.field-0 k (map content_at vs) a made.dtype (sym w.if-fits_dictionary.ensures) w.in-Err.ensures.refused
           (search rules) made.layout
       | else-fits_dictionary w ↦ by_unfit k (map content_at vs) a made.dtype (sym w.if-fits_dictionary.ensures) made.layout
     ]
