@@ -5,6 +5,7 @@ pub mod Constancy
 pub mod InFront
 pub mod Moved
 pub mod Repeated
+pub mod OwnTypes
 pub mod RowLemmas
 pub mod Spread
 pub mod SumKinds

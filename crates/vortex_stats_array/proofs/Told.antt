@@ -1,6 +1,6 @@
 -- What is told of a dictionary by its codes and values, and of an array whose rows are not counted.
 use Rattle.std.proofs.Common.{◌≡◌, refl, Option, Some, None}
-use Rattle.std.specs.Prelude.{MatchOption}
+use Rattle.std.specs.Prelude.{MatchOption, IfSome}
 use Rattle.vortex_model.specs.LogicalType.{LogicalType, Nullability, null_only, boolean_type, integer_type, float, decimal, utf8, binary, list, fixed_list, mapping, struct, union, variant, extension, with_nullability}
 use Rattle.vortex_model.specs.Kept.{is_leaf}
 use Rattle.vortex_stats_array.specs.declared.array_stats.ArrayStats.{ArrayStats}
@@ -23,6 +23,10 @@ leaf_kept n (variant m) = refl
 leaf_kept n (extension a b k) = refl
 
 -- statistics that are told of one thing are told of another
-pub told_of : (found : Option ArrayStats) (P : Type 0) (Q R : ArrayStats → Type 0) → ((stats : ArrayStats) → Q stats → R stats) → MatchOption found P Q → MatchOption found P R
-told_of None P Q R f h = h
-told_of (Some stats) P Q R f h = f stats h
+pub told_of : (found : Option ArrayStats) (P : Type 0) (Q R : ArrayStats → Type 0) → MatchOption found P Q → ((stats : ArrayStats) → Q stats → R stats) → MatchOption found P R
+told_of None P Q R h f = h
+told_of (Some stats) P Q R h f = f stats h
+
+pub of_found : (found : Option ArrayStats) (P : Type 0) (Q R : ArrayStats → Type 0) → MatchOption found P Q → ((stats : ArrayStats) → Q stats → R stats) → IfSome found R
+of_found None P Q R h f = tt
+of_found (Some stats) P Q R h f = f stats h

@@ -1,11 +1,12 @@
 -- Sums of the values of a leaf column.
-use Rattle.std.specs.Prelude.{◌≤◌, ◌*◌, ◌^◌, ℕ, zero, suc, ℤ, pos, ◌+ℤ◌, ◌-ℤ◌, Option, Some, None}
-use Rattle.vortex_model.specs.LogicalType.{IntKind}
+use Rattle.std.specs.Prelude.{◌≡◌, IfSome, ◌≤◌, ◌*◌, ◌^◌, ℕ, zero, suc, ℤ, pos, ◌+ℤ◌, ◌-ℤ◌, Option, Some, None}
+use Rattle.vortex_model.specs.LogicalType.{LogicalType, IntKind}
 use Rattle.vortex_model_table.specs.Statistics.{Precision, exact, absent}
+use Rattle.vortex_model_table.specs.Typing.{sum_kind}
 use Rattle.vortex_dtype_ptype.specs.Numbers.{int_kind_in}
 use Rattle.vortex_dtype_ptype.specs.View.{number_kind_of}
 use Rattle.vortex_dtype_ptype.specs.declared.ptype.PType.{PType}
-use Rattle.vortex_scalar_value.specs.Numbers.{integer_of}
+use Rattle.vortex_scalar_value.specs.Numbers.{integer_of, kind_of_number}
 use Rattle.vortex_scalar_value.specs.declared.pvalue.PValue.{PValue}
 use Rattle.vortex_stats_array.specs.declared.running_sum.RunningSum.{RunningSum}
 
@@ -27,6 +28,10 @@ pub record FitsSum (s : RunningSum) (n : ℕ) : Type 0 where
 abbrev pub int_kind_of : Option PType → Option IntKind
 int_kind_of None = None
 int_kind_of (Some p) = int_kind_in (number_kind_of p)
+
+-- the sum is of the kind of the type's sums, if there is one
+abbrev pub IsSumIn : LogicalType → Option PValue → Type 0
+IsSumIn k o = IfSome o (λ v. Some (kind_of_number v) ≡ sum_kind k)
 
 -- what is known of a sum
 abbrev pub known_sum : Option PValue → Precision ℤ

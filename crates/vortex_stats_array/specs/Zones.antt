@@ -1,19 +1,35 @@
 -- Statistics of an array as the zone map of its rows.
-use Rattle.std.specs.Prelude.{ℕ, Option, Some, None}
+use Rattle.std.specs.Prelude.{◌≡◌, true, ℕ, Option, Some, None}
+use Rattle.vortex_model.specs.LogicalType.{LogicalType}
 use Rattle.vortex_model.specs.Content.{Content}
 use Rattle.vortex_model_table.specs.Bounds.{low, high, is_longer}
 use Rattle.vortex_model_table.specs.Statistics.{Precision, exact, absent}
 use Rattle.vortex_model_table.specs.ZoneMap.{ZoneMap, bound_of}
+use Rattle.vortex_scalar_value.specs.View.{raw_of}
 use Rattle.vortex_scalar_value.specs.declared.scalar_value.ScalarValue.{ScalarValue}
 use Rattle.vortex_stats_bound.specs.Precision.{precision_of, precision_map}
+use Rattle.vortex_stats_bound.specs.Typed.{is_precision_of}
 use Rattle.vortex_stats_bound.specs.ValueOrder.{value_content}
 use Rattle.vortex_stats_bound.specs.declared.precision.Precision as known
-use Rattle.vortex_stats_array.specs.Sums.{known_sum}
+use Rattle.vortex_stats_array.specs.Sums.{known_sum, IsSumIn}
 use Rattle.vortex_stats_array.specs.declared.array_stats.ArrayStats.{ArrayStats}
 
 -- what a bound says, as precise
 abbrev pub bound_content : known.Precision ScalarValue → Precision Content
 bound_content p = precision_map value_content (precision_of p)
+
+-- the bound is a value of the type, if there is one
+abbrev pub IsBoundIn : LogicalType → known.Precision ScalarValue → Type 0
+IsBoundIn k p = is_precision_of k (precision_map raw_of (precision_of p)) ≡ true
+
+-- so are both bounds
+abbrev pub HasBoundsIn : LogicalType → ArrayStats → Type 0
+HasBoundsIn k s = IsBoundIn k s.min × IsBoundIn k s.max
+
+-- the bounds are values of the type, and the sum is of the kind of its sums
+pub record AreOfType (k : LogicalType) (s : ArrayStats) : Type 0 where
+  pub bounds : HasBoundsIn k s
+  pub sum : IsSumIn k s.sum
 
 -- the zone map that the statistics are
 abbrev pub zone_in : ArrayStats → ZoneMap

@@ -12,7 +12,7 @@ use vortex_stats_bound::precision::Precision;
 use vortex_stats_expr::stat::sum_dtype;
 
 /// The statistics of the rows of an array, as a zone of Vortex's zone maps has them.
-#[derive(Drop)]
+#[derive(Clone, Drop)]
 pub struct ArrayStats {
     /// A bound from below, inexact where it was shortened, and `Absent` where every row is null.
     pub min: Precision<ScalarValue>,

@@ -1,12 +1,16 @@
 //! Values of leaf columns, as they lie in arrays.
-ghost use Rattle.std.specs.Prelude.{◌≡◌, ◌^◌, false, pos, neg_ℤ, ◌≤ℤ◌, refl, IfOk, IsTrue, IsUtf8};
+ghost use Rattle.std.specs.Prelude.{◌≡◌, ◌^◌, true, false, pos, neg_ℤ, ◌≤ℤ◌, refl, IfOk, IsTrue, IsUtf8};
 ghost use Rattle.std.specs.Str.{is_utf8};
+ghost use Rattle.vortex_model.specs.Valid.{valid};
 ghost use Rattle.vortex_model_table.specs.Bounds.{low, high, is_longer};
+ghost use Rattle.vortex_model.specs.LogicalType.{LogicalType};
 ghost use Rattle.vortex_model.specs.Content.{Content, boolean, integer, text, byte_string, is_null};
 ghost use Rattle.vortex_model_table.specs.Statistics.{is_at_most, number_in};
 ghost use Rattle.vortex_model_table.specs.ZoneMap.{bound_of};
 ghost use Rattle.vortex_stats_bound.specs.ValueOrder.{value_content};
-ghost use Rattle.vortex_stats_array.specs.Zones.{bound_content, high_by};
+ghost use Rattle.vortex_scalar_value.specs.View.{raw_of};
+ghost use Rattle.vortex_stats_array.specs.Arrays.{IsBooleanType, IsIntegerOf, IsTextType, IsBinaryType};
+ghost use Rattle.vortex_stats_array.specs.Zones.{bound_content, high_by, IsBoundIn};
 
 use crate::shortened::{bytes_above, bytes_below, text_above, text_below};
 use std::alloc::{AllocError, Global};
@@ -16,9 +20,15 @@ use vortex_scalar_value::pvalue::PValue;
 use vortex_scalar_value::scalar_value::ScalarValue;
 use vortex_stats_bound::precision::Precision;
 
+/// A bound of values of a leaf column.
+pub(crate) type Bounded = Result<Precision<ScalarValue>, AllocError>;
+
 /// A value of a leaf column, never null.
 pub(crate) trait LeafValue: Copy + Drop {
     ghost said: { Self → Content };
+
+    // The types whose values are such.
+    ghost is_type: { LogicalType → Type 0 };
 
     ghost never_null: { (v : Self) → is_null (said v) ≡ false };
 
@@ -33,18 +43,22 @@ pub(crate) trait LeafValue: Copy + Drop {
         ensures greatest { result ≤ℤ pos (2 ^ 64) };
 
     // A copy that is not above it. A text and bytes have at most `max_length` bytes.
-    fn below(self, alloc: Global, max_length: usize) -> Result<Precision<ScalarValue>, AllocError>
-        ensures { IfOk result (λ below. bound_content below
-            ≡ bound_of (is_longer max_length (said self)) (low max_length (said self))) };
+    fn below(self, alloc: Global, max_length: usize) -> Bounded
+        ensures content { IfOk result (λ below. bound_content below
+            ≡ bound_of (is_longer max_length (said self)) (low max_length (said self))) }
+        ensures types { IfOk result (λ below. (k : LogicalType) → is_type k → IsBoundIn k below) };
 
     // A copy that is not below it, where such a text or such bytes have at most `max_length` bytes.
-    fn above(self, alloc: Global, max_length: usize) -> Result<Precision<ScalarValue>, AllocError>
-        ensures { IfOk result (λ above. bound_content above
-            ≡ high_by max_length (said self) (high max_length (said self))) };
+    fn above(self, alloc: Global, max_length: usize) -> Bounded
+        ensures content { IfOk result (λ above. bound_content above
+            ≡ high_by max_length (said self) (high max_length (said self))) }
+        ensures types { IfOk result (λ above. (k : LogicalType) → is_type k → IsBoundIn k above) };
 }
 
 impl LeafValue for bool {
     ghost said = { boolean };
+
+    ghost is_type = { IsBooleanType };
 
     ghost never_null = { λ v. refl };
 
@@ -56,21 +70,13 @@ impl LeafValue for bool {
         if self { 1 } else { 0 }
     }
 
-    #[tactic(auto, using(vortex_scalar_value::proofs::Views::one_level))]
-    fn below(
-        self,
-        _alloc: Global,
-        _max_length: usize,
-    ) -> Result<Precision<ScalarValue>, AllocError> {
+    #[tactic(auto, using(crate::proofs::OwnTypes::truths))]
+    fn below(self, _alloc: Global, _max_length: usize) -> Bounded {
         Ok(Precision::Exact(ScalarValue::Bool(self)))
     }
 
-    #[tactic(auto, using(vortex_scalar_value::proofs::Views::one_level))]
-    fn above(
-        self,
-        _alloc: Global,
-        _max_length: usize,
-    ) -> Result<Precision<ScalarValue>, AllocError> {
+    #[tactic(auto, using(crate::proofs::OwnTypes::truths))]
+    fn above(self, _alloc: Global, _max_length: usize) -> Bounded {
         Ok(Precision::Exact(ScalarValue::Bool(self)))
     }
 }
@@ -81,6 +87,8 @@ pub(crate) struct Number<T>(pub(crate) T);
 
 impl<T: NativePType> LeafValue for Number<T> {
     ghost said = { λ v. integer (T.integer v.0) };
+
+    ghost is_type = { IsIntegerOf T.kind };
 
     ghost never_null = { λ v. refl };
 
@@ -93,26 +101,19 @@ impl<T: NativePType> LeafValue for Number<T> {
         self.0.get()
     }
 
-    fn below(
-        self,
-        _alloc: Global,
-        _max_length: usize,
-    ) -> Result<Precision<ScalarValue>, AllocError> {
+    fn below(self, _alloc: Global, _max_length: usize) -> Bounded {
         Ok(Precision::Exact(number_value(self.0)))
     }
 
-    fn above(
-        self,
-        _alloc: Global,
-        _max_length: usize,
-    ) -> Result<Precision<ScalarValue>, AllocError> {
+    fn above(self, _alloc: Global, _max_length: usize) -> Bounded {
         Ok(Precision::Exact(number_value(self.0)))
     }
 }
 
 #[tactic(auto, using(vortex_scalar_value::proofs::Views::one_level))]
 fn number_value<T: NativePType>(number: T) -> ScalarValue
-    ensures { value_content result ≡ integer (T.integer number) }
+    ensures content { value_content result ≡ integer (T.integer number) }
+    ensures types { (k : LogicalType) → IsIntegerOf T.kind k → valid k (raw_of result) ≡ true }
 {
     match PValue::of(T::ptype(), number.get()) {
         Some(value) => ScalarValue::Primitive(value),
@@ -140,6 +141,8 @@ impl<'a> Text<'a> {
 impl LeafValue for Text<'_> {
     ghost said = { λ v. text v.bytes.now };
 
+    ghost is_type = { IsTextType };
+
     ghost never_null = { λ v. refl };
 
     fn is_at_most(self, other: Text) -> bool {
@@ -151,12 +154,12 @@ impl LeafValue for Text<'_> {
     }
 
     #[tactic(auto, using(crate::proofs::Utf8::tested))]
-    fn below(self, alloc: Global, max_length: usize) -> Result<Precision<ScalarValue>, AllocError> {
+    fn below(self, alloc: Global, max_length: usize) -> Bounded {
         text_below(alloc, self.bytes, max_length)
     }
 
     #[tactic(auto, using(crate::proofs::Utf8::tested))]
-    fn above(self, alloc: Global, max_length: usize) -> Result<Precision<ScalarValue>, AllocError> {
+    fn above(self, alloc: Global, max_length: usize) -> Bounded {
         text_above(alloc, self.bytes, max_length)
     }
 }
@@ -168,6 +171,8 @@ pub(crate) struct ByteString<'a>(pub(crate) &'a [u8]);
 impl LeafValue for ByteString<'_> {
     ghost said = { λ v. byte_string v.0.now };
 
+    ghost is_type = { IsBinaryType };
+
     ghost never_null = { λ v. refl };
 
     fn is_at_most(self, other: ByteString) -> bool {
@@ -178,11 +183,11 @@ impl LeafValue for ByteString<'_> {
         0
     }
 
-    fn below(self, alloc: Global, max_length: usize) -> Result<Precision<ScalarValue>, AllocError> {
+    fn below(self, alloc: Global, max_length: usize) -> Bounded {
         bytes_below(alloc, self.0, max_length)
     }
 
-    fn above(self, alloc: Global, max_length: usize) -> Result<Precision<ScalarValue>, AllocError> {
+    fn above(self, alloc: Global, max_length: usize) -> Bounded {
         bytes_above(alloc, self.0, max_length)
     }
 }

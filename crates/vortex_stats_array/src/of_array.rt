@@ -1,5 +1,5 @@
 //! The statistics of an array of any layout.
-ghost use Rattle.std.specs.Prelude.{◌≡◌, IfOk, MatchOption, Bool, None, length, false, map};
+ghost use Rattle.std.specs.Prelude.{◌≡◌, IfOk, IfSome, MatchOption, Bool, None, length, false, map};
 ghost use Rattle.vortex_model.specs.Kept.{is_leaf};
 ghost use Rattle.vortex_model_table.specs.ZoneMap.{zone_of};
 ghost use Rattle.vortex_dtype_ptype.specs.View.{number_kind_of};
@@ -10,7 +10,7 @@ ghost use Rattle.vortex_arrays_core.specs.LayoutOf.{valid_of, strings_of};
 ghost use Rattle.vortex_stats_array.specs.Arrays.{IsIntegerOf, IsOfKind};
 ghost use Rattle.vortex_stats_array.specs.Asked.{AreStatsOf};
 ghost use Rattle.vortex_stats_array.specs.Counted.{CountsEach};
-ghost use Rattle.vortex_stats_array.specs.Zones.{zone_in};
+ghost use Rattle.vortex_stats_array.specs.Zones.{zone_in, AreOfType};
 
 use crate::array_stats::ArrayStats;
 use crate::asked::Asked;
@@ -29,6 +29,9 @@ use vortex_dtype_core::dtype::DType;
 use vortex_dtype_native::native::NativePType;
 use vortex_dtype_ptype::ptype::PType;
 
+// Statistics of an array, where it is one of truth values, integers, texts or bytes.
+type Found = Result<Option<ArrayStats>, AllocError>;
+
 /// The statistics of the rows of an array of truth values, integers, texts or bytes, and `None` of
 /// another one. Each row is read once: of a dictionary its code alone, and then each value that is
 /// referenced, and of a constant a single row. Only the two bounds are copied, and one that is a
@@ -38,10 +41,12 @@ pub fn array_stats(
     array: &ArrayRef,
     max_length: usize,
 ) -> Result<Option<ArrayStats>, AllocError>
-    ensures { IfOk result (λ found. MatchOption found
+    ensures zone { IfOk result (λ found. MatchOption found
         (is_leaf (array_type_of array.now) ≡ false)
         (λ stats. zone_in stats
         ≡ zone_of (array_type_of array.now) max_length (rows_of array.now))) }
+    ensures types { IfOk result
+        (λ found. IfSome found (λ stats. AreOfType (array_type_of array.now) stats)) }
 {
     if !array.dtype().is_leaf() {
         return Ok(None);
@@ -50,17 +55,14 @@ pub fn array_stats(
         dtype: array.dtype(),
         row_count: array.len(),
         max_length,
+        alloc,
     };
-    let stats = stats_of_rows(alloc, array, &asked)?;
+    let stats = stats_of_rows(array, &asked)?;
     Ok(stats)
 }
 
 // The statistics of the rows of an array, of which nothing is counted yet.
-fn stats_of_rows(
-    alloc: Global,
-    array: &ArrayRef,
-    asked: &Asked<'_>,
-) -> Result<Option<ArrayStats>, AllocError>
+fn stats_of_rows(array: &ArrayRef, asked: &Asked<'_>) -> Found
     ensures { IfOk result (λ found. MatchOption found
         (is_leaf (array_type_of array.now) ≡ false)
         (λ stats. AreStatsOf asked.now None array.now stats)) }
@@ -69,40 +71,30 @@ fn stats_of_rows(
         ArrayLayout::Dict(codes, values, _) => {
             // A few rows of many values are rather read one by one.
             if values.len() <= codes.len() {
-                stats_of_dictionary(alloc, codes, values, asked)
+                stats_of_dictionary(codes, values, asked)
             } else {
-                stats_of_any(alloc, array, None, asked)
+                stats_of_any(array, None, asked)
             }
         }
-        _ => stats_of_leaf(alloc, array, None, asked),
+        _ => stats_of_leaf(array, None, asked),
     }
 }
 
 // The statistics of a dictionary, by how often its codes reference each value.
-fn stats_of_dictionary(
-    alloc: Global,
-    codes: &ArrayRef,
-    values: &ArrayRef,
-    asked: &Asked<'_>,
-) -> Result<Option<ArrayStats>, AllocError>
+fn stats_of_dictionary(codes: &ArrayRef, values: &ArrayRef, asked: &Asked<'_>) -> Found
     requires kind { IsInteger (array_type_of codes.now) }
     requires within { AreWithin codes.now (len_of values.now) }
     ensures { (f : Bool) → IfOk result (λ found. MatchOption found
         (is_leaf (array_type_of values.now) ≡ false)
         (λ stats. AreStatsOf asked.now None (dictionary codes.now values.now f) stats)) }
 {
-    let counts = count_codes(alloc, codes, values.len())?;
-    let stats = stats_of_leaf(alloc, values, Some(&counts), asked)?;
+    let counts = count_codes(asked.alloc, codes, values.len())?;
+    let stats = stats_of_leaf(values, Some(&counts), asked)?;
     Ok(stats)
 }
 
 // The statistics of the rows in which the values of an array stand.
-fn stats_of_leaf(
-    alloc: Global,
-    array: &ArrayRef,
-    counts: Option<&Counts>,
-    asked: &Asked<'_>,
-) -> Result<Option<ArrayStats>, AllocError>
+fn stats_of_leaf(array: &ArrayRef, counts: Option<&Counts>, asked: &Asked<'_>) -> Found
     requires { CountsEach counts (len_of array.now) }
     ensures { IfOk result (λ found. MatchOption found
         (is_leaf (array_type_of array.now) ≡ false)
@@ -110,20 +102,20 @@ fn stats_of_leaf(
 {
     match array.layout() {
         ArrayLayout::Bool(bits, validity) => {
-            let stats = stats_of_bools(alloc, bits, validity, counts, asked)?;
+            let stats = stats_of_bools(bits, validity, counts, asked)?;
             Ok(Some(stats))
         }
         ArrayLayout::Primitive(items, validity) => {
-            let stats = stats_of_numbers(alloc, items, validity, counts, asked)?;
+            let stats = stats_of_numbers(items, validity, counts, asked)?;
             Ok(Some(stats))
         }
         ArrayLayout::VarBinView(kind, views, buffers, validity) => {
             let (views, buffers) = (views.as_slice(), buffers.as_slice());
-            let stats = stats_of_views(alloc, *kind, views, buffers, validity, counts, asked)?;
+            let stats = stats_of_views(*kind, views, buffers, validity, counts, asked)?;
             Ok(Some(stats))
         }
-        ArrayLayout::Constant(_, _) => stats_of_any(alloc, array, counts, asked),
-        ArrayLayout::Dict(_, _, _) => stats_of_any(alloc, array, counts, asked),
+        ArrayLayout::Constant(_, _) => stats_of_any(array, counts, asked),
+        ArrayLayout::Dict(_, _, _) => stats_of_any(array, counts, asked),
         ArrayLayout::FixedSizeList(_, _, _, _) => Ok(None),
         ArrayLayout::ListView(_, _, _, _, _) => Ok(None),
         ArrayLayout::Struct(_, _, _, _) => Ok(None),
@@ -132,7 +124,6 @@ fn stats_of_leaf(
 
 // Truth values in packed bits.
 fn stats_of_bools(
-    alloc: Global,
     bits: &BitBuffer,
     validity: &Validity,
     counts: Option<&Counts>,
@@ -144,14 +135,13 @@ fn stats_of_bools(
         (λ stats. AreStatsOf asked.now counts.entry (bools bits.now (valid_of validity.now))
         stats) }
 {
-    let stats = seen_bools(bits, validity, counts).stats(alloc, asked)?;
+    let stats = seen_bools(bits, validity, counts).stats(asked)?;
     Ok(stats)
 }
 
 // Integers, whose kind is matched once.
 #[tactic(auto, using(vortex_arrays_buffer::proofs::NumberLemmas::eq_numbers))]
 fn stats_of_numbers(
-    alloc: Global,
     items: &PrimitiveBuffer,
     validity: &Validity,
     counts: Option<&Counts>,
@@ -165,19 +155,18 @@ fn stats_of_numbers(
         stats) }
 {
     match items {
-        PrimitiveBuffer::U8(items) => of_kind(alloc, items.as_slice(), validity, counts, asked),
-        PrimitiveBuffer::U16(items) => of_kind(alloc, items.as_slice(), validity, counts, asked),
-        PrimitiveBuffer::U32(items) => of_kind(alloc, items.as_slice(), validity, counts, asked),
-        PrimitiveBuffer::U64(items) => of_kind(alloc, items.as_slice(), validity, counts, asked),
-        PrimitiveBuffer::I8(items) => of_kind(alloc, items.as_slice(), validity, counts, asked),
-        PrimitiveBuffer::I16(items) => of_kind(alloc, items.as_slice(), validity, counts, asked),
-        PrimitiveBuffer::I32(items) => of_kind(alloc, items.as_slice(), validity, counts, asked),
-        PrimitiveBuffer::I64(items) => of_kind(alloc, items.as_slice(), validity, counts, asked),
+        PrimitiveBuffer::U8(items) => of_kind(items.as_slice(), validity, counts, asked),
+        PrimitiveBuffer::U16(items) => of_kind(items.as_slice(), validity, counts, asked),
+        PrimitiveBuffer::U32(items) => of_kind(items.as_slice(), validity, counts, asked),
+        PrimitiveBuffer::U64(items) => of_kind(items.as_slice(), validity, counts, asked),
+        PrimitiveBuffer::I8(items) => of_kind(items.as_slice(), validity, counts, asked),
+        PrimitiveBuffer::I16(items) => of_kind(items.as_slice(), validity, counts, asked),
+        PrimitiveBuffer::I32(items) => of_kind(items.as_slice(), validity, counts, asked),
+        PrimitiveBuffer::I64(items) => of_kind(items.as_slice(), validity, counts, asked),
     }
 }
 
 fn of_kind<T: NativePType>(
-    alloc: Global,
     items: &[T],
     validity: &Validity,
     counts: Option<&Counts>,
@@ -188,13 +177,12 @@ fn of_kind<T: NativePType>(
     ensures { IfOk result (λ stats. AreStatsOf asked.now counts.entry
         (numbers T.kind (map T.integer items.now) (valid_of validity.now)) stats) }
 {
-    let stats = seen_numbers(items, validity, counts).stats(alloc, asked)?;
+    let stats = seen_numbers(items, validity, counts).stats(asked)?;
     Ok(stats)
 }
 
 // Texts or bytes by views.
 fn stats_of_views(
-    alloc: Global,
     kind: StringKind,
     views: &[BinaryView],
     buffers: &[Bytes],
@@ -211,12 +199,12 @@ fn stats_of_views(
     match kind {
         StringKind::Utf8 => {
             let texts = seen_texts(views, buffers, validity, counts);
-            let stats = texts.stats(alloc, asked)?;
+            let stats = texts.stats(asked)?;
             Ok(stats)
         }
         StringKind::Binary => {
             let bytes = seen_byte_strings(views, buffers, validity, counts);
-            let stats = bytes.stats(alloc, asked)?;
+            let stats = bytes.stats(asked)?;
             Ok(stats)
         }
     }
@@ -224,12 +212,7 @@ fn stats_of_views(
 
 // A constant, or a dictionary, whose rows are read by what they refer to.
 #[tactic(auto, using(crate::proofs::Compared::of_any))]
-fn stats_of_any(
-    alloc: Global,
-    array: &ArrayRef,
-    counts: Option<&Counts>,
-    asked: &Asked<'_>,
-) -> Result<Option<ArrayStats>, AllocError>
+fn stats_of_any(array: &ArrayRef, counts: Option<&Counts>, asked: &Asked<'_>) -> Found
     requires { CountsEach counts (len_of array.now) }
     ensures { IfOk result (λ found. MatchOption found
         (is_leaf (array_type_of array.now) ≡ false)
@@ -237,16 +220,16 @@ fn stats_of_any(
 {
     match array.dtype() {
         DType::Bool(_) => {
-            let stats = referenced_bools(array, counts).stats(alloc, asked)?;
+            let stats = referenced_bools(array, counts).stats(asked)?;
             Ok(Some(stats))
         }
-        DType::Primitive(ptype, _) => stats_of_any_numbers(alloc, array, *ptype, counts, asked),
+        DType::Primitive(ptype, _) => stats_of_any_numbers(array, *ptype, counts, asked),
         DType::Utf8(_) => {
-            let stats = referenced_texts(array, counts).stats(alloc, asked)?;
+            let stats = referenced_texts(array, counts).stats(asked)?;
             Ok(Some(stats))
         }
         DType::Binary(_) => {
-            let stats = referenced_byte_strings(array, counts).stats(alloc, asked)?;
+            let stats = referenced_byte_strings(array, counts).stats(asked)?;
             Ok(Some(stats))
         }
         DType::Null | DType::Decimal(_, _) | DType::Variant(_) => Ok(None),
@@ -258,12 +241,11 @@ fn stats_of_any(
 // Integers, whose kind is matched once for all rows.
 #[tactic(auto, using(crate::proofs::Compared::of_kinds))]
 fn stats_of_any_numbers(
-    alloc: Global,
     array: &ArrayRef,
     ptype: PType,
     counts: Option<&Counts>,
     asked: &Asked<'_>,
-) -> Result<Option<ArrayStats>, AllocError>
+) -> Found
     requires kind { IsOfKind (number_kind_of ptype) (array_type_of array.now) }
     requires counted { CountsEach counts (len_of array.now) }
     ensures { IfOk result (λ found. MatchOption found
@@ -271,30 +253,29 @@ fn stats_of_any_numbers(
         (λ stats. AreStatsOf asked.now counts.entry array.now stats)) }
 {
     match ptype {
-        PType::U8 => stats_of_any_kind::<u8>(alloc, array, counts, asked),
-        PType::U16 => stats_of_any_kind::<u16>(alloc, array, counts, asked),
-        PType::U32 => stats_of_any_kind::<u32>(alloc, array, counts, asked),
-        PType::U64 => stats_of_any_kind::<u64>(alloc, array, counts, asked),
-        PType::I8 => stats_of_any_kind::<i8>(alloc, array, counts, asked),
-        PType::I16 => stats_of_any_kind::<i16>(alloc, array, counts, asked),
-        PType::I32 => stats_of_any_kind::<i32>(alloc, array, counts, asked),
-        PType::I64 => stats_of_any_kind::<i64>(alloc, array, counts, asked),
+        PType::U8 => stats_of_any_kind::<u8>(array, counts, asked),
+        PType::U16 => stats_of_any_kind::<u16>(array, counts, asked),
+        PType::U32 => stats_of_any_kind::<u32>(array, counts, asked),
+        PType::U64 => stats_of_any_kind::<u64>(array, counts, asked),
+        PType::I8 => stats_of_any_kind::<i8>(array, counts, asked),
+        PType::I16 => stats_of_any_kind::<i16>(array, counts, asked),
+        PType::I32 => stats_of_any_kind::<i32>(array, counts, asked),
+        PType::I64 => stats_of_any_kind::<i64>(array, counts, asked),
         PType::F16 | PType::F32 | PType::F64 => Ok(None),
     }
 }
 
 fn stats_of_any_kind<T: NativePType>(
-    alloc: Global,
     array: &ArrayRef,
     counts: Option<&Counts>,
     asked: &Asked<'_>,
-) -> Result<Option<ArrayStats>, AllocError>
+) -> Found
     requires kind { IsIntegerOf T.kind (array_type_of array.now) }
     requires counted { CountsEach counts (len_of array.now) }
     ensures { IfOk result (λ found. MatchOption found
         (is_leaf (array_type_of array.now) ≡ false)
         (λ stats. AreStatsOf asked.now counts.entry array.now stats)) }
 {
-    let stats = referenced_numbers::<T>(array, counts).stats(alloc, asked)?;
+    let stats = referenced_numbers::<T>(array, counts).stats(asked)?;
     Ok(Some(stats))
 }

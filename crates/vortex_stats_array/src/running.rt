@@ -1,17 +1,18 @@
 //! What is seen of a leaf column, row by row.
 ghost use Rattle.std.specs.Prelude.{◌≡◌, ◌<◌, ◌≤◌, ◌+◌, ◌-◌, ◌*◌, ◌^◌, ◌∷◌, ◌++◌, [], ℕ, List, length, replicate, option_map, IfOk};
+ghost use Rattle.vortex_model.specs.LogicalType.{LogicalType};
 ghost use Rattle.vortex_model.specs.Content.{Content, null};
 ghost use Rattle.vortex_model_table.specs.ZoneMap.{zone_of};
 ghost use Rattle.vortex_dtype_core.specs.View.{type_of};
 ghost use Rattle.vortex_stats_array.specs.Running.{content_or_null, lesser, greater, in_front, DoCompare, IsSeen, FitsRows, constant_by};
-ghost use Rattle.vortex_stats_array.specs.Zones.{bound_content, zone_in, low_at, high_at};
+ghost use Rattle.vortex_stats_array.specs.Sums.{IsSumIn};
+ghost use Rattle.vortex_stats_array.specs.Zones.{bound_content, zone_in, low_at, high_at, IsBoundIn, HasBoundsIn};
 
 use crate::array_stats::{ArrayStats, sum_ptype};
 use crate::asked::Asked;
-use crate::leaf_value::LeafValue;
+use crate::leaf_value::{Bounded, LeafValue};
 use crate::running_sum::RunningSum;
 use std::alloc::{AllocError, Global};
-use vortex_scalar_value::scalar_value::ScalarValue;
 use vortex_stats_bound::precision::Precision;
 
 /// The least and the greatest of the values seen so far, how many rows are null, and the sum.
@@ -144,9 +145,10 @@ impl<V: LeafValue> Running<V> {
         }
     }
 
-    fn min(&self, alloc: Global, max_length: usize) -> Result<Precision<ScalarValue>, AllocError>
-        ensures { IfOk result (λ min. bound_content min
+    fn min(&self, alloc: Global, max_length: usize) -> Bounded
+        ensures content { IfOk result (λ min. bound_content min
             ≡ low_at max_length (option_map V.said self.now.least)) }
+        ensures types { IfOk result (λ min. (k : LogicalType) → V.is_type k → IsBoundIn k min) }
     {
         match self.least {
             Some(least) => least.below(alloc, max_length),
@@ -154,9 +156,10 @@ impl<V: LeafValue> Running<V> {
         }
     }
 
-    fn max(&self, alloc: Global, max_length: usize) -> Result<Precision<ScalarValue>, AllocError>
-        ensures { IfOk result (λ max. bound_content max
+    fn max(&self, alloc: Global, max_length: usize) -> Bounded
+        ensures content { IfOk result (λ max. bound_content max
             ≡ high_at max_length (option_map V.said self.now.greatest)) }
+        ensures types { IfOk result (λ max. (k : LogicalType) → V.is_type k → IsBoundIn k max) }
     {
         match self.greatest {
             Some(greatest) => greatest.above(alloc, max_length),
@@ -166,13 +169,16 @@ impl<V: LeafValue> Running<V> {
 
     /// The statistics of these rows. A bound that is a text or bytes of more than the greatest
     /// length is shortened.
-    pub(crate) fn stats(self, alloc: Global, asked: &Asked<'_>) -> Result<ArrayStats, AllocError>
-        ensures { IfOk result (λ stats. (rows : List Content) → IsSeen V.said self rows
+    pub(crate) fn stats(self, asked: &Asked<'_>) -> Result<ArrayStats, AllocError>
+        ensures zone { IfOk result (λ stats. (rows : List Content) → IsSeen V.said self rows
             → DoCompare rows → length rows ≡ asked.now.row_count
             → zone_in stats ≡ zone_of (type_of asked.now.dtype.now) asked.now.max_length rows) }
+        ensures bounds { IfOk result
+            (λ stats. (k : LogicalType) → V.is_type k → HasBoundsIn k stats) }
+        ensures sum { IfOk result (λ stats. IsSumIn (type_of asked.now.dtype.now) stats.sum) }
     {
-        let min = self.min(alloc, asked.max_length)?;
-        let max = self.max(alloc, asked.max_length)?;
+        let min = self.min(asked.alloc, asked.max_length)?;
+        let max = self.max(asked.alloc, asked.max_length)?;
         Ok(ArrayStats {
             min,
             max,

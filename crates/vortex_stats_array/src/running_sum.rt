@@ -1,10 +1,11 @@
 //! The sum of the values of a leaf column, one by one.
-ghost use Rattle.std.specs.Prelude.{◌≡◌, ◌<◌, ◌≤◌, ◌+◌, ◌-◌, ◌*◌, ◌^◌, false, pos, neg_ℤ, ◌+ℤ◌, ◌≤ℤ◌, IfSome, IfNone};
+ghost use Rattle.std.specs.Prelude.{◌≡◌, ◌<◌, ◌≤◌, ◌+◌, ◌-◌, ◌*◌, ◌^◌, false, pos, neg_ℤ, ◌+ℤ◌, ◌≤ℤ◌, Some, IfSome, IfNone};
 ghost use Rattle.vortex_model.specs.LogicalType.{IntKind};
 ghost use Rattle.vortex_model.specs.Valid.{in_range};
 ghost use Rattle.vortex_model_table.specs.ZoneMap.{sum_in};
 ghost use Rattle.vortex_dtype_ptype.specs.Numbers.{int_kind_in};
 ghost use Rattle.vortex_dtype_ptype.specs.View.{number_kind_of};
+ghost use Rattle.vortex_scalar_value.specs.Numbers.{kind_of_number};
 ghost use Rattle.vortex_stats_array.specs.Sums.{sum_in_parts, repeated_sum, FitsSum, int_kind_of, known_sum};
 
 use vortex_dtype_ptype::ptype::PType;
@@ -78,7 +79,8 @@ impl RunningSum {
 
     /// The sum as an integer of this type. `None` where that can't hold it, and without a type.
     pub(crate) fn of_type(self, sum_type: Option<PType>) -> Option<PValue>
-        ensures { known_sum result ≡ sum_in (int_kind_of sum_type) (sum_in_parts self) }
+        ensures number { known_sum result ≡ sum_in (int_kind_of sum_type) (sum_in_parts self) }
+        ensures kind { IfSome result (λ v. Some (kind_of_number v) ≡ int_kind_of sum_type) }
     {
         let ptype = sum_type?;
         match self.value() {
@@ -109,7 +111,9 @@ impl RunningSum {
 
 // The number as one of a kind of integers that holds it.
 fn number_of(ptype: PType, number: i128) -> Option<PValue>
-    ensures { known_sum result ≡ sum_in (int_kind_in (number_kind_of ptype)) number }
+    ensures number { known_sum result ≡ sum_in (int_kind_in (number_kind_of ptype)) number }
+    ensures kind { IfSome result
+        (λ v. Some (kind_of_number v) ≡ int_kind_in (number_kind_of ptype)) }
 {
     PValue::of(ptype, number)
 }

@@ -1,12 +1,16 @@
 //! Copies of texts and bytes, shortened to bounds.
-ghost use Rattle.std.specs.Prelude.{◌≡◌, IfOk, IsUtf8};
+ghost use Rattle.std.specs.Prelude.{◌≡◌, true, IfOk, IsUtf8};
+ghost use Rattle.vortex_model.specs.LogicalType.{LogicalType};
 ghost use Rattle.vortex_model.specs.Content.{text, byte_string};
 ghost use Rattle.vortex_model_table.specs.Bounds.{low, high, is_longer};
-ghost use Rattle.vortex_model.specs.Valid.{AreBytes};
+ghost use Rattle.vortex_model.specs.Valid.{AreBytes, valid};
 ghost use Rattle.vortex_model_table.specs.ZoneMap.{bound_of};
 ghost use Rattle.vortex_stats_bound.specs.ValueOrder.{value_content};
-ghost use Rattle.vortex_stats_array.specs.Zones.{bound_content, high_by};
+ghost use Rattle.vortex_scalar_value.specs.View.{raw_of};
+ghost use Rattle.vortex_stats_array.specs.Arrays.{IsTextType, IsBinaryType};
+ghost use Rattle.vortex_stats_array.specs.Zones.{bound_content, high_by, IsBoundIn};
 
+use crate::leaf_value::Bounded;
 use bytes::Bytes;
 use std::alloc::{AllocError, Global};
 use vortex_dtype_core::BufferString;
@@ -22,7 +26,8 @@ fn are_bytes(bytes: &[u8])
 
 // Exact where it wasn't shortened.
 fn bound(value: ScalarValue, shortened: bool) -> Precision<ScalarValue>
-    ensures { bound_content result ≡ bound_of shortened (value_content value) }
+    ensures content { bound_content result ≡ bound_of shortened (value_content value) }
+    ensures types { (k : LogicalType) → valid k (raw_of value) ≡ true → IsBoundIn k result }
 {
     if shortened {
         Precision::Inexact(value)
@@ -40,66 +45,62 @@ fn text_copy(alloc: Global, value: &[u8]) -> Result<BufferString, AllocError>
 }
 
 /// The longest beginning of whole characters with at most `max_length` bytes.
-pub(crate) fn text_below(
-    alloc: Global,
-    value: &[u8],
-    max_length: usize,
-) -> Result<Precision<ScalarValue>, AllocError>
+pub(crate) fn text_below(alloc: Global, value: &[u8], max_length: usize) -> Bounded
     requires { IsUtf8 value.now }
-    ensures { IfOk result (λ below. bound_content below
+    ensures content { IfOk result (λ below. bound_content below
         ≡ bound_of (is_longer max_length (text value.now)) (low max_length (text value.now))) }
+    ensures types { IfOk result (λ below. (k : LogicalType) → IsTextType k → IsBoundIn k below) }
 {
     let copy = text_copy(alloc, value)?;
     let (low, shortened) = lower_text(copy, max_length);
+    let _ = low.as_bytes();
     Ok(bound(ScalarValue::Utf8(low), shortened))
 }
 
 /// A text of at most `max_length` bytes that is not below the value, where there is one.
-pub(crate) fn text_above(
-    alloc: Global,
-    value: &[u8],
-    max_length: usize,
-) -> Result<Precision<ScalarValue>, AllocError>
+pub(crate) fn text_above(alloc: Global, value: &[u8], max_length: usize) -> Bounded
     requires { IsUtf8 value.now }
-    ensures { IfOk result (λ above. bound_content above
+    ensures content { IfOk result (λ above. bound_content above
         ≡ high_by max_length (text value.now) (high max_length (text value.now))) }
+    ensures types { IfOk result (λ above. (k : LogicalType) → IsTextType k → IsBoundIn k above) }
 {
     let copy = text_copy(alloc, value)?;
     match upper_text(alloc, copy, max_length)? {
-        Some((high, shortened)) => Ok(bound(ScalarValue::Utf8(high), shortened)),
+        Some((high, shortened)) => {
+            let _ = high.as_bytes();
+            Ok(bound(ScalarValue::Utf8(high), shortened))
+        }
         None => Ok(Precision::Absent),
     }
 }
 
 /// The first `max_length` bytes.
-pub(crate) fn bytes_below(
-    alloc: Global,
-    value: &[u8],
-    max_length: usize,
-) -> Result<Precision<ScalarValue>, AllocError>
-    ensures { IfOk result (λ below. bound_content below
+pub(crate) fn bytes_below(alloc: Global, value: &[u8], max_length: usize) -> Bounded
+    ensures content { IfOk result (λ below. bound_content below
         ≡ bound_of (is_longer max_length (byte_string value.now))
         (low max_length (byte_string value.now))) }
+    ensures types { IfOk result (λ below. (k : LogicalType) → IsBinaryType k → IsBoundIn k below) }
 {
     are_bytes(value);
     let copy = Bytes::copy_from_slice(alloc, value)?;
     let (low, shortened) = lower_bytes(copy, max_length);
+    are_bytes(low.as_slice());
     Ok(bound(ScalarValue::Binary(low), shortened))
 }
 
 /// Bytes, at most `max_length` of them, that are not below the value, where there are any.
-pub(crate) fn bytes_above(
-    alloc: Global,
-    value: &[u8],
-    max_length: usize,
-) -> Result<Precision<ScalarValue>, AllocError>
-    ensures { IfOk result (λ above. bound_content above
+pub(crate) fn bytes_above(alloc: Global, value: &[u8], max_length: usize) -> Bounded
+    ensures content { IfOk result (λ above. bound_content above
         ≡ high_by max_length (byte_string value.now) (high max_length (byte_string value.now))) }
+    ensures types { IfOk result (λ above. (k : LogicalType) → IsBinaryType k → IsBoundIn k above) }
 {
     are_bytes(value);
     let copy = Bytes::copy_from_slice(alloc, value)?;
     match upper_bytes(alloc, copy, max_length)? {
-        Some((high, shortened)) => Ok(bound(ScalarValue::Binary(high), shortened)),
+        Some((high, shortened)) => {
+            are_bytes(high.as_slice());
+            Ok(bound(ScalarValue::Binary(high), shortened))
+        }
         None => Ok(Precision::Absent),
     }
 }

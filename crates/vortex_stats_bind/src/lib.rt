@@ -3,5 +3,6 @@
 
 pub mod bind;
 pub mod bound;
+pub mod clone;
 pub mod stats;
 pub mod value;

@@ -23,7 +23,7 @@ use vortex_stats_rewrite::check::{reads_columns, type_expression};
 
 /// An expression over rows of one type whose columns are resolved, as Vortex's `BoundExpression`,
 /// with what its typing found.
-#[derive(Drop)]
+#[derive(Clone, Drop)]
 pub struct BoundExpression {
     /// The expression, with positions in place of names.
     pub tree: BoundTree,

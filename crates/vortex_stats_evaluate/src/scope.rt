@@ -25,7 +25,7 @@ use vortex_stats_rewrite::check::type_expression;
 use vortex_stats_set::stats_set::StatsSet;
 
 /// Rows with what is known of them: what a bound expression is evaluated over.
-#[derive(Drop)]
+#[derive(Clone, Drop)]
 pub struct Scope {
     /// The rows at which predicates are evaluated. Proofs don't look at them.
     pub array: ArrayRef,

@@ -294,7 +294,7 @@ impl StatsSet {
 }
 
 /// The pairs one after the other, by value, as Vortex's `StatsSetIntoIter`.
-#[derive(Drop)]
+#[derive(Clone, Drop)]
 pub struct StatsSetIntoIter {
     values: IntoIter<(Stat, Precision<ScalarValue>), 4>,
 }

@@ -65,7 +65,10 @@ fn check(
     wanted: Wanted,
 ) -> Result<(), DTypeError> {
     let right = match array_stats(alloc, array, 16)? {
-        Some(stats) => are_wanted(&stats, array.len(), wanted),
+        Some(stats) => {
+            let copy = stats.clone()?;
+            are_wanted(&stats, array.len(), wanted) && are_wanted(&copy, array.len(), wanted)
+        }
         None => false,
     };
     checks.holds(name, right);

@@ -135,6 +135,9 @@ pub fn run(alloc: Global, checks: &mut Checks<'_>) -> Done {
     only_nulls(alloc, checks, &dtype)?;
     each_form(alloc, checks, &dtype, &row)?;
     checks.holds("statistics at a row", !proof.holds(&row) && !proof.selects(&row));
+    let copy = proof.clone()?;
+    drop(proof);
+    checks.holds("a clone", copy.holds(&known(Some(5), 0)) && !copy.holds(&known(Some(6), 0)));
     Ok(())
 }
 
@@ -219,7 +222,12 @@ fn is_true(
     predicate: Expression,
 ) -> Result<bool, ScalarError> {
     let bound = settled(bind(alloc, &predicate, dtype))?;
-    Ok(bound.tree.selects(row))
+    let copy = bound.clone()?;
+    // A clone selects the same rows.
+    if copy.tree.selects(row) != bound.tree.selects(row) {
+        return Err(ScalarError::Invalid);
+    }
+    Ok(copy.tree.selects(row))
 }
 
 /// The bound expression, or the error as one of values.

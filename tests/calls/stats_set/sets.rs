@@ -166,5 +166,10 @@ fn cloned(alloc: Global, checks: &mut Checks<'_>) -> Done {
     set.clear(Stat::Max);
     checks.holds("clone", has_rows(&copy, &[(Stat::Max, Inexact(2)), (Stat::Min, Absent)]));
     checks.holds("what was cloned", has_rows(&set, &[(Stat::Min, Absent)]));
+    let mut left = copy.into_iter();
+    let _ = left.next();
+    let twin = left.clone()?;
+    let next = left.next();
+    checks.holds("clone of what is left", next.is_some() && left.len() == 0 && twin.len() == 1);
     Ok(())
 }

@@ -60,6 +60,7 @@ pub fn run(alloc: Global, checks: &mut Checks<'_>) -> Result<(), DTypeError> {
     nested_paths(alloc, checks)?;
     at_rows(alloc, checks)?;
     bound_by_hand(alloc, checks)?;
+    cloned(alloc, checks)?;
     counts(alloc, checks)
 }
 
@@ -159,6 +160,20 @@ fn bound_by_hand(alloc: Global, checks: &mut Checks<'_>) -> Result<(), DTypeErro
     let bound = bind_stats(alloc, &bound, &scope)?;
     let found = told(vortex_stats::prove(alloc, &bound, &bare, &mut meter))?;
     checks.holds("a placeholder that was bound", found == Some(true));
+    Ok(())
+}
+
+/// A clone of a scope and of a proof tells what the originals told.
+fn cloned(alloc: Global, checks: &mut Checks<'_>) -> Result<(), DTypeError> {
+    let scope = known(alloc, 100)?;
+    let proof = falsifier(alloc, &above(alloc, "a", 4)?, &scope)?;
+    let bound = told(bind(alloc, &proof, scope.array.dtype()))?;
+    let copy = scope.clone()?;
+    let twin = bound.clone()?;
+    drop(scope);
+    drop(bound);
+    let found = told(vortex_stats::prove(alloc, &twin, &copy, &mut Meter::new()))?;
+    checks.holds("a proof by clones", found == Some(true) && copy.rows == 100);
     Ok(())
 }
 
