@@ -1,11 +1,12 @@
 //! Laws of arrays. Those over definitions are functions without arguments, whose clauses are the
-//! laws. The two of slices make the calls that the law speaks of, and answer what they gave;
-//! `limits` answers the two limits of views.
+//! laws. Those of slices and of rebuilding make the calls that the law speaks of, and answer what
+//! they gave; `limits` answers the two limits of views.
 pub use vortex_arrays_model::laws::{
     columns_step_down, dictionaries_take, equal_rows_rebuild_equally, rebuilding_keeps_rows,
     rebuilding_twice_is_once, rebuilt_lists_follow, referenced_values_are_the_rows,
     rows_are_contents, slices_have_their_rows, slices_of_slices_are_slices, trimming_keeps_rows,
 };
+pub use vortex_arrays_rebuild::laws::rebuild_twice;
 pub use vortex_arrays_struct::slices::{slice_of_all, slice_of_slice};
 pub use vortex_arrays_view::laws::{
     inlined_views_are_equal_as_values, inlined_views_are_in_order, limits,

@@ -1,9 +1,7 @@
 -- How many bits are true, and where.
 use Rattle.std.proofs.Common.{◌≡◌, ℕ, zero, suc, ◌+◌, ◌≤◌, ◌<◌, List, [], ◌∷◌, Bool, true, false, not, ◌↔◌, length, get_or, replicate, cond, refl, sym, ap, ◌∙◌, arith}
 use Rattle.std.specs.List.{All, count_by}
-use Rattle.std.proofs.lemmas.List.Filters.{length-filter_both}
 use Rattle.std.proofs.lemmas.List.Recursion.{is_count_by}
-use Rattle.std.proofs.lemmas.List.Sums.{length-filter}
 use Rattle.vortex_arrays_buffer.specs.Bits.{positions_from, positions_of}
 
 -- how many bits are true, by cases
@@ -55,10 +53,6 @@ all_kept n = sym (trues_are (replicate n true)) ∙ trues_of_true n
 pub none_kept : (n : ℕ) → count_by (λ b. b) (replicate n false) ≡ 0
 none_kept n = sym (trues_are (replicate n false)) ∙ trues_of_false n
 
--- each is kept or not
-pub kept_or_not : (bits : List Bool) → count_by (λ b. b) bits + count_by not bits ≡ length bits
-kept_or_not bits = omega (arith, length-filter_both (λ b. b) not (λ b. refl) bits, length-filter (λ b. b) bits, length-filter not bits)
-
 trues_le : (bits : List Bool) → trues bits ≤ length bits
 trues_le [] = omega arith
 trues_le (true ∷ bits) = omega (arith, trues_le bits)
@@ -92,4 +86,4 @@ none_count (false ∷ bits) a = none_count bits (λ k d l. a (suc k) d (omega ar
 pub none_of_them : (bits : List Bool) (n : ℕ) → n ≡ count_by (λ b. b) bits → (n ≡ 0) ↔ All (λ b. b ≡ false) bits
 none_of_them bits n is = (λ e. none_is bits (trues_are bits ∙ sym is ∙ e), λ a. is ∙ sym (trues_are bits) ∙ none_count bits a)
 
-pub ruleset kept = (all_kept, none_kept, kept_or_not, each_kept, none_of_them)
+pub ruleset kept = (all_kept, none_kept, each_kept, none_of_them)

@@ -1,6 +1,5 @@
 //! Which rows are kept.
-ghost use Rattle.std.specs.Prelude.{◌≡◌, ◌<◌, ◌≤◌, ◌↔◌, ◌&&◌, [], true, false, not, length, map, count_by, replicate, slice_index_or, slice_range, IsTrue, IfOk, All};
-ghost use Rattle.std.specs.List.{zip};
+ghost use Rattle.std.specs.Prelude.{◌≡◌, ◌<◌, ◌≤◌, ◌↔◌, [], true, false, not, length, map, count_by, replicate, slice_index_or, slice_range, IsTrue, IfOk, All};
 ghost use Rattle.vortex_arrays_buffer.specs.Bits.{bits_at, positions_of};
 
 use crate::bit_buffer::BitBuffer;
@@ -88,13 +87,6 @@ impl Mask {
         self.true_count
     }
 
-    /// How many rows are not kept.
-    pub fn false_count(&self) -> usize
-        ensures { result ≡ count_by not self.now }
-    {
-        self.len() - self.true_count
-    }
-
     /// Whether a row is kept.
     pub fn value(&self, i: usize) -> bool
         requires { i < length self.now }
@@ -129,15 +121,6 @@ impl Mask {
         ensures { IfOk result (λ mask. mask ≡ map not self.now) }
     {
         let bits = self.bits.not(alloc)?;
-        Ok(Mask::from_buffer(bits))
-    }
-
-    /// The rows that both keep.
-    pub fn bitand(&self, alloc: Global, other: &Mask) -> Result<Mask, AllocError>
-        requires { length self.now ≡ length other.now }
-        ensures { IfOk result (λ mask. mask ≡ map (λ p. p.0 && p.1) (zip self.now other.now)) }
-    {
-        let bits = self.bits.and(alloc, &other.bits)?;
         Ok(Mask::from_buffer(bits))
     }
 

@@ -10,7 +10,7 @@ use Rattle.vortex_arrays_view.specs.declared.error.ArrayError.TheVariants as err
 use Rattle.vortex_arrays_model.specs.Layout.{Strings, texts, byte_strings, strings, type_of_strings, Valid, nullability_by, IsSound, HasLength}
 use Rattle.vortex_arrays_core.specs.Faults.{IsValidityFault}
 use Rattle.vortex_arrays_leaf.specs.Strings.{IsStringType, strings_in, HaveValues, HoldStrings}
-use Rattle.vortex_arrays_leaf.specs.ViewFaults.{IsViewsFault, IsTextsFault, IsStringsFault}
+use Rattle.vortex_arrays_leaf.specs.ViewFaults.{HasLongValue, IsViewsFault, IsTextsFault, IsStringsFault}
 
 pub texts_in : (k : LogicalType) → is_utf8_type k ≡ true → strings_in k ≡ texts
 texts_in (utf8 n) e = refl
@@ -56,13 +56,16 @@ validity_fault error.LengthMismatch k views buffers v t h = (t, h)
 validity_fault error.Memory k views buffers v t h = tt
 validity_fault e k views buffers v t h = absurd h
 
-pub views_fault : (e : ArrayError) (k : LogicalType) (views buffers : List (List ℕ)) (v : Valid) → IsStringType k v → HasLength v (length views) → IsViewsFault e views buffers v → IsStringsFault e k views buffers v
-views_fault error.BadView k views buffers v t l h = (t, l, h)
-views_fault e k views buffers v t l h = absurd h
+pub lengths_fault : (e : ArrayError) (k : LogicalType) (views buffers : List (List ℕ)) (v : Valid) → IsStringType k v → HasLength v (length views) → e ≡ error.Total → HasLongValue views buffers v → IsStringsFault e k views buffers v
+lengths_fault e k views buffers v t l is h = subst (λ x. IsStringsFault x k views buffers v) (sym is) (t, l, h)
 
-pub texts_fault : (e : ArrayError) (s : Strings) (k : LogicalType) (views buffers : List (List ℕ)) (v : Valid) → s ≡ strings_in k → IsStringType k v → HasLength v (length views) → HaveValues views buffers v → IsTextsFault e s views buffers v → IsStringsFault e k views buffers v
-texts_fault error.NotUtf8 s k views buffers v is t l values h = (t, l, values, sym is ∙ h.0, h.1)
-texts_fault e s k views buffers v is t l values h = absurd h
+pub views_fault : (e : ArrayError) (k : LogicalType) (views buffers : List (List ℕ)) (v : Valid) → IsStringType k v → HasLength v (length views) → (HasLongValue views buffers v → ⊥) → IsViewsFault e views buffers v → IsStringsFault e k views buffers v
+views_fault error.BadView k views buffers v t l short h = (t, l, short, h)
+views_fault e k views buffers v t l short h = absurd h
+
+pub texts_fault : (e : ArrayError) (s : Strings) (k : LogicalType) (views buffers : List (List ℕ)) (v : Valid) → s ≡ strings_in k → IsStringType k v → HasLength v (length views) → (HasLongValue views buffers v → ⊥) → HaveValues views buffers v → IsTextsFault e s views buffers v → IsStringsFault e k views buffers v
+texts_fault error.NotUtf8 s k views buffers v is t l short values h = (t, l, short, values, sym is ∙ h.0, h.1)
+texts_fault e s k views buffers v is t l short values h = absurd h
 
 pub sound_strings : (s : Strings) (k : LogicalType) (views buffers : List (List ℕ)) (v : Valid) → s ≡ strings_in k → HasLength v (length views) → HaveValues views buffers v → HoldStrings s views buffers v → IsSound (strings (strings_in k) views buffers v)
 sound_strings s k views buffers v is l values holds = subst (λ t. IsSound (strings t views buffers v)) is ((λ i within valid. (values i within valid, holds i within valid)), l)
@@ -80,4 +83,4 @@ pub no_memory_of_texts : (e : ArrayError) (s : Strings) (views buffers : List (L
 no_memory_of_texts error.Memory s views buffers v h = absurd h
 no_memory_of_texts e s views buffers v h = λ p. absurd (cc (p))
 
-pub ruleset faults = (validity_fault, views_fault, texts_fault, sound_strings, no_memory_of_validity, no_memory_of_views, no_memory_of_texts)
+pub ruleset faults = (validity_fault, lengths_fault, views_fault, texts_fault, sound_strings, no_memory_of_validity, no_memory_of_views, no_memory_of_texts)

@@ -1,7 +1,7 @@
 -- Why views, buffers and a validity make no array of texts or bytes.
 use Rattle.std.specs.Prelude.{◌≡◌, ◌<◌, ◌⊎◌, ℕ, List, [], length, slice_index_or, IsTrue, IsUtf8}
 use Rattle.vortex_model.specs.LogicalType.{LogicalType}
-use Rattle.vortex_arrays_view.specs.Views.{value_of, HasValue}
+use Rattle.vortex_arrays_view.specs.Views.{size_of, value_of, HasValue}
 use Rattle.vortex_arrays_view.specs.declared.error.ArrayError.{ArrayError}
 use Rattle.vortex_arrays_view.specs.declared.error.ArrayError.TheVariants as error
 use Rattle.vortex_arrays_model.specs.Layout.{Strings, texts, Valid, is_valid, HasLength}
@@ -22,7 +22,15 @@ pub record HasNoText (views buffers : List (List ℕ)) (v : Valid) : Type 0 wher
   pub valid : IsTrue (is_valid v row)
   pub other : IsUtf8 (value_of (slice_index_or views row []) buffers) → ⊥
 
--- The type goes first, then the length, then the views, then the texts.
+-- the row is not null, and its value is longer than a buffer may be
+abbrev pub IsLongAt : List (List ℕ) → List (List ℕ) → Valid → ℕ → Type 0
+IsLongAt views buffers v i = IsTrue (is_valid v i) × HasValue (slice_index_or views i []) buffers ×
+    (2147483647 < size_of (slice_index_or views i []))
+
+abbrev pub HasLongValue : List (List ℕ) → List (List ℕ) → Valid → Type 0
+HasLongValue views buffers v = (i : ℕ) × (i < length views) × IsLongAt views buffers v i
+
+-- The type goes first, then the length, long values, the views and the texts.
 abbrev pub IsStringsFault : ArrayError → LogicalType → List (List ℕ) → List (List ℕ) → Valid →
     Type 0
 IsStringsFault error.Memory k views buffers v = Unit {0}
@@ -30,10 +38,13 @@ IsStringsFault error.WrongType k views buffers v =
     (IsStringType k v → ⊥) ⊎ IsValidityFault error.WrongType v (length views)
 IsStringsFault error.LengthMismatch k views buffers v =
     IsStringType k v × IsValidityFault error.LengthMismatch v (length views)
-IsStringsFault error.BadView k views buffers v =
-    IsStringType k v × HasLength v (length views) × HasBadView views buffers v
+IsStringsFault error.Total k views buffers v =
+    IsStringType k v × HasLength v (length views) × HasLongValue views buffers v
+IsStringsFault error.BadView k views buffers v = IsStringType k v × HasLength v (length views) ×
+    (HasLongValue views buffers v → ⊥) × HasBadView views buffers v
 IsStringsFault error.NotUtf8 k views buffers v = IsStringType k v × HasLength v (length views) ×
-    HaveValues views buffers v × (strings_in k ≡ texts) × HasNoText views buffers v
+    (HasLongValue views buffers v → ⊥) × HaveValues views buffers v × (strings_in k ≡ texts) ×
+    HasNoText views buffers v
 IsStringsFault e k views buffers v = ⊥
 
 -- why views have no values

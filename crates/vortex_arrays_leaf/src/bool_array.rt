@@ -26,7 +26,7 @@ pub struct BoolArray {
 }
 
 /// What a `BoolArray` is made of, as Vortex's `BoolDataParts`.
-#[derive(Drop)]
+#[derive(Clone, Drop)]
 pub struct BoolDataParts {
     /// A bit for each row. That of a null row means nothing.
     pub bits: BitBuffer,

@@ -4,13 +4,52 @@ ghost use Rattle.vortex_arrays_view.specs.Views.{value_of, HasValue};
 ghost use Rattle.vortex_arrays_model.specs.Layout.{bools, texts, Valid, required, by_array, is_valid, HasLength, IsString};
 ghost use Rattle.vortex_arrays_core.specs.LayoutOf.{valid_of, strings_of};
 ghost use Rattle.vortex_arrays_leaf.specs.Strings.{HasValueAt, HoldsAt, HaveValues, HoldStrings};
-ghost use Rattle.vortex_arrays_leaf.specs.ViewFaults.{IsViewsFault, IsTextsFault};
+ghost use Rattle.vortex_arrays_view.specs.declared.error.ArrayError.TheVariants.{Total};
+ghost use Rattle.vortex_arrays_leaf.specs.ViewFaults.{IsLongAt, HasLongValue, IsViewsFault, IsTextsFault};
 
 use bytes::Bytes;
 use vortex_arrays_buffer::bit_buffer::BitBuffer;
 use vortex_arrays_core::array::{StringKind, Validity};
+use vortex_arrays_view::build::MAX_BUFFER_LEN;
 use vortex_arrays_view::error::ArrayError;
 use vortex_arrays_view::view::BinaryView;
+
+/// Tests that no value of a row that is not null is longer than a buffer may be. `Total` where one
+/// is.
+pub(crate) fn check_lengths(
+    views: &[BinaryView],
+    buffers: &[Bytes],
+    validity: &Validity,
+) -> Result<(), ArrayError>
+    requires { HasLength (valid_of validity.now) (length views.now) }
+    ensures short { OnOk result (HasLongValue views.now buffers.now (valid_of validity.now) → ⊥) }
+    ensures refused { IfErr result
+        (λ e. (e ≡ Total) × HasLongValue views.now buffers.now (valid_of validity.now)) }
+{
+    for i in 0..views.len() {
+        if is_long_at(views, buffers, validity, i) {
+            return Err(ArrayError::Total);
+        }
+    }
+    Ok(())
+}
+
+// Whether the row is not null and its value is longer than a buffer may be.
+#[tactic(auto, using(crate::proofs::Checked::reads))]
+fn is_long_at(views: &[BinaryView], buffers: &[Bytes], validity: &Validity, i: usize) -> bool
+    requires within { i < length views.now }
+    requires fits { HasLength (valid_of validity.now) (length views.now) }
+    ensures long { result ≡ true → IsLongAt views.now buffers.now (valid_of validity.now) i }
+    ensures short { result ≡ false → IsLongAt views.now buffers.now (valid_of validity.now) i → ⊥ }
+{
+    if views[i].len() as usize <= MAX_BUFFER_LEN {
+        return false;
+    }
+    if validity.is_null(i, views.len()) {
+        return false;
+    }
+    views[i].has_value(buffers)
+}
 
 /// Tests that the view of each row that is not null has a value. `BadView` where one has none.
 pub(crate) fn check_views(

@@ -30,7 +30,7 @@ pub struct PrimitiveArray {
 }
 
 /// What a `PrimitiveArray` is made of, as Vortex's `PrimitiveDataParts`.
-#[derive(Drop)]
+#[derive(Clone, Drop)]
 pub struct PrimitiveDataParts {
     /// An integer for each row. That of a null row means nothing.
     pub numbers: PrimitiveBuffer,

@@ -1,15 +1,15 @@
 //! Texts and bytes by views of sixteen bytes.
-ghost use Rattle.std.specs.Prelude.{◌≡◌, ◌≢◌, ◌<◌, ◌==◌, ◌↔◌, [], length, slice_index_or, IsTrue, IfOk, IfErr, IfSome, MatchOption, MatchResult};
+ghost use Rattle.std.specs.Prelude.{◌≡◌, ◌≢◌, ◌<◌, ◌==◌, ◌↔◌, [], length, slice_index_or, IsTrue, OnOk, IfOk, IfErr, IfSome, MatchOption, MatchResult};
 ghost use Rattle.vortex_arrays_view.specs.Views.{value_of};
 ghost use Rattle.vortex_dtype_core.specs.View.{type_of};
 ghost use Rattle.vortex_arrays_model.specs.Layout.{strings, len_of, array_type_of, is_valid, IsSound};
 ghost use Rattle.vortex_arrays_core.specs.LayoutOf.{valid_of, strings_of};
 ghost use Rattle.vortex_arrays_view.specs.declared.error.ArrayError.TheVariants.{Memory};
-ghost use Rattle.vortex_arrays_leaf.specs.ViewFaults.{IsStringsFault};
+ghost use Rattle.vortex_arrays_leaf.specs.ViewFaults.{HasLongValue, IsStringsFault};
 ghost use Rattle.vortex_arrays_leaf.specs.Strings.{IsStrings, IsStringType, strings_in, views_in, buffers_in};
 ghost use Rattle.vortex_arrays_model.specs.Parts.{valid_in};
 
-use crate::check_views::{check_values, check_views};
+use crate::check_views::{check_lengths, check_values, check_views};
 use bytes::Bytes;
 use std::alloc::{AllocError, Global};
 use std::marker::Model;
@@ -47,9 +47,9 @@ impl VarBinViewArray {
     ///
     /// `WrongType` where the type is neither `Utf8` nor `Binary`, where its nullability is not the
     /// validity's, or where the validity's array can hold something else than true and false. Else
-    /// `LengthMismatch` where that array has another length than the views, else `BadView` where a
-    /// view has no value in the buffers, else `NotUtf8` where the type is `Utf8` and a value is no
-    /// text.
+    /// `LengthMismatch` where that array has another length than the views, else `Total` where a
+    /// value has more than `MAX_BUFFER_LEN` bytes, else `BadView` where a view has no value in the
+    /// buffers, else `NotUtf8` where the type is `Utf8` and a value is no text.
     #[tactic(auto, using(crate::proofs::Made::faults))]
     pub fn try_new(
         alloc: Global,
@@ -63,6 +63,8 @@ impl VarBinViewArray {
             (valid_of validity)) }
         ensures sound { IfOk result (λ a. IsSound a) }
         ensures dtype { IfOk result (λ a. array_type_of a ≡ type_of dtype) }
+        ensures short { OnOk result
+            (HasLongValue views buffers.value.items (valid_of validity) → ⊥) }
         ensures refused { IfErr result
             (λ e. IsStringsFault e (type_of dtype) views buffers.value.items (valid_of validity)) }
     {
@@ -107,6 +109,8 @@ impl VarBinViewArray {
         ensures sound { IfOk result
             (λ _. IsSound (strings (strings_in (type_of dtype.now)) views.now buffers.now
             (valid_of validity.now))) }
+        ensures short { OnOk result
+            (HasLongValue views.now buffers.now (valid_of validity.now) → ⊥) }
         ensures refused { IfErr result
             (λ e. IsStringsFault e (type_of dtype.now) views.now buffers.now
             (valid_of validity.now)) }
@@ -116,6 +120,7 @@ impl VarBinViewArray {
             return Err(ArrayError::WrongType);
         }
         validity.check_len(views.len())?;
+        check_lengths(views.as_slice(), buffers, validity)?;
         check_views(views.as_slice(), buffers, validity)?;
         check_values(string_kind(dtype), views.as_slice(), buffers, validity)?;
         Ok(())

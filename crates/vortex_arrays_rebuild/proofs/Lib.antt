@@ -10,3 +10,4 @@ pub mod RebuildLemmas
 pub mod RunLemmas
 pub mod ScaledLemmas
 pub mod TrimLemmas
+pub mod TwiceLemmas

@@ -33,7 +33,7 @@ laid_out_view e o s v r os ss ps k p = record {
   canonical = subst (IsCanonical (rows_of (list_views e o s false v)) os ss) (sym (rows_copied e r ps p)) k;
 }
 
-abbrev parts_of : Layout → Layout
+abbrev pub parts_of : Layout → Layout
 parts_of a = list_views (elements_of a) (offsets_of a) (sizes_of a) (is_flagged a) (valid_in a)
 
 -- a view that comes back as it is

@@ -105,8 +105,15 @@ between_sound e o s f v r q from to h b p w = (
 pub tested_in : (k : IntKind) (z : ℤ) → InRange k z → in_range k z ≡ true
 tested_in k z h = let p = h.from in let q = h.to in grind (arith, ints, p, q)
 
-pub between_made : (e o s : Layout) (f : Bool) (v : Valid) (r q : Layout) (from to : ℕ) → Picks e r (to - from) (λ j. from + j) → IsLowered o from q → HasElementsBetween (list_views e o s f v) from to (list_views r q s f v)
-between_made e o s f v r q from to p w = record { elements = r; offsets = q; made = refl; part = p; lowered = w }
+pub between_made : (e o s : Layout) (f : Bool) (v : Valid) (r q : Layout) (from to : ℕ) → LieBetween (list_views e o s f v) from to → Picks e r (to - from) (λ j. from + j) → (to - from ≡ len_of e → r ≡ e) → IsLowered o from q → (from ≡ 0 → q ≡ o) → HasElementsBetween (list_views e o s f v) from to (list_views r q s f v)
+between_made e o s f v r q from to b p all w same = record {
+  elements = r;
+  offsets = q;
+  made = refl;
+  part = p;
+  lowered = w;
+  whole = λ k. let x = b.order in let y = b.room in let none : from ≡ 0 = omega (arith, x, y, k) in λ i. list_views (all k i) (same none i) s f v;
+}
 
 -- each list has an offset
 pub many_lists : (a : Layout) → len_of (offsets_of a) ≡ len_of a
@@ -124,6 +131,10 @@ bounds_lie a from to h m = record {
 
 pub none_lie : (a : Layout) → len_of a ≡ 0 → LieBetween a 0 0
 none_lie a e = record { order = omega arith; room = omega arith; begins = λ i l. absurd (omega (arith, e, l)); ends = λ i l. absurd (omega (arith, e, l)) }
+
+-- where as many elements are left, the view is the same
+whole_stays : (a : Layout) (from to : ℕ) (r : Layout) → HasElementsBetween a from to r → len_of (elements_of r) ≡ len_of (elements_of a) → r ≡ a
+whole_stays a from to r h k = let p = h.part in h.whole (sym p.len ∙ ap (λ x. len_of (elements_of x)) (sym h.made) ∙ k)
 
 kind_stays : (a : Layout) (from to : ℕ) (r : Layout) (h : HasElementsBetween a from to r) → array_type_of (offsets_of r) ≡ array_type_of (offsets_of a)
 kind_stays a from to r h = ap (λ x. array_type_of (offsets_of x)) h.made ∙ (let w = h.lowered in w.kind)
@@ -144,6 +155,7 @@ trimmed_some a from to r b h = let w = h.lowered in (
     moved = w.moved;
   },
   kind_stays a from to r h,
+  whole_stays a from to r h,
 )
 
 pub trimmed_none : (a r : Layout) → len_of a ≡ 0 → HasElementsBetween a 0 0 r → IsTrimmedView a r
@@ -161,6 +173,7 @@ trimmed_none a r none h = let w = h.lowered in (
     moved = w.moved;
   },
   kind_stays a 0 0 r h,
+  whole_stays a 0 0 r h,
 )
 
 pub ruleset trimmed = (bounds_lie, none_lie, trimmed_some, trimmed_none)

@@ -40,17 +40,19 @@ abbrev pub HasNatural : NumberKind → ℕ → Type 0
 HasNatural k n = Has k (pos n)
 
 -- r is the view a with its elements from one position to another alone, and offsets of the same
--- kind that count from the first of them; sizes, flag and nulls stay
+-- kind that count from the first of them; sizes, flag and nulls stay; with all elements it is a
 pub record HasElementsBetween (a : Layout) (from to : ℕ) (r : Layout) : Type 0 where
   pub elements : Layout
   pub offsets : Layout
   pub made : r ≡ list_views elements offsets (sizes_of a) (is_flagged a) (valid_in a)
   pub part : Picks (elements_of a) elements (to - from) (λ j. from + j)
   pub lowered : IsLowered (offsets_of a) from offsets
+  pub whole : to - from ≡ len_of (elements_of a) → r ≡ a
 
 -- r is the view a trimmed: the elements from the least offset to the greatest end, and offsets of
--- the same kind
+-- the same kind; where no element goes, it is a
 abbrev pub IsTrimmedView : Layout → Layout → Type 0
 IsTrimmedView a r =
     IsTrimmed (elements_of a) (offsets_of a) (sizes_of a) (is_flagged a) (valid_in a) r
     × (array_type_of (offsets_of r) ≡ array_type_of (offsets_of a))
+    × (len_of (elements_of r) ≡ len_of (elements_of a) → r ≡ a)

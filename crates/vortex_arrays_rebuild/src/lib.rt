@@ -4,6 +4,7 @@
 mod copy;
 pub mod density;
 mod items;
+pub mod laws;
 mod plan;
 mod ranges;
 mod read;

@@ -89,7 +89,8 @@ fn trim_slots(
     Ok(array)
 }
 
-// The offsets lowered by a number, of the same kind. None of them is below it, nor above the bound.
+// The offsets lowered by a number, of the same kind, and shared where it is 0. None of them is below
+// it, nor above the bound.
 #[tactic(auto, using(crate::proofs::TrimLemmas::lowered))]
 fn lower_offsets(
     alloc: Global,
@@ -101,6 +102,7 @@ fn lower_offsets(
     requires within { AreAtMost bound offsets.now }
     requires sound { IsSound offsets.now }
     ensures made { IfOk result (λ r. IsLowered offsets.now by r) }
+    ensures same { IfOk result (λ r. by ≡ 0 → r ≡ offsets.now) }
     ensures refused { IfErr result (λ e. e ≡ Memory) }
 {
     if by == 0 {

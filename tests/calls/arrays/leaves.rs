@@ -37,7 +37,7 @@ fn truths(alloc: Global, checks: &mut Checks<'_>) -> Result<(), DTypeError> {
     let array: BoolData = answered(BoolArray::try_new(alloc, bits, valid))?;
     checks.holds("to_bit_buffer", array.to_bit_buffer()?.value(2));
     checks.holds("slots of bits", array.slots().validity.nullability().is_nullable());
-    let parts = array.clone()?.into_data_parts()?;
+    let parts = array.clone()?.into_data_parts()?.clone()?;
     let is_null = parts.validity.is_null(2, 3);
     checks.holds("into_data_parts of bits", parts.bits.len() == 3 && is_null);
     checks.holds("into_bit_buffer", array.into_bit_buffer()?.value(0));
@@ -59,7 +59,7 @@ fn integers(alloc: Global, checks: &mut Checks<'_>) -> Result<(), DTypeError> {
     let fault = Err(ArrayError::WrongType);
     checks.holds("a validity of integers", PrimitiveArray::validate(&items, &other) == fault);
     checks.holds("slots of integers", array.slots().validity.is_null(1, 2));
-    let parts = array.into_data_parts()?;
+    let parts = array.into_data_parts()?.clone()?;
     checks.holds("into_data_parts of integers", parts.numbers.ptype() == PType::U32);
     let none = PrimitiveArray::empty::<i8>(alloc, WITH)?;
     checks.holds("empty", none.is_empty() && none.nullability().is_nullable());

@@ -19,14 +19,13 @@ pub fn run(alloc: Global, checks: &mut Checks<'_>) -> Result<(), DTypeError> {
 
 fn masks(alloc: Global, checks: &mut Checks<'_>, bits: BitBuffer) -> Result<(), DTypeError> {
     let mask = Mask::from_buffer(bits);
-    checks.holds("false_count", mask.false_count() == 7 && !mask.all_true());
+    checks.holds("true_count", mask.true_count() == 4 && !mask.all_true());
     checks.holds("bit_buffer", mask.bit_buffer().value(6));
-    let other = Mask::from_indices(alloc, 11, &[1, 3, 9])?;
-    let both = mask.bitand(alloc, &other)?;
-    let places = both.indices(alloc)?;
-    checks.holds("bitand", places.as_slice() == [3, 9].as_slice());
+    let other = Mask::from_indices(alloc, 11, &[9, 1, 3])?;
+    let places = other.indices(alloc)?;
+    checks.holds("from_indices", places.as_slice() == [1, 3, 9].as_slice());
     let all = Mask::new_true(alloc, 9)?;
-    checks.holds("all_true", all.all_true() && all.false_count() == 0 && !all.all_false());
+    checks.holds("all_true", all.all_true() && all.true_count() == 9 && !all.all_false());
     Ok(())
 }
 

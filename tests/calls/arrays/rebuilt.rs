@@ -4,6 +4,7 @@ use crate::arrays::{bools, numbers};
 use crate::checks::Checks;
 use crate::integers::holds;
 use std::alloc::Global;
+use vortex_arrays::laws::rebuild_twice;
 use vortex_arrays::{
     ArrayError, ArrayRef, ListViewArray, ListViewRebuild, ListViewRebuildMode, Validity,
 };
@@ -14,7 +15,7 @@ pub fn run(alloc: Global, checks: &mut Checks<'_>) -> Result<(), DTypeError> {
     runs(alloc, checks)?;
     trimmed(alloc, checks)?;
     modes(alloc, checks)?;
-    Ok(())
+    twice(alloc, checks)
 }
 
 /// Lists of 32-bit elements by 64-bit offsets and 8-bit sizes.
@@ -119,5 +120,26 @@ fn modes(alloc: Global, checks: &mut Checks<'_>) -> Result<(), DTypeError> {
     let none = lists(alloc, &[7, 8], &[], &[], Validity::NonNullable)?;
     let kept = made(none.rebuild(alloc, ListViewRebuildMode::OverlapCompression))?;
     check(checks, "OverlapCompression without rows", &kept, &[7, 8], &[], &[]);
+    Ok(())
+}
+
+fn twice(alloc: Global, checks: &mut Checks<'_>) -> Result<(), DTypeError> {
+    let view = lists(alloc, &[9, 1, 2, 3, 9], &[2, 1], &[2, 2], Validity::NonNullable)?;
+    let laid_out = [2, 3, 1, 2];
+    let trimmed = [1, 2, 3];
+    for (mode, elements, offsets) in [
+        (ListViewRebuildMode::MakeZeroCopyToList, laid_out.as_slice(), [0, 2]),
+        (ListViewRebuildMode::TrimElements, trimmed.as_slice(), [1, 0]),
+        (ListViewRebuildMode::MakeExact, laid_out.as_slice(), [0, 2]),
+    ] {
+        match rebuild_twice(alloc, &view, mode) {
+            Ok((once, again)) => {
+                check(checks, "rebuild_twice", &Some(once), elements, &offsets, &[2, 2]);
+                check(checks, "rebuild_twice again", &Some(again), elements, &offsets, &[2, 2]);
+            }
+            Err(ArrayError::Memory) => return Err(DTypeError::Memory),
+            Err(_error) => checks.holds("rebuild_twice", false),
+        }
+    }
     Ok(())
 }
