@@ -1,5 +1,5 @@
 -- What is picked from an array's parts.
-use Rattle.std.proofs.Common.{◌≡◌, ◌↔◌, IsTrue, ◌<◌, ◌≤◌, ◌+◌, ◌-◌, ◌*◌, ℕ, Bool, true, false, cond, List, [], ℤ, pos, negsuc, length, map, get_or, slice_range, Option, Some, None, refl, sym, ap, subst, ◌∙◌, arith}
+use Rattle.std.proofs.Common.{◌≡◌, ◌↔◌, IsTrue, ◌<◌, ◌≤◌, ◌+◌, ◌-◌, ◌*◌, ℕ, Bool, true, false, cond, List, [], ◌∷◌, ℤ, pos, negsuc, length, map, get_or, slice_range, Option, Some, None, refl, sym, ap, subst, ◌∙◌, arith}
 use Rattle.std.specs.List.{All, zip}
 use Rattle.std.specs.Prelude.{◌&&◌}
 use Rattle.std.proofs.lemmas.List.{length-map, get_or-map}
@@ -8,14 +8,15 @@ use Rattle.std.proofs.lemmas.Nat.{mul-le}
 use Rattle.vortex_model.specs.LogicalType.{LogicalType, IntKind, integer_type, Nullability, non_nullable, nullable, is_nullable, IsNullable, nullability_of, either_nullable}
 use Rattle.vortex_model.specs.Content.{Content, null, integer}
 use Rattle.vortex_model.specs.Valid.{InRange, IsContent}
-use Rattle.vortex_arrays_model.specs.Layout.{Strings, Layout, bools, numbers, strings, fixed_lists, Valid, required, all_valid, all_null, by_array, len_of, array_type_of, nullability_by, is_valid, content_at, IsInteger, IsCode, IsSound, HasLength}
-use Rattle.vortex_arrays_model.specs.Parts.{AreWithin}
+use Rattle.vortex_arrays_model.specs.Layout.{Strings, Layout, bools, numbers, strings, fixed_lists, records, Valid, required, all_valid, all_null, by_array, len_of, array_type_of, nullability_by, is_valid, content_at, IsInteger, IsCode, IsSound, HasLength}
+use Rattle.vortex_arrays_model.specs.Parts.{AreWithin, columns_of}
 use Rattle.vortex_arrays_buffer.specs.Places.{IsPlace, ArePlacesWhere, bit_at_number}
 use Rattle.vortex_arrays_model.specs.Picks.{Picks, PicksValid, PicksSomeValid, position_of, is_valid_some}
 use Rattle.vortex_arrays_model.specs.Column.{IsValidInBoth}
 use Rattle.vortex_arrays_model.proofs.ValidRows.{rows_valid}
 use Rattle.vortex_arrays_model.proofs.PicksLemmas.{picks_all, picks_same, picks_bools, picks_numbers, picks_strings, picks_constant, picks_dictionary, picks_fixed_lists_from, picks_list_views_from, picks_records, get_or-part, length-part, All-part}
 use Rattle.vortex_arrays_model.proofs.SomeLemmas.{picks_some_dictionary}
+use Rattle.vortex_arrays_core.specs.Flags.{field_flags, flags_of, flags_in}
 use Rattle.vortex_arrays_core.specs.Picking.{IsUnsigned}
 
 -- an array is the slice of all of its rows
@@ -59,7 +60,16 @@ pub slices_strings : (k : Strings) (xs bs : List (List ℕ)) (v w : Valid) (star
 slices_strings k xs bs v w start end s order within p =
     picks_strings k xs (slice_range xs start end) bs v w (end - start) (λ i. start + i) s (length-part xs (end - start) start (omega arith)) (λ i l. omega arith) (λ i l. get_or-part xs (end - start) start [] i l) p
 
-pub ruleset picked = (slices_bools, slices_numbers, slices_strings, picks_constant, picks_dictionary, picks_lists_between, picks_list_views_from, picks_records)
+-- columns with the flags of others
+pub flags_in_columns : (xs : List (List ℕ)) (fs : List Layout) → flags_in (columns_of xs fs) ≡ map flags_of fs
+flags_in_columns xs [] = refl
+flags_in_columns [] (a ∷ fs) = ap (λ gs. flags_of a ∷ gs) (flags_in_columns [] fs)
+flags_in_columns (x ∷ xs) (a ∷ fs) = ap (λ gs. flags_of a ∷ gs) (flags_in_columns xs fs)
+
+pub records_flagged : (xs : List (List ℕ)) (fs gs : List Layout) (n m : ℕ) (v w : Valid) → map flags_of gs ≡ map flags_of fs → flags_of (records (columns_of xs gs) n w) ≡ flags_of (records (columns_of xs fs) m v)
+records_flagged xs fs gs n m v w e = ap field_flags (flags_in_columns xs gs ∙ e ∙ sym (flags_in_columns xs fs))
+
+pub ruleset picked = (records_flagged, slices_bools, slices_numbers, slices_strings, picks_constant, picks_dictionary, picks_lists_between, picks_list_views_from, picks_records)
 
 pub unsigned_are_integers : (k : LogicalType) → IsUnsigned k → IsInteger k
 unsigned_are_integers (integer_type i n) h = tt

@@ -1,11 +1,36 @@
--- The flag of a list view and that of a dictionary. An array of another layout has none.
-use Rattle.std.specs.Prelude.{◌≡◌, Bool, Option, Some, None}
-use Rattle.vortex_arrays_model.specs.Layout.{Layout, dictionary, list_views}
+-- The flags of list views and those of dictionaries.
+use Rattle.std.specs.Prelude.{◌≡◌, Bool, List, [], ◌∷◌, Option, Some, None, slice_index_or}
+use Rattle.vortex_model.specs.Path.{Names, Positions, positions}
+use Rattle.vortex_arrays_model.specs.Layout.{Layout, dictionary, list_views, records, Columns, no_columns, column, array_type_of}
 
--- whether each list is known to begin where the one before ends
-abbrev pub list_view_flag : Layout → Option Bool
-list_view_flag (list_views e o s f v) = Some f
-list_view_flag a = None
+-- whether each list is known to begin where the one before ends, of a list view, or of each field
+-- of records
+pub data ViewFlags : Type 0 where
+  no_view : ViewFlags
+  view_flag : Bool → ViewFlags
+  field_flags : List ViewFlags → ViewFlags
+
+-- those of the list views that are reached through records alone
+abbrev mutual
+  pub flags_of : Layout → ViewFlags
+  flags_of (list_views e o s f v) = view_flag f
+  flags_of (records cs n v) = field_flags (flags_in cs)
+  flags_of a = no_view
+
+  pub flags_in : Columns → List ViewFlags
+  flags_in no_columns = []
+  flags_in (column x a cs) = flags_of a ∷ flags_in cs
+
+-- those at the positions of a part
+abbrev pub flags_at : ViewFlags → Positions → ViewFlags
+flags_at f [] = f
+flags_at (field_flags fs) (i ∷ is) = flags_at (slice_index_or fs i no_view) is
+flags_at f (i ∷ is) = no_view
+
+-- r has those that stand in a at a path of names
+abbrev pub HasFlagsOfColumn : Layout → Names → Layout → Type 0
+HasFlagsOfColumn a xs r = (is : Positions) → positions (array_type_of a) xs ≡ Some is →
+    flags_of r ≡ flags_at (flags_of a) is
 
 -- whether each value is known to be referenced
 abbrev pub dictionary_flag : Layout → Option Bool

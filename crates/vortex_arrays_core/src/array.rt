@@ -34,6 +34,7 @@ pub struct ArrayData {
 
 /// What stands for the values.
 #[cycle(array)]
+#[derive(Clone)]
 pub enum ArrayLayout {
     /// Truth values.
     Bool(BitBuffer, Validity),

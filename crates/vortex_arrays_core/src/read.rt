@@ -51,11 +51,7 @@ impl ArrayRef {
                     None => None,
                 }
             }
-            ArrayLayout::Bool(_, _) => unreachable!(),
-            ArrayLayout::VarBinView(_, _, _, _) => unreachable!(),
-            ArrayLayout::FixedSizeList(_, _, _, _) => unreachable!(),
-            ArrayLayout::ListView(_, _, _, _, _) => unreachable!(),
-            ArrayLayout::Struct(_, _, _, _) => unreachable!(),
+            _ => unreachable!(),
         }
     }
 
@@ -78,11 +74,7 @@ impl ArrayRef {
                     None => false,
                 }
             }
-            ArrayLayout::Primitive(_, _) => false,
-            ArrayLayout::VarBinView(_, _, _, _) => false,
-            ArrayLayout::FixedSizeList(_, _, _, _) => false,
-            ArrayLayout::ListView(_, _, _, _, _) => false,
-            ArrayLayout::Struct(_, _, _, _) => false,
+            _ => false,
         }
     }
 

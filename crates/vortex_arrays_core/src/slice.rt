@@ -1,10 +1,10 @@
 //! The rows of a range.
-ghost use Rattle.std.specs.Prelude.{◌≡◌, ◌≤◌, ◌+◌, ◌-◌, ◌*◌, IfOk, IfErr, false, length, slice_range};
+ghost use Rattle.std.specs.Prelude.{◌≡◌, ◌≤◌, ◌+◌, ◌-◌, ◌*◌, IfOk, IfErr, false, length, map, slice_range};
 ghost use Rattle.vortex_arrays_model.specs.Layout.{len_of, IsSound, HasLength, HaveLength, bools, numbers, strings};
 ghost use Rattle.vortex_arrays_buffer.specs.PrimitiveBuffers.{kind_of_numbers, integers_of};
 ghost use Rattle.vortex_arrays_model.specs.Parts.{columns_of};
 ghost use Rattle.vortex_arrays_model.specs.Picks.{Picks, PicksValid, PicksColumns};
-ghost use Rattle.vortex_arrays_core.specs.Flags.{list_view_flag};
+ghost use Rattle.vortex_arrays_core.specs.Flags.{flags_of};
 ghost use Rattle.vortex_arrays_core.specs.LayoutOf.{valid_of, strings_of};
 ghost use Rattle.vortex_arrays_core.specs.Picking.{IsSliceFault};
 
@@ -21,7 +21,7 @@ impl ArrayRef {
     /// The rows at the places of the range, as Vortex's `ArrayRef::slice`. Buffers are shared and
     /// not copied. `OutOfRange` where the range does not lie within the rows.
     /// All rows are the array itself. Of a dictionary any fewer rows may leave a value without a
-    /// code, so its flag is lost, and that of a list view is kept.
+    /// code, so its flag is lost. That of a list view is kept, also in the fields of records.
     #[tactic(auto, using(crate::proofs::Picked::picks_whole))]
     pub fn slice(&self, alloc: Global, range: Range<usize>) -> Result<ArrayRef, ArrayError>
         ensures made { IfOk result (λ part. (range.start ≤ range.end)
@@ -29,7 +29,7 @@ impl ArrayRef {
             × Picks self.now part (range.end - range.start) (λ i. range.start + i)) }
         ensures whole { IfOk result
             (λ part. range.end - range.start ≡ len_of self.now → part ≡ self.now) }
-        ensures flag { IfOk result (λ part. list_view_flag part ≡ list_view_flag self.now) }
+        ensures flags { IfOk result (λ part. flags_of part ≡ flags_of self.now) }
         ensures refused { IfErr result
             (λ e. IsSliceFault e (len_of self.now) range.start range.end) }
     {
@@ -51,7 +51,7 @@ impl ArrayRef {
         requires order { start ≤ end }
         requires within { end ≤ len_of self.now }
         ensures rows { IfOk result (λ part. Picks self.now part (end - start) (λ i. start + i)) }
-        ensures flag { IfOk result (λ part. list_view_flag part ≡ list_view_flag self.now) }
+        ensures flags { IfOk result (λ part. flags_of part ≡ flags_of self.now) }
     {
         match &self.data.layout {
             ArrayLayout::Bool(bits, validity) => {
@@ -238,6 +238,8 @@ fn fields_between(
     ensures parts { IfOk result (λ parts. PicksColumns (columns_of names.now fields.now.items)
         (columns_of names.now parts.items) (end - start) (λ i. start + i)) }
     ensures count { IfOk result (λ parts. length parts.items ≡ length fields.now.items) }
+    ensures flags { IfOk result (λ parts. map flags_of parts.items
+        ≡ map flags_of fields.now.items) }
 {
     let mut parts = Vec::with_capacity(alloc, fields.len())?;
     for field in fields {

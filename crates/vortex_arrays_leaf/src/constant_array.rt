@@ -110,14 +110,6 @@ impl ConstantArray {
         };
         scalar
     }
-
-    /// The value, as Vortex's `ConstantData::into_parts`.
-    pub fn into_parts(self) -> Result<Scalar, AllocError>
-        ensures { IfOk result (λ scalar. self ≡ constant (scalar_type scalar) (scalar_raw scalar)
-            (len_of self)) }
-    {
-        self.scalar().clone()
-    }
 }
 
 impl Clone for ConstantArray {

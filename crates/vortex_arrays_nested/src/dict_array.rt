@@ -26,7 +26,7 @@ pub struct DictArray {
 }
 
 /// What a `DictArray` is made of, as Vortex's `DictParts`.
-#[derive(Drop)]
+#[derive(Clone, Drop)]
 pub struct DictParts {
     /// For each row the place of its value.
     pub codes: ArrayRef,

@@ -6,6 +6,7 @@ ghost use Rattle.vortex_dtype_core.specs.View.{type_of};
 ghost use Rattle.vortex_arrays_view.specs.declared.error.ArrayError.TheVariants.{Memory};
 ghost use Rattle.vortex_arrays_model.specs.Layout.{fixed_lists, len_of, array_type_of, HasLength, IsSound};
 ghost use Rattle.vortex_arrays_model.specs.Picks.{Picks};
+ghost use Rattle.vortex_arrays_core.specs.Flags.{flags_of};
 ghost use Rattle.vortex_arrays_core.specs.LayoutOf.{valid_of};
 ghost use Rattle.vortex_arrays_nested.specs.FixedLists.{IsFixedLists, IsFixedListFault};
 ghost use Rattle.vortex_arrays_nested.specs.Parts.{elements_of, size_of_each};
@@ -41,7 +42,7 @@ impl Model for FixedSizeListArray {
 
 /// What a `FixedSizeListArray` is made of, as Vortex's `FixedSizeListDataParts`. Without the number
 /// of lists, elements of lists of no element tell nothing of them.
-#[derive(Drop)]
+#[derive(Clone, Drop)]
 pub struct FixedSizeListDataParts {
     /// The elements of all lists.
     pub elements: ArrayRef,
@@ -238,6 +239,7 @@ impl FixedSizeListArray {
         requires { i < len_of self.now }
         ensures made { IfOk result (λ part. Picks (elements_of self.now) part
             (size_of_each self.now) (λ j. i * size_of_each self.now + j)) }
+        ensures flags { IfOk result (λ part. flags_of part ≡ flags_of (elements_of self.now)) }
         ensures refused { IfErr result (λ e. e ≡ Memory) }
     {
         let slots = self.slots();

@@ -7,6 +7,7 @@ ghost use Rattle.vortex_arrays_view.specs.declared.error.ArrayError.TheVariants.
 ghost use Rattle.vortex_arrays_model.specs.Layout.{list_views, len_of, array_type_of, content_at, number_in, rows_of, AreEndToEnd, IsSound};
 ghost use Rattle.vortex_arrays_model.specs.Picks.{Picks};
 ghost use Rattle.vortex_arrays_model.specs.Trimmed.{AreBounds};
+ghost use Rattle.vortex_arrays_core.specs.Flags.{flags_of};
 ghost use Rattle.vortex_arrays_core.specs.LayoutOf.{valid_of};
 ghost use Rattle.vortex_arrays_nested.specs.ListViews.{IsListViews, AreTyped, AreAsMany, LieWithin, IsListViewFault};
 ghost use Rattle.vortex_arrays_nested.specs.Parts.{elements_of, offsets_of, sizes_of, is_flagged};
@@ -45,7 +46,7 @@ impl Model for ListViewArray {
 }
 
 /// What a `ListViewArray` is made of, as Vortex's `ListViewDataParts`.
-#[derive(Drop)]
+#[derive(Clone, Drop)]
 pub struct ListViewDataParts {
     /// The elements of all lists, and any others.
     pub elements: ArrayRef,
@@ -312,6 +313,7 @@ impl ListViewArray {
         ensures made { IfOk result (λ part. Picks (elements_of self.now) part
             (number_in (content_at (sizes_of self.now) i))
             (λ j. number_in (content_at (offsets_of self.now) i) + j)) }
+        ensures flags { IfOk result (λ part. flags_of part ≡ flags_of (elements_of self.now)) }
         ensures refused { IfErr result (λ e. e ≡ Memory) }
     {
         let slots = self.slots();

@@ -14,7 +14,7 @@ use vortex_arrays_view::error::ArrayError;
 use vortex_scalar_core::scalar::Scalar;
 
 /// What a `ConstantArray` is made of.
-#[derive(Drop)]
+#[derive(Clone, Drop)]
 pub struct ConstantDataParts {
     /// The value of each row.
     pub scalar: Scalar,
@@ -79,7 +79,7 @@ impl ConstantArrayExt for ConstantArray {
 
     fn into_data_parts(self) -> Result<ConstantDataParts, AllocError> {
         let len = self.len();
-        let scalar = self.into_parts()?;
+        let scalar = self.scalar().clone()?;
         Ok(ConstantDataParts { scalar, len })
     }
 }

@@ -19,7 +19,7 @@ use vortex_dtype_core::dtype::DType;
 use vortex_dtype_ptype::nullability::Nullability;
 
 /// What a `VarBinViewArray` is made of, as Vortex's `VarBinViewDataParts`.
-#[derive(Drop)]
+#[derive(Clone, Drop)]
 pub struct VarBinViewDataParts {
     /// A view for each row. That of a null row means nothing.
     pub views: Buffer<BinaryView>,

@@ -4,7 +4,7 @@ use Rattle.std.proofs.lemmas.Bool.{cases_eq}
 use Rattle.std.proofs.lemmas.List.{get_or_push, get_or_append_left, length_push}
 use Rattle.vortex_arrays_model.specs.Layout.{Layout, records, Valid, required, all_valid, all_null, by_array, Columns, len_of, HasLength, HaveLength}
 use Rattle.vortex_arrays_model.specs.Column.{IsMasked}
-use Rattle.vortex_arrays_core.specs.Flags.{list_view_flag}
+use Rattle.vortex_arrays_core.specs.Flags.{flags_of}
 use Rattle.vortex_arrays_model.specs.Parts.{columns_of}
 use Rattle.vortex_arrays_model.proofs.PicksLemmas.{each_length, field_length, have_length}
 use Rattle.vortex_arrays_struct.specs.Records.{columns_in, validity_in, names_in, arrays_in}
@@ -20,7 +20,7 @@ pub record AreFirstMasked (v : Valid) (fs gs : List Layout) (n : ℕ) : Type 0 w
 pub none_masked : (v : Valid) (fs gs : List Layout) → length gs ≡ 0 → AreFirstMasked v fs gs 0
 none_masked v fs gs e = record { many = e; each = λ k d l. absurd (omega (arith, l)) }
 
-pub one_masked : (v : Valid) (fs gs : List Layout) (n : ℕ) (a b : Layout) → AreFirstMasked v fs gs n → n < length fs → a ≡ get_or fs n a → IsMasked v a b → list_view_flag b ≡ list_view_flag a → AreFirstMasked v fs (gs ++ b ∷ []) (n + 1)
+pub one_masked : (v : Valid) (fs gs : List Layout) (n : ℕ) (a b : Layout) → AreFirstMasked v fs gs n → n < length fs → a ≡ get_or fs n a → IsMasked v a b → flags_of b ≡ flags_of a → AreFirstMasked v fs (gs ++ b ∷ []) (n + 1)
 one_masked v fs gs n a b h l e m flag = record {
   many = length_push gs b ∙ ap (λ k. k + 1) h.many;
   each = λ k d w. elim (cases_eq k n) [

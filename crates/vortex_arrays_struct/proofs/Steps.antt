@@ -8,6 +8,7 @@ use Rattle.vortex_arrays_model.specs.Column.{IsColumn}
 use Rattle.vortex_arrays_model.proofs.ColumnLemmas.{column_root, type_at_within}
 use Rattle.vortex_arrays_view.specs.declared.error.ArrayError.{ArrayError}
 use Rattle.vortex_arrays_view.specs.declared.error.ArrayError.TheVariants.{Memory, NoSuchField}
+use Rattle.vortex_arrays_core.specs.Flags.{ViewFlags, no_view, view_flag, field_flags, flags_of, flags_at, HasFlagsOfColumn}
 use Rattle.vortex_arrays_struct.specs.ColumnFaults.{IsColumnFault}
 
 -- Outer nullability is none of a path's business.
@@ -117,6 +118,31 @@ column_then a b r x xs h g = record {
       ∙ map_twice (rows_of a) (column_value (array_type_of a) (x ∷ [])) (column_value (array_type_of b) xs) (column_value (array_type_of a) (x ∷ xs)) (λ c. read_then (array_type_of a) x xs (array_type_of b) c h.kind);
 }
 
+-- flags at one step, and at the rest of the path from there
+flags_on : (f : ViewFlags) (i : ℕ) (js : Positions) → flags_at (flags_at f (i ∷ [])) js ≡ flags_at f (i ∷ js)
+flags_on (field_flags fs) i js = refl
+flags_on no_view i [] = refl
+flags_on no_view i (j ∷ js) = refl
+flags_on (view_flag f) i [] = refl
+flags_on (view_flag f) i (j ∷ js) = refl
+
+flags_by : (i : ℕ) (is : Positions) (o : Option Positions) (fa fb fr : ViewFlags) → option_map (λ js. i ∷ js) o ≡ Some is → fb ≡ flags_at fa (i ∷ []) → ((js : Positions) → o ≡ Some js → fr ≡ flags_at fb js) → fr ≡ flags_at fa is
+flags_by i is None fa fb fr e f g = absurd (cc (e))
+flags_by i is (Some js) fa fb fr e f g =
+    let same : i ∷ js ≡ is = cc (e) in
+    g js refl ∙ ap (λ t. flags_at t js) f ∙ flags_on fa i js ∙ ap (flags_at fa) same
+
+flags_then : (a b r : Layout) (x : List ℕ) (xs : Names) → IsColumn a (x ∷ []) b → HasFlagsOfColumn a (x ∷ []) b → HasFlagsOfColumn b xs r → HasFlagsOfColumn a (x ∷ xs) r
+flags_then a b r x xs h f g = λ is q.
+    let k = array_type_of a in
+    let s = step_there k x (array_type_of b) (position_in k x) refl h.kind in
+    let here : positions k (x ∷ []) ≡ Some (s.0 ∷ []) = positions_step k x s.0 s.1 [] s.2 in
+    let rest : positions k (x ∷ xs) ≡ option_map (λ js. s.0 ∷ js) (positions (array_type_of b) xs) = positions_step k x s.0 s.1 xs s.2 ∙ ap (option_map (λ js. s.0 ∷ js)) (sym (positions_within (nullability_of k) s.1 xs) ∙ ap (λ t. positions t xs) (eq_part k x s.0 s.1 (array_type_of b) s.2 h.kind)) in
+    flags_by s.0 is (positions (array_type_of b) xs) (flags_of a) (flags_of b) (flags_of r) (sym rest ∙ q) (f (s.0 ∷ []) here) g
+
+flags_here : (a : Layout) → HasFlagsOfColumn a [] a
+flags_here a = λ is q. let same : [] ≡ is = cc (q) in ap (flags_at (flags_of a)) same
+
 fault_then : (e : ArrayError) (a b : Layout) (x : List ℕ) (xs : Names) → IsColumn a (x ∷ []) b → IsColumnFault e b xs → IsColumnFault e a (x ∷ xs)
 fault_then Memory a b x xs h f = tt
 fault_then NoSuchField a b x xs h f = type_then (array_type_of a) x xs (array_type_of b) h.kind ∙ f
@@ -131,20 +157,25 @@ fault_first e a x xs f = absurd f
 pub record IsOnTheWay (a : Layout) (path : Names) (b : Layout) (rest : Names) : Type 0 where
   pub sound : IsSound b
   pub columns : (r : Layout) → IsColumn b rest r → IsColumn a path r
+  pub flags : (r : Layout) → HasFlagsOfColumn b rest r → HasFlagsOfColumn a path r
   pub faults : (e : ArrayError) → IsColumnFault e b rest → IsColumnFault e a path
 
 pub way_begins : (a : Layout) (path : Names) → IsSound a → IsOnTheWay a path a path
-way_begins a path s = record { sound = s; columns = λ r h. h; faults = λ e f. f }
+way_begins a path s = record { sound = s; columns = λ r h. h; flags = λ r h. h; faults = λ e f. f }
 
-pub way_goes_on : (a b c : Layout) (path : Names) (x : List ℕ) (rest : Names) → IsOnTheWay a path b (x ∷ rest) → IsColumn b (x ∷ []) c → IsOnTheWay a path c rest
-way_goes_on a b c path x rest w h = record {
+pub way_goes_on : (a b c : Layout) (path : Names) (x : List ℕ) (rest : Names) → IsOnTheWay a path b (x ∷ rest) → IsColumn b (x ∷ []) c → HasFlagsOfColumn b (x ∷ []) c → IsOnTheWay a path c rest
+way_goes_on a b c path x rest w h f = record {
   sound = h.sound;
   columns = λ r g. w.columns r (column_then b c r x rest h g);
-  faults = λ e f. w.faults e (fault_then e b c x rest h f);
+  flags = λ r g. w.flags r (flags_then b c r x rest h f g);
+  faults = λ e g. w.faults e (fault_then e b c x rest h g);
 }
 
 pub way_ends : (a b : Layout) (path : Names) → IsOnTheWay a path b [] → IsColumn a path b
 way_ends a b path w = w.columns b (column_root b w.sound)
+
+pub way_keeps : (a b : Layout) (path : Names) → IsOnTheWay a path b [] → HasFlagsOfColumn a path b
+way_keeps a b path w = w.flags b (flags_here b)
 
 pub way_stops : (e : ArrayError) (a b : Layout) (path : Names) (x : List ℕ) (rest : Names) → IsOnTheWay a path b (x ∷ rest) → IsColumnFault e b (x ∷ []) → IsColumnFault e a path
 way_stops e a b path x rest w f = w.faults e (fault_first e b x rest f)

@@ -7,7 +7,7 @@ use Rattle.vortex_arrays_view.specs.declared.error.ArrayError.TheVariants.{Memor
 use Rattle.vortex_arrays_model.specs.Layout.{Layout, records, Valid, required, all_valid, Columns, no_columns, column, len_of, fields_of}
 use Rattle.vortex_arrays_model.specs.Column.{array_at, IsMasked}
 use Rattle.vortex_arrays_model.specs.Parts.{columns_of}
-use Rattle.vortex_arrays_core.specs.Flags.{list_view_flag}
+use Rattle.vortex_arrays_core.specs.Flags.{flags_of}
 use Rattle.vortex_arrays_struct.specs.Records.{columns_in, validity_in}
 
 -- the array of the first column of a name
@@ -51,10 +51,9 @@ IsRemoved a x o = MatchOption o
     (λ p. (p.0 ≡ records (without_named (columns_in a) x) (len_of a) (validity_in a)) ×
     (array_named (columns_in a) x ≡ Some p.1))
 
--- r is b, but null where v has it so, and keeps whether the lists of b are known to follow one
--- another
+-- r is b, but null where v has it so, and keeps which lists of b are known to follow one another
 abbrev pub IsPushedInto : Valid → Layout → Layout → Type 0
-IsPushedInto v b r = IsMasked v b r × (list_view_flag r ≡ list_view_flag b)
+IsPushedInto v b r = IsMasked v b r × (flags_of r ≡ flags_of b)
 
 -- the same columns, each null also where v has it so
 abbrev pub AreMasked : Valid → Columns → Columns → Type 0

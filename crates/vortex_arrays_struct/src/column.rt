@@ -1,7 +1,7 @@
 //! Columns of records, by paths of names.
 ghost use Rattle.std.specs.Prelude.{◌∷◌, [], IfOk, IfErr};
 ghost use Rattle.vortex_arrays_model.specs.Column.{IsColumn};
-ghost use Rattle.vortex_arrays_core.specs.Flags.{KeepsDictionaryFlag};
+ghost use Rattle.vortex_arrays_core.specs.Flags.{HasFlagsOfColumn, KeepsDictionaryFlag};
 ghost use Rattle.vortex_arrays_struct.specs.ColumnFaults.{IsColumnFault};
 
 use crate::part::field_of;
@@ -12,7 +12,8 @@ use vortex_dtype_ptype::field_names::FieldName;
 
 /// The column of a path of names, null where a record on the way is null. Of names that repeat in a
 /// record the first is meant. Without a name it is the array itself, shared. The column of a
-/// dictionary is a dictionary with the same flag. `NoSuchField` where a step names no field.
+/// dictionary is a dictionary with the same flag, and list views keep theirs, those in fields of
+/// the column too. `NoSuchField` where a step names no field.
 #[tactic(auto, using(crate::proofs::Steps::walked))]
 pub fn column_at(
     alloc: Global,
@@ -21,6 +22,7 @@ pub fn column_at(
 ) -> Result<ArrayRef, ArrayError>
     ensures made { IfOk result (λ column. IsColumn array.now path.now column) }
     ensures flag { IfOk result (λ column. KeepsDictionaryFlag array.now column) }
+    ensures flags { IfOk result (λ column. HasFlagsOfColumn array.now path.now column) }
     ensures refused { IfErr result (λ e. IsColumnFault e array.now path.now) }
 {
     let _rows = array.len();
@@ -36,6 +38,7 @@ pub fn column_at(
 fn column_named(alloc: Global, array: &ArrayRef, name: &FieldName) -> Result<ArrayRef, ArrayError>
     ensures made { IfOk result (λ column. IsColumn array.now (name.now ∷ []) column) }
     ensures flag { IfOk result (λ column. KeepsDictionaryFlag array.now column) }
+    ensures flags { IfOk result (λ column. HasFlagsOfColumn array.now (name.now ∷ []) column) }
     ensures refused { IfErr result (λ e. IsColumnFault e array.now (name.now ∷ [])) }
 {
     let Some(fields) = array.dtype().as_struct_fields_opt() else {

@@ -22,7 +22,7 @@ use vortex_dtype_ptype::field_names::FieldNames;
 use vortex_dtype_ptype::nullability::Nullability;
 
 /// What a `StructArray` is made of, as Vortex's `StructDataParts`.
-#[derive(Drop)]
+#[derive(Clone, Drop)]
 pub struct StructDataParts {
     /// The names of the fields.
     pub names: Rc<FieldNames>,
@@ -30,23 +30,6 @@ pub struct StructDataParts {
     pub fields: Vec<ArrayRef>,
     /// Which records are null.
     pub validity: Validity,
-}
-
-impl Clone for StructDataParts {
-    ghost is_clone = { λ old new. (new.names.value ≡ old.names.value)
-        × (new.fields.items ≡ old.fields.items)
-        × (valid_of new.validity ≡ valid_of old.validity) };
-
-    fn clone(&self) -> Result<StructDataParts, AllocError> {
-        let names = self.names.clone()?;
-        let fields = shared_fields(*self.fields.allocator(), &self.fields)?;
-        let validity = self.validity.clone()?;
-        Ok(StructDataParts {
-            names,
-            fields,
-            validity,
-        })
-    }
 }
 
 impl StructArray {

@@ -1,5 +1,5 @@
 //! The nulls of records pushed into their columns.
-ghost use Rattle.std.specs.Prelude.{◌≡◌, length, IfOk, Some, None};
+ghost use Rattle.std.specs.Prelude.{◌≡◌, length, IfOk};
 ghost use Rattle.vortex_arrays_model.specs.Layout.{
   IsSound,
   HasLength,
@@ -16,7 +16,7 @@ ghost use Rattle.vortex_arrays_model.specs.Column.{IsMasked};
 ghost use Rattle.vortex_arrays_model.specs.Parts.{columns_of};
 ghost use Rattle.vortex_arrays_buffer.specs.PrimitiveBuffers.{kind_of_numbers, integers_of};
 ghost use Rattle.vortex_scalar_core.specs.Scalar.{scalar_type, scalar_raw};
-ghost use Rattle.vortex_arrays_core.specs.Flags.{list_view_flag};
+ghost use Rattle.vortex_arrays_core.specs.Flags.{no_view, view_flag, field_flags, flags_of, flags_in};
 ghost use Rattle.vortex_arrays_core.specs.LayoutOf.{valid_of, strings_of};
 ghost use Rattle.vortex_arrays_struct.specs.ZeroCodes.{zero_codes as codes_of_zero};
 
@@ -32,12 +32,13 @@ use vortex_dtype_ptype::field_names::FieldNames;
 use vortex_scalar_core::scalar::Scalar;
 
 /// The array with the nulls of the validity beside its own. Values are shared and not copied; where
-/// the validity has no null, the array itself is shared. A list view keeps its flag.
+/// the validity has no null, the array itself is shared. List views keep their flags, those in the
+/// fields of records too.
 #[tactic(auto, using(vortex_arrays_model::proofs::PushLemmas::pushed))]
 pub fn mask(alloc: Global, validity: &Validity, array: &ArrayRef) -> Result<ArrayRef, AllocError>
     requires { HasLength (valid_of validity.now) (len_of array.now) }
     ensures masked { IfOk result (λ pushed. IsMasked (valid_of validity.now) array.now pushed) }
-    ensures flag { IfOk result (λ pushed. list_view_flag pushed ≡ list_view_flag array.now) }
+    ensures flags { IfOk result (λ pushed. flags_of pushed ≡ flags_of array.now) }
 {
     let _rows = array.len();
     match validity {
@@ -61,7 +62,7 @@ fn push_into_layout(
 ) -> Result<ArrayRef, AllocError>
     requires { HasLength (valid_of validity.now) (len_of array.now) }
     ensures masked { IfOk result (λ pushed. IsMasked (valid_of validity.now) array.now pushed) }
-    ensures flag { IfOk result (λ pushed. list_view_flag pushed ≡ list_view_flag array.now) }
+    ensures flags { IfOk result (λ pushed. flags_of pushed ≡ flags_of array.now) }
 {
     match array.layout() {
         ArrayLayout::Bool(bits, own) => push_into_bools(alloc, validity, bits, own),
@@ -98,7 +99,7 @@ fn push_into_bools(
     requires fits { HasLength (valid_of validity.now) (length bits.now) }
     ensures masked { IfOk result
         (λ pushed. IsMasked (valid_of validity.now) (bools bits.now (valid_of own.now)) pushed) }
-    ensures flag { IfOk result (λ pushed. list_view_flag pushed ≡ None) }
+    ensures flags { IfOk result (λ pushed. flags_of pushed ≡ no_view) }
 {
     let both = validity.and(alloc, own, bits.len())?;
     let pushed = ArrayRef::of_bools(alloc, bits.clone()?, both)?;
@@ -118,7 +119,7 @@ fn push_into_numbers(
     ensures masked { IfOk result
         (λ pushed. IsMasked (valid_of validity.now)
         (numbers (kind_of_numbers items.now) (integers_of items.now) (valid_of own.now)) pushed) }
-    ensures flag { IfOk result (λ pushed. list_view_flag pushed ≡ None) }
+    ensures flags { IfOk result (λ pushed. flags_of pushed ≡ no_view) }
 {
     let both = validity.and(alloc, own, items.len())?;
     let pushed = ArrayRef::of_numbers(alloc, items.clone()?, both)?;
@@ -140,7 +141,7 @@ fn push_into_strings(
     ensures masked { IfOk result
         (λ pushed. IsMasked (valid_of validity.now)
         (strings (strings_of kind) views.now buffers.now.value.items (valid_of own.now)) pushed) }
-    ensures flag { IfOk result (λ pushed. list_view_flag pushed ≡ None) }
+    ensures flags { IfOk result (λ pushed. flags_of pushed ≡ no_view) }
 {
     let both = validity.and(alloc, own, views.len())?;
     let pushed = ArrayRef::of_strings(alloc, kind, views.clone()?, buffers.clone()?, both)?;
@@ -160,7 +161,7 @@ fn push_into_constant(
     ensures masked { IfOk result
         (λ pushed. IsMasked (valid_of validity.now)
         (constant (scalar_type scalar.now) (scalar_raw scalar.now) len) pushed) }
-    ensures flag { IfOk result (λ pushed. list_view_flag pushed ≡ None) }
+    ensures flags { IfOk result (λ pushed. flags_of pushed ≡ no_view) }
 {
     let codes = zero_codes(alloc, validity, len)?;
     let value = ArrayRef::of_constant(alloc, scalar.clone()?, 1)?;
@@ -193,7 +194,7 @@ fn push_into_fixed_lists(
     ensures masked { IfOk result
         (λ pushed. IsMasked (valid_of validity.now)
         (fixed_lists elements.now size len (valid_of own.now)) pushed) }
-    ensures flag { IfOk result (λ pushed. list_view_flag pushed ≡ None) }
+    ensures flags { IfOk result (λ pushed. flags_of pushed ≡ no_view) }
 {
     let both = validity.and(alloc, own, len)?;
     let pushed = ArrayRef::of_fixed_lists(alloc, elements.clone()?, size, len, both)?;
@@ -217,7 +218,7 @@ fn push_into_list_views(
         (λ pushed. IsMasked (valid_of validity.now)
         (list_views elements.now offsets.now sizes.now is_zero_copy_to_list (valid_of own.now))
         pushed) }
-    ensures flag { IfOk result (λ pushed. list_view_flag pushed ≡ Some is_zero_copy_to_list) }
+    ensures flags { IfOk result (λ pushed. flags_of pushed ≡ view_flag is_zero_copy_to_list) }
 {
     let both = validity.and(alloc, own, offsets.len())?;
     let elements = elements.clone()?;
@@ -250,7 +251,8 @@ fn push_into_records(
     ensures masked { IfOk result
         (λ pushed. IsMasked (valid_of validity.now)
         (records (columns_of names.now.value fields.now) len (valid_of own.now)) pushed) }
-    ensures flag { IfOk result (λ pushed. list_view_flag pushed ≡ None) }
+    ensures flags { IfOk result (λ pushed. flags_of pushed
+        ≡ field_flags (flags_in (columns_of names.now.value fields.now))) }
 {
     let both = validity.and(alloc, own, len)?;
     let fields = shared_fields(alloc, fields)?;

@@ -4,7 +4,7 @@ ghost use Rattle.vortex_model.specs.Path.{type_at};
 ghost use Rattle.vortex_arrays_model.specs.Layout.{array_type_of, constant, records, IsSound};
 ghost use Rattle.vortex_arrays_model.specs.Column.{IsPart};
 ghost use Rattle.vortex_arrays_model.specs.Parts.{columns_of};
-ghost use Rattle.vortex_arrays_core.specs.Flags.{KeepsDictionaryFlag};
+ghost use Rattle.vortex_arrays_core.specs.Flags.{flags_of, flags_at, KeepsDictionaryFlag};
 ghost use Rattle.vortex_arrays_core.specs.LayoutOf.{valid_of};
 ghost use Rattle.vortex_scalar_core.specs.Scalar.{scalar_type, scalar_raw};
 ghost use Rattle.vortex_scalar_value.specs.Parts.{raw_part};
@@ -40,7 +40,8 @@ pub fn part_at_positions(
     Ok(Some(part))
 }
 
-/// The part one step down. That of a dictionary is a dictionary with the same flag.
+/// The part one step down. That of a dictionary is a dictionary with the same flag, and list views
+/// keep theirs.
 pub(crate) fn field_of(
     alloc: Global,
     array: &ArrayRef,
@@ -51,6 +52,8 @@ pub(crate) fn field_of(
         (λ field. IsPart array.now (position ∷ []) field)) }
     ensures flag { IfOk result (λ found.
         IfSome found (λ field. KeepsDictionaryFlag array.now field)) }
+    ensures flags { IfOk result (λ found. IfSome found (λ field. flags_of field
+        ≡ flags_at (flags_of array.now) (position ∷ []))) }
 {
     match array.layout() {
         ArrayLayout::Struct(names, fields, len, validity) => {
@@ -91,12 +94,15 @@ fn field_of_records(
     requires named { length names.now ≡ length fields.now }
     requires sound { IsSound
         (records (columns_of names.now fields.now) len (valid_of validity.now)) }
-    ensures { IfOk result (λ found. MatchOption found
+    ensures made { IfOk result (λ found. MatchOption found
         (type_at (array_type_of
         (records (columns_of names.now fields.now) len (valid_of validity.now)))
         (position ∷ []) ≡ None)
         (λ field. IsPart (records (columns_of names.now fields.now) len (valid_of validity.now))
         (position ∷ []) field)) }
+    ensures flags { IfOk result (λ found. IfSome found (λ field. flags_of field
+        ≡ flags_at (flags_of (records (columns_of names.now fields.now) len
+        (valid_of validity.now))) (position ∷ []))) }
 {
     match fields.get(position) {
         Some(field) => {

@@ -100,7 +100,7 @@ fn texts(alloc: Global, checks: &mut Checks<'_>) -> Result<(), DTypeError> {
     checks.holds("dtype_parts of bytes", array.dtype_parts() == (false, WITHOUT));
     checks.holds("varbinview_validity", !array.varbinview_validity()?.is_null(1, 2));
     checks.holds("slots of bytes", array.slots().validity.nullability() == WITHOUT);
-    let parts = array.into_data_parts()?;
+    let parts = array.into_data_parts()?.clone()?;
     let again = VarBinViewArray::new(
         alloc,
         parts.views,
@@ -149,7 +149,7 @@ fn constants(alloc: Global, checks: &mut Checks<'_>) -> Result<(), DTypeError> {
     checks.holds("validity of a constant", !array.validity(alloc)?.is_null(3, 4));
     let _slots = array.slots();
     checks.holds("scalar", *array.scalar() == Scalar::primitive(7u8, WITH));
-    let parts = array.into_data_parts()?;
+    let parts = array.into_data_parts()?.clone()?;
     checks.holds("into_data_parts of a constant", parts.len == 4 && !parts.scalar.is_null());
     let null = Scalar::null(DType::Bool(WITH));
     let array = ConstantArray::new_unchecked(alloc, null, 2)?;

@@ -36,7 +36,7 @@ fn fixed(alloc: Global, checks: &mut Checks<'_>) -> Result<(), DTypeError> {
     checks.holds("dtype_parts", is_number && size == 2 && nullability.is_nullable());
     let slots = array.slots();
     checks.holds("slots", slots.elements.len() == 6 && slots.list_size == 2);
-    let parts = array.into_data_parts()?;
+    let parts = array.into_data_parts()?.clone()?;
     checks.holds("into_data_parts", parts.len == 3 && parts.elements.len() == 6);
     Ok(())
 }
@@ -60,7 +60,7 @@ fn views(alloc: Global, checks: &mut Checks<'_>) -> Result<(), DTypeError> {
         "slots of list views",
         slots.offsets.len() == 3 && slots.is_zero_copy_to_list && slots.validity.is_null(1, 3),
     );
-    let parts = array.into_data_parts()?;
+    let parts = array.into_data_parts()?.clone()?;
     checks.holds(
         "into_data_parts of list views",
         parts.elements.len() == 6 && parts.sizes.integer(1) == Some(3),

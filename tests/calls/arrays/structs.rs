@@ -6,7 +6,8 @@ use std::alloc::Global;
 use std::rc::Rc;
 use vortex_arrays::laws::{slice_of_all, slice_of_slice};
 use vortex_arrays::{
-    ArrayError, ArrayRef, StructArray, StructArrayExt, StructArraySlotsExt, Validity,
+    ArrayError, ArrayRef, ListViewArray, StructArray, StructArrayExt, StructArraySlotsExt, Validity,
+    column_at,
 };
 use vortex_dtype::{
     DType, DTypeError, FieldName, FieldNames, Nullability, PType, StructField, StructFields,
@@ -15,7 +16,8 @@ use vortex_dtype::{
 pub fn run(alloc: Global, checks: &mut Checks<'_>) -> Result<(), DTypeError> {
     parts(alloc, checks)?;
     typed(alloc, checks)?;
-    slices(alloc, checks)
+    slices(alloc, checks)?;
+    flags(alloc, checks)
 }
 
 fn names(alloc: Global) -> Result<Rc<FieldNames>, DTypeError> {
@@ -49,7 +51,7 @@ fn parts(alloc: Global, checks: &mut Checks<'_>) -> Result<(), DTypeError> {
     checks.holds("dtype_parts of records", fields.nfields() == 2 && nullability.is_nullable());
     let slots = array.slots()?;
     checks.holds("slots of records", slots.fields.len() == 2 && slots.validity.is_null(2, 3));
-    let parts = array.into_data_parts(alloc)?;
+    let parts = array.into_data_parts(alloc)?.clone()?;
     checks.holds("into_data_parts of records", parts.names.len() == 2);
     let none = StructArray::new_fieldless_with_len(alloc, 5)?;
     checks.holds("new_fieldless_with_len", none.len() == 5 && none.names().is_empty());
@@ -100,5 +102,42 @@ fn slices(alloc: Global, checks: &mut Checks<'_>) -> Result<(), DTypeError> {
     checks.holds("slice_of_slice", holds(&inner, &wanted) && holds(&direct, &wanted));
     let all = answered(slice_of_all(&array, alloc))?;
     checks.holds("slice_of_all", all.len() == 5);
+    Ok(())
+}
+
+/// Whether the array's lists are known to follow one another.
+fn follow(array: ArrayRef) -> bool {
+    match ListViewArray::of_array(array) {
+        Ok(lists) => lists.is_zero_copy_to_list(),
+        Err(_other) => false,
+    }
+}
+
+/// Three lists of three integers, known to follow one another.
+fn flagged_lists(alloc: Global) -> Result<ArrayRef, DTypeError> {
+    let none = Validity::NonNullable;
+    let items = numbers(alloc, &[1u8, 2, 3], Validity::NonNullable)?.into_array();
+    let offsets = numbers(alloc, &[0u8, 1, 1], Validity::NonNullable)?.into_array();
+    let sizes = numbers(alloc, &[1u8, 0, 2], Validity::NonNullable)?.into_array();
+    let lists = answered(ListViewArray::try_new(alloc, items, offsets, sizes, none))?;
+    Ok(lists.with_zero_copy_to_list(alloc, true)?.into_array())
+}
+
+fn flags(alloc: Global, checks: &mut Checks<'_>) -> Result<(), DTypeError> {
+    let mut fields = Vec::new(alloc);
+    fields.push(flagged_lists(alloc)?)?;
+    fields.push(flagged_lists(alloc)?)?;
+    let valid = valid_where(alloc, &[true, false, true])?;
+    let array = answered(StructArray::try_new(alloc, names(alloc)?, fields, 3, valid))?;
+    let path = [FieldName::new(alloc, "b")?];
+    let part = answered(array.as_array().slice(alloc, 1..3))?;
+    let column = answered(column_at(alloc, &part, &path))?;
+    checks.holds("a slice and a column keep a flag", follow(column));
+    let offsets = numbers(alloc, &[1u8], Validity::NonNullable)?.into_array();
+    let sizes = numbers(alloc, &[2u8], Validity::NonNullable)?.into_array();
+    let lists = flagged_lists(alloc)?;
+    let outer = ListViewArray::try_new(alloc, lists, offsets, sizes, Validity::AllValid);
+    let inner = answered(answered(outer)?.list_elements_at(alloc, 0))?;
+    checks.holds("elements keep a flag", follow(inner));
     Ok(())
 }

@@ -1,7 +1,8 @@
-use Rattle.std.proofs.Common.{◌≡◌, ◌<◌, ℕ, length, get_or, ◌+◌, ◌-◌, ◌*◌}
+use Rattle.std.proofs.Common.{◌≡◌, ◌<◌, ℕ, length, get_or, map, take, ◌+◌, ◌-◌, ◌*◌}
 use Rattle.vortex_arrays_model.specs.Layout.{Layout, size_of, valid_size, columns_size}
 use Rattle.vortex_arrays_model.specs.Parts.{columns_of}
 use Rattle.vortex_arrays_model.specs.Picks.{Picks}
+use Rattle.vortex_arrays_core.specs.Flags.{flags_of}
 use Rattle.vortex_arrays_core.specs.LayoutOf.{valid_of}
 use Rattle.vortex_arrays_core.proofs.+slice.Given as goal
 
@@ -18,4 +19,5 @@ abbrev pub invariant-slice::fields_between-loop-field : goal.invariant-slice::fi
 invariant-slice::fields_between-loop-field l = record {
   many : length l.parts.items ≡ l.field-index;
   each : (k : ℕ) (d : Layout) → k < l.field-index → Picks (get_or l.fields.items k d) (get_or l.parts.items k d) (l.end - l.start) (λ i. l.start + i);
+  flags : map flags_of l.parts.items ≡ map flags_of (take l.field-index l.fields.items);
 }
