@@ -1,5 +1,5 @@
 -- Answers to the commands that sessions take.
-use Rattle.std.proofs.Common.{◌≡◌, ℕ, List, [], ◌∷◌, map, inl, inr, Option, Some, None, refl, ap, sym, subst, ◌∙◌}
+use Rattle.std.proofs.Common.{◌≡◌, ℕ, List, map, Option, Some, None, refl, ap, sym, subst, ◌∙◌}
 use Rattle.vortex_model.specs.LogicalType.{LogicalType}
 use Rattle.vortex_model.specs.Path.{Step}
 use Rattle.vortex_model_table.specs.Expression.{Expression}
@@ -9,10 +9,7 @@ use Rattle.vortex_model_table.specs.Scan.{ScanAnswer, scanned}
 use Rattle.vortex_model_table.specs.Command.{Command, create, scan, describe, names_of, positions_of, refusal, refusal_in, create_fault}
 use Rattle.vortex_model_table.specs.Reply.{refused, found, described, Describes, RespondsTo}
 use Rattle.vortex_model_table.specs.ZoneMap.{ZoneMap}
-use Rattle.vortex_table_chunk.specs.Chunk.{chunk_rows}
-use Rattle.vortex_table_chunk.specs.declared.chunk.Chunk.{Chunk}
-use Rattle.vortex_table_core.specs.Arrays.{AnyHasTooManyItems}
-use Rattle.vortex_table_core.specs.Totals.{PassesTotal, AnyMayHaveTooManyItems}
+use Rattle.vortex_table_core.specs.Totals.{PassesTotal}
 use Rattle.vortex_table_schema.specs.Error.{Explains}
 use Rattle.vortex_table_schema.specs.declared.error.TableError.{TableError}
 use Rattle.vortex_table_schema.specs.declared.error.TableError.TheVariants as error
@@ -43,12 +40,6 @@ pub refused_for : (P : Type 0) (old new : Option Table) (t : Table) (c : Command
 refused_for P old new t c e there same passes x behind =
     explained P old new c (refusal t c) e (same ∙ sym there)
     (ap (λ (o : Option Table). refusal_in o c) there) (λ h. subst (λ (o : Option Table). PassesTotal o c) (sym there) (passes h)) behind x
-
--- lists with too many items
-pub too_many : (chunks : List Chunk) → AnyHasTooManyItems (map (λ c. c.array) chunks) → AnyMayHaveTooManyItems (map chunk_rows chunks)
-too_many [] h = absurd h
-too_many (c ∷ chunks) (inl h) = inl (record { array = c.array; are_rows = refl; too_many = h })
-too_many (c ∷ chunks) (inr h) = inr (too_many chunks h)
 
 -- a command to a table that passes no total
 pub refused_there : (old new : Option Table) (t : Table) (c : Command) (e : TableError) → old ≡ Some t → new ≡ Some t → Explains ⊥ (refusal t c) e
