@@ -1,6 +1,6 @@
 //! Laws of tables over their calls. Each function makes the calls that its law speaks of, and
 //! answers what each of them gave.
-ghost use Rattle.std.specs.Prelude.{◌≡◌, [], None, Some, length, map, filter, true, false, IfOk, OnOk, OnErr};
+ghost use Rattle.std.specs.Prelude.{◌≡◌, ◌++◌, [], None, Some, length, map, filter, true, false, IfOk, OnOk, OnErr};
 ghost use Rattle.std.specs.List.{range_with_len};
 ghost use Rattle.vortex_model.specs.Content.{content_of};
 ghost use Rattle.vortex_model_table.specs.Command.{names_of, refusal, retype, append};
@@ -16,6 +16,7 @@ ghost use Rattle.vortex_table_core.specs.Append.{Appends};
 ghost use Rattle.vortex_table_core.specs.Arrays.{arrays_of, AreAllCompacted};
 ghost use Rattle.vortex_table_core.specs.TableView.{table_of};
 ghost use Rattle.vortex_table_laws.specs.Calls.{IsScanned, IsRetyped};
+ghost use Rattle.vortex_table_laws.specs.Compactions.{LeaveAlike};
 ghost use Rattle.vortex_table_laws.specs.Laws.{
   OnBoth,
   HaveSameRows,
@@ -188,6 +189,24 @@ pub fn scan_around_compact(
     let compacted = table.compact();
     let after = table.scan(alloc, paths, predicate);
     (before, compacted, after)
+}
+
+/// Compactions of two tables. Of two list views that records alone lead to, in chunks of one table
+/// or of both, which are not known to stand end to end and have equal rows of their own, those under
+/// null records too, they leave list views with equal offsets, sizes and rows of elements. Chunks
+/// with lists under null records that are too long together are aside.
+pub fn compact_two_tables(
+    one: &mut Table,
+    other: &mut Table,
+) -> (Result<(), TableError>, Result<(), TableError>)
+    ensures one { OnOk result.0 (AreAllCompacted (arrays_of one.old) (arrays_of one.new)) }
+    ensures other { OnOk result.1 (AreAllCompacted (arrays_of other.old) (arrays_of other.new)) }
+    ensures law { OnOk result.0 (OnOk result.1 (LeaveAlike
+        (arrays_of one.old ++ arrays_of other.old) (arrays_of one.new ++ arrays_of other.new))) }
+{
+    let of_one = one.compact();
+    let of_other = other.compact();
+    (of_one, of_other)
 }
 
 /// What retyping one table in two steps and another at once gave.

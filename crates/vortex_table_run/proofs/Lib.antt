@@ -1,3 +1,4 @@
+mod Laying
 mod Errors
 mod Exact
 mod Responding

@@ -2,4 +2,5 @@ pub mod LineAnswers
 pub mod CommandAnswers
 pub mod Exact
 pub mod State
+pub mod Laying
 pub mod Order

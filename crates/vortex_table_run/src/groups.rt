@@ -6,7 +6,9 @@ ghost use Rattle.vortex_dtype_path.specs.View.{steps_of};
 ghost use Rattle.vortex_table_schema.specs.Description.{IsDescription};
 ghost use Rattle.vortex_table_response.specs.Text.{description_text};
 ghost use Rattle.vortex_table_io.specs.Lines.{with_lf};
+ghost use Rattle.vortex_table_core.specs.Arrays.{AreAllCompacted};
 ghost use Rattle.vortex_table_run.specs.CommandAnswers.{Responds};
+ghost use Rattle.vortex_table_run.specs.Laying.{WhereDone};
 
 use crate::refused::fault;
 use crate::session::Session;
@@ -32,8 +34,9 @@ impl Session {
 
     /// Makes one group of two neighbouring groups of the table's chunks.
     pub(crate) fn answer_join(&mut self, group: usize) -> Response
-        ensures { (out : List ℕ)
+        ensures answers { (out : List ℕ)
             → Responds (table_in self.old) (join group) result out (table_in self.new) }
+        ensures layout { WhereDone result (λ old new. new ≡ old) self.old.table self.new.table }
     {
         let Some(table) = &mut self.table else {
             return Response::Short(without_table());
@@ -47,8 +50,9 @@ impl Session {
     /// Lays the lists of all chunks end to end. Once the table has changed, the answer takes no
     /// memory.
     pub(crate) fn answer_compact(&mut self) -> Response
-        ensures { (out : List ℕ)
+        ensures answers { (out : List ℕ)
             → Responds (table_in self.old) compact result out (table_in self.new) }
+        ensures layout { WhereDone result AreAllCompacted self.old.table self.new.table }
     {
         let Some(table) = &mut self.table else {
             return Response::Short(without_table());
@@ -68,8 +72,9 @@ impl Session {
         group: usize,
         out: &mut Vec<u8>,
     ) -> Response
-        ensures { Responds (table_in self.now) (describe (steps_of path.now) group)
+        ensures answers { Responds (table_in self.now) (describe (steps_of path.now) group)
             result out.new.items (table_in self.now) }
+        ensures layout { WhereDone result (λ old new. new ≡ old) self.now.table self.now.table }
     {
         let Some(table) = &self.table else {
             return Response::Short(without_table());

@@ -1,6 +1,7 @@
 //! Refusals as texts that take no memory.
 ghost use Rattle.std.specs.Prelude.{◌≢◌, ℕ, List};
 ghost use Rattle.vortex_table_schema.specs.declared.error.TableError.TheVariants.{RuleFault};
+ghost use Rattle.vortex_table_io.specs.declared.line_handler.Response.TheVariants.{Done};
 ghost use Rattle.vortex_table_run.specs.CommandAnswers.{IsWrittenAs, error_answer};
 
 use vortex_table_io::Response;
@@ -9,8 +10,9 @@ use vortex_table_schema::error::TableError;
 
 /// What is said of an error. No line hands in a rule that could be at fault.
 pub(crate) fn fault(error: TableError) -> Response
-    ensures { (out : List ℕ) → error ≢ RuleFault
+    ensures said { (out : List ℕ) → error ≢ RuleFault
         → IsWrittenAs (error_answer error) result out }
+    ensures refused { result ≢ Done }
 {
     if error == TableError::Memory {
         return Response::NoMemory;

@@ -10,7 +10,10 @@ ghost use Rattle.vortex_table_select.specs.Selected.{answer_in};
 ghost use Rattle.vortex_table_response.specs.Text.{scan_text};
 ghost use Rattle.vortex_table_io.specs.Lines.{with_lf};
 ghost use Rattle.vortex_table_request.specs.View.{entry_of, raw_rows, shown};
+ghost use Rattle.vortex_table_core.specs.Arrays.{AddsArray};
+ghost use Rattle.vortex_table_layout.specs.Hinted.{HasHintedColumns};
 ghost use Rattle.vortex_table_run.specs.CommandAnswers.{Responds};
+ghost use Rattle.vortex_table_run.specs.Laying.{AddsTaken, LaysOut, LineLaysOut, WhereDone};
 
 use crate::refused::fault;
 use crate::scan::push_scan;
@@ -69,10 +72,11 @@ impl Session {
         bound_length: usize,
         lengths: &[(FieldPath, usize)],
     ) -> Response
-        ensures { (out : List ℕ)
+        ensures answers { (out : List ℕ)
             → Responds (table_in self.old)
             (create (type_of dtype) bound_length (map entry_of lengths.now))
             result out (table_in self.new) }
+        ensures layout { WhereDone result (λ old new. new ≡ []) self.old.table self.new.table }
     {
         match Table::create(alloc, dtype, bound_length, lengths) {
             Ok(table) => {
@@ -90,9 +94,11 @@ impl Session {
         values: Vec<Option<ScalarValue>>,
         layouts: &[Layout],
     ) -> Response
-        ensures { (out : List ℕ)
+        ensures answers { (out : List ℕ)
             → Responds (table_in self.old) (append (type_of dtype.now) (map raw_in values.items))
             result out (table_in self.new) }
+        ensures layout { WhereDone result (AddsArray (HasHintedColumns layouts.now))
+            self.old.table self.new.table }
     {
         let Some(table) = &mut self.table else {
             return Response::Short(without_table());
@@ -105,9 +111,11 @@ impl Session {
 
     /// Appends the rows of an array to the table. Once it has changed, the answer takes no memory.
     fn answer_append_array(&mut self, array: ArrayRef, layouts: &[Layout]) -> Response
-        ensures { (out : List ℕ)
+        ensures answers { (out : List ℕ)
             → Responds (table_in self.old) (append (array_type_of array) (raw_rows array))
             result out (table_in self.new) }
+        ensures layout { WhereDone result (AddsTaken self.old.table layouts.now array)
+            self.old.table self.new.table }
     {
         // Both tell the proof that the rows are of the array's type.
         let _rows = array.len();
@@ -123,9 +131,10 @@ impl Session {
 
     /// Gives the rows of the table another type. Once it has changed, the answer takes no memory.
     fn answer_retype(&mut self, dtype: DType) -> Response
-        ensures { (out : List ℕ)
+        ensures answers { (out : List ℕ)
             → Responds (table_in self.old) (retype (type_of dtype)) result out
             (table_in self.new) }
+        ensures layout { WhereDone result (λ old new. Unit {0}) self.old.table self.new.table }
     {
         let Some(table) = &mut self.table else {
             return Response::Short(without_table());
@@ -144,8 +153,10 @@ impl Session {
         predicate: &Expression,
         out: &mut Vec<u8>,
     ) -> Response
-        ensures { Responds (table_in self.now) (scan (map steps_of paths.now) predicate.now)
-            result out.new.items (table_in self.now) }
+        ensures answers { Responds (table_in self.now)
+            (scan (map steps_of paths.now) predicate.now) result out.new.items
+            (table_in self.now) }
+        ensures layout { WhereDone result (λ old new. new ≡ old) self.now.table self.now.table }
     {
         let Some(table) = &self.table else {
             return Response::Short(without_table());
@@ -166,8 +177,10 @@ impl Session {
     // command of another kind does far more than a call costs.
     #[inline(never)]
     fn answer_by_parts(&mut self, alloc: Global, command: Command, out: &mut Vec<u8>) -> Response
-        ensures { Responds (table_in self.old) (shown command) result out.new.items
+        ensures answers { Responds (table_in self.old) (shown command) result out.new.items
             (table_in self.new) }
+        ensures layout { WhereDone result (LaysOut self.old.table command)
+            self.old.table self.new.table }
     {
         match command {
             Command::Create {
@@ -192,8 +205,10 @@ impl Session {
     /// Runs a command. What it holds is dropped. A scan is served from where the command stands,
     /// since its predicate is big to move.
     fn answer_command(&mut self, alloc: Global, command: Command, out: &mut Vec<u8>) -> Response
-        ensures { Responds (table_in self.old) (shown command) result out.new.items
+        ensures answers { Responds (table_in self.old) (shown command) result out.new.items
             (table_in self.new) }
+        ensures layout { WhereDone result (LaysOut self.old.table command)
+            self.old.table self.new.table }
     {
         if let Command::Scan { paths, predicate } = &command {
             return self.answer_scan(alloc, paths, predicate, out);
@@ -207,6 +222,7 @@ impl LineHandler for Session {
     ghost use Rattle.vortex_model_table.specs.Table as model;
     ghost use Rattle.vortex_table_run.specs.State.{table_in};
     ghost use Rattle.vortex_table_run.specs.LineAnswers.{LineAnswers};
+    ghost use Rattle.vortex_table_io.specs.Responses.{Says};
 
     ghost State = { Option model.Table };
 
@@ -214,7 +230,12 @@ impl LineHandler for Session {
 
     ghost answers = { LineAnswers };
 
-    fn answer(&mut self, alloc: Global, line: &[u8], out: &mut Vec<u8>) -> Response {
+    fn answer(&mut self, alloc: Global, line: &[u8], out: &mut Vec<u8>) -> Response
+        ensures says { Says LineAnswers (table_in self.old) line.now result out.new.items
+            (table_in self.new) }
+        ensures layout { WhereDone result (LineLaysOut self.old.table line.now)
+            self.old.table self.new.table }
+    {
         match read_command(alloc, line, &mut self.scratch) {
             Ok(command) => self.answer_command(alloc, command, out),
             Err(ParseError::Malformed) => Response::Short(bad_line()),

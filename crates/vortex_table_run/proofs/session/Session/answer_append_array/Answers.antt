@@ -13,16 +13,18 @@ use Rattle.vortex_table_run.specs.State.{table_in}
 use Rattle.vortex_table_run.proofs.ArrayRows.{same_refusal, same_after, same_total, appended_so}
 use Rattle.vortex_table_run.proofs.Errors.{no_rule}
 use Rattle.vortex_table_run.proofs.Responding.{without_table, refused_for}
+use Rattle.vortex_table_run.specs.Laying.{AddsTaken}
+use Rattle.vortex_table_run.proofs.Laying.{chunks_stay, done_so}
 use Rattle.vortex_table_run.proofs.session.Session.answer_append_array.Goals as goal
 
-pub returns-in_default : goal.returns-in_default
-returns-in_default c = λ out.
+pub returns-in_default-clause-answers : goal.returns-in_default-clause-answers
+returns-in_default-clause-answers c = λ out.
     let none = ap (option_map table_of) c.in_default.is in
     let command = append (array_type_of c.args.array) (raw_rows c.args.array) in
     (refused no_table, without_table (table_in c.args.self.now) command none refl, c.without_table.ensures)
 
-pub returns-in-Ok : goal.returns-in-Ok
-returns-in-Ok c = λ out.
+pub returns-in-Ok-clause-answers : goal.returns-in-Ok-clause-answers
+returns-in-Ok-clause-answers c = λ out.
     let a = c.args.array in
     let t = table_of c.in-Some.table in
     let there = ap (option_map table_of) c.in-Some.is in
@@ -33,8 +35,8 @@ returns-in-Ok c = λ out.
       refl,
     )
 
-pub returns-in-Err : goal.returns-in-Err
-returns-in-Err c = λ out.
+pub returns-in-Err-clause-answers : goal.returns-in-Err-clause-answers
+returns-in-Err-clause-answers c = λ out.
     let e = c.in-Err.error in
     let a = c.args.array in
     let t = table_of c.in-Some.table in
@@ -46,5 +48,14 @@ returns-in-Err c = λ out.
       error_answer e,
       refused_for total (table_in c.args.self.now) (Some (table_of c.append_hinted.new.self)) t (append (array_type_of a) (raw_rows a)) e there same (same_total t a) why
           (λ h. sym refusal ∙ c.in-Err.ensures.appends.total (ap Err h)),
-      c.fault.ensures out (no_rule _ _ e why),
+      c.fault.ensures.said out (no_rule _ _ e why),
     )
+
+pub returns-in-Ok-clause-layout : goal.returns-in-Ok-clause-layout
+returns-in-Ok-clause-layout c =
+    done_so (λ o. AddsTaken o c.args.layouts.now c.args.array) c.args.self.now.table c.in-Some.table c.append_hinted.new.self c.in-Some.is c.in-Ok.ensures.layout
+
+pub returns-in-Err-clause-layout : goal.returns-in-Err-clause-layout
+returns-in-Err-clause-layout c =
+    let stays = c.in-Err.ensures.unchanged in
+    chunks_stay c.fault.result (AddsTaken c.args.self.now.table c.args.layouts.now c.args.array) c.args.self.now.table c.in-Some.table c.append_hinted.new.self c.in-Some.is c.fault.ensures.refused stays.chunks

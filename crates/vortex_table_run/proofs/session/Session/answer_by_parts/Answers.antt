@@ -1,19 +1,19 @@
 use Rattle.vortex_table_run.proofs.session.Session.answer_by_parts.Goals as goal
 
-pub returns-in-Create : goal.returns-in-Create
-returns-in-Create c = rw (c.in-Create.is, ← c.deref.ensures.value) (c.answer_create.ensures c.args.out.now.items)
+pub returns-in-Create-clause-answers : goal.returns-in-Create-clause-answers
+returns-in-Create-clause-answers c = rw (c.in-Create.is, ← c.deref.ensures.value) (c.answer_create.ensures.answers c.args.out.now.items)
 
-pub returns-in-Join : goal.returns-in-Join
-returns-in-Join c = rw c.in-Join.is (c.answer_join.ensures c.args.out.now.items)
+pub returns-in-Join-clause-answers : goal.returns-in-Join-clause-answers
+returns-in-Join-clause-answers c = rw c.in-Join.is (c.answer_join.ensures.answers c.args.out.now.items)
 
-pub returns-in-Append : goal.returns-in-Append
-returns-in-Append c = rw c.in-Append.is (c.answer_append.ensures c.args.out.now.items)
+pub returns-in-Append-clause-answers : goal.returns-in-Append-clause-answers
+returns-in-Append-clause-answers c = rw c.in-Append.is (c.answer_append.ensures.answers c.args.out.now.items)
 
-pub returns-in-Retype : goal.returns-in-Retype
-returns-in-Retype c = rw c.in-Retype.is (c.answer_retype.ensures c.args.out.now.items)
+pub returns-in-Retype-clause-answers : goal.returns-in-Retype-clause-answers
+returns-in-Retype-clause-answers c = rw c.in-Retype.is (c.answer_retype.ensures.answers c.args.out.now.items)
 
-pub returns-in-Compact : goal.returns-in-Compact
-returns-in-Compact c = rw c.in-Compact.is (c.answer_compact.ensures c.args.out.now.items)
+pub returns-in-Compact-clause-answers : goal.returns-in-Compact-clause-answers
+returns-in-Compact-clause-answers c = rw c.in-Compact.is (c.answer_compact.ensures.answers c.args.out.now.items)
 
-pub returns-in-AppendArray : goal.returns-in-AppendArray
-returns-in-AppendArray c = rw c.in-AppendArray.is (c.answer_append_array.ensures c.args.out.now.items)
+pub returns-in-AppendArray-clause-answers : goal.returns-in-AppendArray-clause-answers
+returns-in-AppendArray-clause-answers c = rw c.in-AppendArray.is (c.answer_append_array.ensures.answers c.args.out.now.items)

@@ -11,13 +11,13 @@ use Rattle.vortex_table_run.proofs.Errors.{no_rule}
 use Rattle.vortex_table_run.proofs.Responding.{without_table, refused_there, describe_found}
 use Rattle.vortex_table_run.proofs.session.Session.answer_describe.Goals as goal
 
-pub returns-in_default : goal.returns-in_default
-returns-in_default c =
+pub returns-in_default-clause-answers : goal.returns-in_default-clause-answers
+returns-in_default-clause-answers c =
     let none = ap (option_map table_of) c.in_default.is in
     (refused no_table, without_table (table_in c.args.self.now) (describe (steps_of c.args.path.now) c.args.group) none refl, c.without_table.ensures)
 
-pub returns-in-Ok-write_described : goal.returns-in-Ok-write_described
-returns-in-Ok-write_described c =
+pub returns-in-Ok-write_described-clause-answers : goal.returns-in-Ok-write_described-clause-answers
+returns-in-Ok-write_described-clause-answers c =
     let there = ap (option_map table_of) c.in-Some.is in
     let found = c.in-Ok.ensures.described in (
       described found.0,
@@ -25,12 +25,12 @@ returns-in-Ok-write_described c =
       c.in-Ok-write_described.ensures found.0 found.2,
     )
 
-pub returns : goal.returns
-returns c =
+pub returns-clause-answers : goal.returns-clause-answers
+returns-clause-answers c =
     let e = c.in-Err.error in
     let there = ap (option_map table_of) c.in-Some.is in (
       error_answer e,
       refused_there (table_in c.args.self.now) (table_in c.args.self.now) (table_of c.in-Some.table) (describe (steps_of c.args.path.now) c.args.group) e
           there there c.in-Err.ensures.refused,
-      c.fault.ensures _ (no_rule _ _ e c.in-Err.ensures.refused),
+      c.fault.ensures.said _ (no_rule _ _ e c.in-Err.ensures.refused),
     )

@@ -1,26 +1,37 @@
-use Rattle.std.proofs.Common.{Some, refl, ap}
+use Rattle.std.proofs.Common.{◌≡◌, Some, refl, ap, map}
 use Rattle.std.specs.Prelude.{option_map}
 use Rattle.vortex_model_table.specs.Command.{join}
 use Rattle.vortex_model.specs.Refusal.{no_table}
 use Rattle.vortex_model_table.specs.Reply.{refused}
+use Rattle.vortex_table_chunk.specs.declared.chunk.Chunk.{Chunk}
 use Rattle.vortex_table_core.specs.TableView.{table_of}
 use Rattle.vortex_table_run.specs.CommandAnswers.{error_answer}
 use Rattle.vortex_table_run.specs.State.{table_in}
 use Rattle.vortex_table_run.proofs.Errors.{no_rule}
 use Rattle.vortex_table_run.proofs.Responding.{without_table, refused_there}
+use Rattle.vortex_table_run.proofs.Laying.{table_stays, done_so}
 use Rattle.vortex_table_run.proofs.session.Session.answer_join.Goals as goal
 
-pub returns-in_default : goal.returns-in_default
-returns-in_default c = λ out.
+pub returns-in_default-clause-answers : goal.returns-in_default-clause-answers
+returns-in_default-clause-answers c = λ out.
     let none = ap (option_map table_of) c.in_default.is in
     (refused no_table, without_table (table_in c.args.self.now) (join c.args.group) none refl, c.without_table.ensures)
 
-pub returns-in-Err : goal.returns-in-Err
-returns-in-Err c = λ out.
+pub returns-in-Err-clause-answers : goal.returns-in-Err-clause-answers
+returns-in-Err-clause-answers c = λ out.
     let e = c.in-Err.error in
     let there = ap (option_map table_of) c.in-Some.is in
     let same = ap (λ t. Some (table_of t)) c.in-Err.ensures.unchanged in (
       error_answer e,
       refused_there (table_in c.args.self.now) (Some (table_of c.join.new.self)) (table_of c.in-Some.table) (join c.args.group) e there same c.in-Err.ensures.refused,
-      c.fault.ensures out (no_rule _ _ e c.in-Err.ensures.refused),
+      c.fault.ensures.said out (no_rule _ _ e c.in-Err.ensures.refused),
     )
+
+pub returns-in-Ok-clause-layout : goal.returns-in-Ok-clause-layout
+returns-in-Ok-clause-layout c =
+    let stays = c.in-Ok.ensures.chunks in
+    done_so (λ _ old new. new ≡ old) c.args.self.now.table c.in-Some.table c.join.new.self c.in-Some.is (ap (map (λ (x : Chunk). x.array)) stays.chunks)
+
+pub returns-in-Err-clause-layout : goal.returns-in-Err-clause-layout
+returns-in-Err-clause-layout c =
+    table_stays c.fault.result (λ old new. new ≡ old) c.args.self.now.table c.in-Some.table c.join.new.self c.in-Some.is c.fault.ensures.refused c.in-Err.ensures.unchanged

@@ -12,14 +12,14 @@ use Rattle.vortex_table_run.proofs.Errors.{no_rule}
 use Rattle.vortex_table_run.proofs.Responding.{without_table, refused_there, scan_found}
 use Rattle.vortex_table_run.proofs.session.Session.answer_scan.Goals as goal
 
-pub returns-in_default : goal.returns-in_default
-returns-in_default c =
+pub returns-in_default-clause-answers : goal.returns-in_default-clause-answers
+returns-in_default-clause-answers c =
     let none = ap (option_map table_of) c.in_default.is in
     let command = scan (map steps_of c.args.paths.now) c.args.predicate.now in
     (refused no_table, without_table (table_in c.args.self.now) command none refl, c.without_table.ensures)
 
-pub returns-in-Ok-write_found : goal.returns-in-Ok-write_found
-returns-in-Ok-write_found c =
+pub returns-in-Ok-write_found-clause-answers : goal.returns-in-Ok-write_found-clause-answers
+returns-in-Ok-write_found-clause-answers c =
     let there = ap (option_map table_of) c.in-Some.is in (
       found (answer_in c.in-Ok.answer),
       scan_found (table_in c.args.self.now) (table_of c.in-Some.table) (map steps_of c.args.paths.now) c.args.predicate.now (answer_in c.in-Ok.answer)
@@ -27,12 +27,12 @@ returns-in-Ok-write_found c =
       c.in-Ok-write_found.ensures,
     )
 
-pub returns : goal.returns
-returns c =
+pub returns-clause-answers : goal.returns-clause-answers
+returns-clause-answers c =
     let e = c.in-Err.error in
     let there = ap (option_map table_of) c.in-Some.is in (
       error_answer e,
       refused_there (table_in c.args.self.now) (table_in c.args.self.now) (table_of c.in-Some.table) (scan (map steps_of c.args.paths.now) c.args.predicate.now) e
           there there c.in-Err.ensures.refused,
-      c.fault.ensures _ (no_rule _ _ e c.in-Err.ensures.refused),
+      c.fault.ensures.said _ (no_rule _ _ e c.in-Err.ensures.refused),
     )
