@@ -16,7 +16,7 @@ use Rattle.vortex_arrays_model.specs.Column.{IsValidInBoth}
 use Rattle.vortex_arrays_model.proofs.ValidRows.{rows_valid}
 use Rattle.vortex_arrays_model.proofs.PicksLemmas.{picks_all, picks_same, picks_bools, picks_numbers, picks_strings, picks_constant, picks_dictionary, picks_fixed_lists_from, picks_list_views_from, picks_records, get_or-part, length-part, All-part}
 use Rattle.vortex_arrays_model.proofs.SomeLemmas.{picks_some_dictionary}
-use Rattle.vortex_arrays_core.specs.Flags.{field_flags, flags_of, flags_in}
+use Rattle.vortex_arrays_core.specs.Flags.{ViewFlags, no_view, field_flags, flags_of, flags_in}
 use Rattle.vortex_arrays_core.specs.Picking.{IsUnsigned}
 
 -- an array is the slice of all of its rows
@@ -61,13 +61,17 @@ slices_strings k xs bs v w start end s order within p =
     picks_strings k xs (slice_range xs start end) bs v w (end - start) (λ i. start + i) s (length-part xs (end - start) start (omega arith)) (λ i l. omega arith) (λ i l. get_or-part xs (end - start) start [] i l) p
 
 -- columns with the flags of others
-pub flags_in_columns : (xs : List (List ℕ)) (fs : List Layout) → flags_in (columns_of xs fs) ≡ map flags_of fs
-flags_in_columns xs [] = refl
-flags_in_columns [] (a ∷ fs) = ap (λ gs. flags_of a ∷ gs) (flags_in_columns [] fs)
-flags_in_columns (x ∷ xs) (a ∷ fs) = ap (λ gs. flags_of a ∷ gs) (flags_in_columns xs fs)
+abbrev pub flags_together : List ViewFlags → ViewFlags
+flags_together [] = no_view
+flags_together (f ∷ fs) = field_flags f (flags_together fs)
 
-pub records_flagged : (xs : List (List ℕ)) (fs gs : List Layout) (n m : ℕ) (v w : Valid) → map flags_of gs ≡ map flags_of fs → flags_of (records (columns_of xs gs) n w) ≡ flags_of (records (columns_of xs fs) m v)
-records_flagged xs fs gs n m v w e = ap field_flags (flags_in_columns xs gs ∙ e ∙ sym (flags_in_columns xs fs))
+pub flags_in_columns : (xs : List (List ℕ)) (fs : List Layout) → flags_in (columns_of xs fs) ≡ flags_together (map flags_of fs)
+flags_in_columns xs [] = refl
+flags_in_columns [] (a ∷ fs) = ap (field_flags (flags_of a)) (flags_in_columns [] fs)
+flags_in_columns (x ∷ xs) (a ∷ fs) = ap (field_flags (flags_of a)) (flags_in_columns xs fs)
+
+pub records_flagged : (xs ys : List (List ℕ)) (fs gs : List Layout) (n m : ℕ) (v w : Valid) → map flags_of gs ≡ map flags_of fs → flags_of (records (columns_of ys gs) n w) ≡ flags_of (records (columns_of xs fs) m v)
+records_flagged xs ys fs gs n m v w e = flags_in_columns ys gs ∙ ap flags_together e ∙ sym (flags_in_columns xs fs)
 
 pub ruleset picked = (records_flagged, slices_bools, slices_numbers, slices_strings, picks_constant, picks_dictionary, picks_lists_between, picks_list_views_from, picks_records)
 

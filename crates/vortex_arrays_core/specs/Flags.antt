@@ -1,30 +1,31 @@
 -- The flags of list views and those of dictionaries.
-use Rattle.std.specs.Prelude.{◌≡◌, Bool, List, [], ◌∷◌, Option, Some, None, slice_index_or}
+use Rattle.std.specs.Prelude.{◌≡◌, Bool, zero, suc, [], ◌∷◌, Option, Some, None}
 use Rattle.vortex_model.specs.Path.{Names, Positions, positions}
 use Rattle.vortex_arrays_model.specs.Layout.{Layout, dictionary, list_views, records, Columns, no_columns, column, array_type_of}
 
--- whether each list is known to begin where the one before ends, of a list view, or of each field
--- of records
+-- whether each list is known to begin where the one before ends: of a list view, or of the first
+-- field of records and of the fields behind it
 pub data ViewFlags : Type 0 where
   no_view : ViewFlags
   view_flag : Bool → ViewFlags
-  field_flags : List ViewFlags → ViewFlags
+  field_flags : ViewFlags → ViewFlags → ViewFlags
 
 -- those of the list views that are reached through records alone
 abbrev mutual
   pub flags_of : Layout → ViewFlags
   flags_of (list_views e o s f v) = view_flag f
-  flags_of (records cs n v) = field_flags (flags_in cs)
+  flags_of (records cs n v) = flags_in cs
   flags_of a = no_view
 
-  pub flags_in : Columns → List ViewFlags
-  flags_in no_columns = []
-  flags_in (column x a cs) = flags_of a ∷ flags_in cs
+  pub flags_in : Columns → ViewFlags
+  flags_in no_columns = no_view
+  flags_in (column x a cs) = field_flags (flags_of a) (flags_in cs)
 
 -- those at the positions of a part
 abbrev pub flags_at : ViewFlags → Positions → ViewFlags
 flags_at f [] = f
-flags_at (field_flags fs) (i ∷ is) = flags_at (slice_index_or fs i no_view) is
+flags_at (field_flags f rest) (zero ∷ is) = flags_at f is
+flags_at (field_flags f rest) (suc i ∷ is) = flags_at rest (i ∷ is)
 flags_at f (i ∷ is) = no_view
 
 -- r has those that stand in a at a path of names

@@ -1,6 +1,6 @@
 -- The column one step down.
-use Rattle.std.proofs.Common.{◌≡◌, ◌≢◌, ◌<◌, ℕ, zero, suc, Bool, true, false, List, [], ◌∷◌, length, get_or, Option, Some, None, option_map, option_and_then, if◌then◌else◌, refl, sym, ap, subst, ◌∙◌, arith}
-use Rattle.std.proofs.lemmas.List.{get_or-map}
+use Rattle.std.proofs.Common.{◌≡◌, ◌≢◌, ◌<◌, ℕ, zero, suc, Bool, true, false, List, [], ◌∷◌, length, map, get_or, Option, Some, None, option_map, option_and_then, if◌then◌else◌, refl, sym, ap, subst, ◌∙◌, arith}
+use Rattle.std.proofs.lemmas.List.{get_or-map, length-map}
 use Rattle.std.proofs.lemmas.Option.{slice_get_within}
 use Rattle.std.proofs.lemmas.Slice.Eq.{bytes_eq-Decides}
 use Rattle.std.specs.Str.{bytes_eq}
@@ -12,8 +12,8 @@ use Rattle.vortex_arrays_model.specs.Layout.{Layout, records, Valid, array_type_
 use Rattle.vortex_arrays_model.specs.Column.{IsColumn, IsPart, array_at}
 use Rattle.vortex_arrays_model.specs.Parts.{columns_of}
 use Rattle.vortex_arrays_model.proofs.ColumnLemmas.{part_named}
-use Rattle.vortex_arrays_core.specs.Flags.{no_view, flags_of, flags_at, HasFlagsOfColumn}
-use Rattle.vortex_arrays_core.proofs.Picked.{flags_in_columns}
+use Rattle.vortex_arrays_core.specs.Flags.{ViewFlags, no_view, flags_of, flags_at, HasFlagsOfColumn}
+use Rattle.vortex_arrays_core.proofs.Picked.{flags_together, flags_in_columns}
 
 -- Records: the place of a name is that of its field.
 eq_bytes : (x y : List ℕ) → x ≡ y → bytes_eq x y ≡ true
@@ -73,8 +73,16 @@ pub column_of_part : (a r : Layout) (fs : Fields) (x : List ℕ) (i : ℕ) → S
 column_of_part a r fs x i e p h = part_named a (x ∷ []) (i ∷ []) r (position_there (array_type_of a) fs x i (array_type_of r) e p h.kind) h
 
 -- its flags are those of the field
+flags_at_field : (fs : List ViewFlags) (i : ℕ) → i < length fs → flags_at (flags_together fs) (i ∷ []) ≡ get_or fs i no_view
+flags_at_field [] i l = absurd (omega (arith, l))
+flags_at_field (f ∷ fs) zero l = refl
+flags_at_field (f ∷ fs) (suc i) l = flags_at_field fs i (omega (arith, l))
+
 pub field_flagged : (xs : List (List ℕ)) (fs : List Layout) (n : ℕ) (v : Valid) (i : ℕ) (a r : Layout) → a ≡ get_or fs i a → i < length fs → flags_of r ≡ flags_of a → flags_of r ≡ flags_at (flags_of (records (columns_of xs fs) n v)) (i ∷ [])
-field_flagged xs fs n v i a r e l f = f ∙ ap flags_of e ∙ sym (get_or-map flags_of fs i a no_view l) ∙ ap (λ gs. get_or gs i no_view) (sym (flags_in_columns xs fs))
+field_flagged xs fs n v i a r e l f =
+    f ∙ ap flags_of e ∙ sym (get_or-map flags_of fs i a no_view l)
+    ∙ sym (flags_at_field (map flags_of fs) i (subst (λ m. i < m) (sym (length-map fs flags_of)) l))
+    ∙ ap (λ g. flags_at g (i ∷ [])) (sym (flags_in_columns xs fs))
 
 pub flags_of_part : (a r : Layout) (fs : Fields) (x : List ℕ) (i : ℕ) → Some fs ≡ fields_in_type (array_type_of a) → Some i ≡ position_named fs x → IsPart a (i ∷ []) r → flags_of r ≡ flags_at (flags_of a) (i ∷ []) → HasFlagsOfColumn a (x ∷ []) r
 flags_of_part a r fs x i e p h f = λ is q.

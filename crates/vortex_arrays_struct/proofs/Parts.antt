@@ -1,9 +1,9 @@
 -- The part of an array one step down, and the parts behind it.
 use Rattle.std.proofs.Common.{◌≡◌, ◌<◌, ◌≤◌, ℕ, pos, zero, suc, Bool, true, List, [], ◌∷◌, length, get_or, slice_get, Option, Some, None, option_map, option_and_then, refl, sym, ap, subst, ◌∙◌, arith}
 use Rattle.std.proofs.lemmas.List.{get_or-map, length-map}
-use Rattle.vortex_model.specs.LogicalType.{LogicalType, Fields, struct, nullable, nullability_of, either_nullable, with_nullability, nullable_inside}
+use Rattle.vortex_model.specs.LogicalType.{LogicalType, Fields, struct, nullability_of, either_nullable, with_nullability, nullable_inside}
 use Rattle.vortex_model.specs.Content.{Content, null, integer, Raw, content_of}
-use Rattle.vortex_model.specs.Path.{Positions, field_at, part_at, part_of, type_at, at}
+use Rattle.vortex_model.specs.Path.{Positions, field_at, part_at, type_at, at}
 use Rattle.vortex_model.specs.Valid.{valid}
 use Rattle.vortex_model_table.specs.ZoneMap.{values_at}
 use Rattle.vortex_dtype_core.specs.Parts.{fields_in_type}

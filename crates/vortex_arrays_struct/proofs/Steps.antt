@@ -1,5 +1,5 @@
 -- Columns of columns.
-use Rattle.std.proofs.Common.{◌≡◌, ℕ, List, [], ◌∷◌, map, Option, Some, None, option_map, option_and_then, refl, sym, ap, ◌∙◌}
+use Rattle.std.proofs.Common.{◌≡◌, ℕ, zero, suc, List, [], ◌∷◌, map, Option, Some, None, option_map, option_and_then, refl, sym, ap, ◌∙◌}
 use Rattle.vortex_model.specs.LogicalType.{Nullability, non_nullable, nullable, LogicalType, struct, nullability_of, with_nullability, nullable_inside}
 use Rattle.vortex_model.specs.Content.{Content, null}
 use Rattle.vortex_model.specs.Path.{Names, Positions, position_in, part_at, part_of, type_at, at, positions, type_of_column, column as column_value}
@@ -120,7 +120,8 @@ column_then a b r x xs h g = record {
 
 -- flags at one step, and at the rest of the path from there
 flags_on : (f : ViewFlags) (i : ℕ) (js : Positions) → flags_at (flags_at f (i ∷ [])) js ≡ flags_at f (i ∷ js)
-flags_on (field_flags fs) i js = refl
+flags_on (field_flags f rest) zero js = refl
+flags_on (field_flags f rest) (suc i) js = flags_on rest i js
 flags_on no_view i [] = refl
 flags_on no_view i (j ∷ js) = refl
 flags_on (view_flag f) i [] = refl

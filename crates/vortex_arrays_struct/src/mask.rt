@@ -16,7 +16,7 @@ ghost use Rattle.vortex_arrays_model.specs.Column.{IsMasked};
 ghost use Rattle.vortex_arrays_model.specs.Parts.{columns_of};
 ghost use Rattle.vortex_arrays_buffer.specs.PrimitiveBuffers.{kind_of_numbers, integers_of};
 ghost use Rattle.vortex_scalar_core.specs.Scalar.{scalar_type, scalar_raw};
-ghost use Rattle.vortex_arrays_core.specs.Flags.{no_view, view_flag, field_flags, flags_of, flags_in};
+ghost use Rattle.vortex_arrays_core.specs.Flags.{no_view, view_flag, flags_of, flags_in};
 ghost use Rattle.vortex_arrays_core.specs.LayoutOf.{valid_of, strings_of};
 ghost use Rattle.vortex_arrays_struct.specs.ZeroCodes.{zero_codes as codes_of_zero};
 
@@ -252,7 +252,7 @@ fn push_into_records(
         (λ pushed. IsMasked (valid_of validity.now)
         (records (columns_of names.now.value fields.now) len (valid_of own.now)) pushed) }
     ensures flags { IfOk result (λ pushed. flags_of pushed
-        ≡ field_flags (flags_in (columns_of names.now.value fields.now))) }
+        ≡ flags_in (columns_of names.now.value fields.now)) }
 {
     let both = validity.and(alloc, own, len)?;
     let fields = shared_fields(alloc, fields)?;

@@ -15,20 +15,20 @@ returns-in_err-codes-clause-masked c = grind (arith, (as_err c.from_residual.ens
 pub returns-clause-masked : goal.returns-clause-masked
 returns-clause-masked c = grind (arith, pushed)
 
-pub returns-in_err-clone-clause-flag : goal.returns-in_err-clone-clause-flag
-returns-in_err-clone-clause-flag c = grind (arith, (as_err c.from_residual-in_err-clone.ensures.0).1)
+pub returns-in_err-clone-clause-flags : goal.returns-in_err-clone-clause-flags
+returns-in_err-clone-clause-flags c = grind (arith, (as_err c.from_residual-in_err-clone.ensures.0).1)
 
-pub returns-in_err-codes-clause-flag : goal.returns-in_err-codes-clause-flag
-returns-in_err-codes-clause-flag c = grind (arith, (as_err c.from_residual.ensures.0).1)
+pub returns-in_err-codes-clause-flags : goal.returns-in_err-codes-clause-flags
+returns-in_err-codes-clause-flags c = grind (arith, (as_err c.from_residual.ensures.0).1)
 
-pub returns-in_err-value-clause-flag : goal.returns-in_err-value-clause-flag
-returns-in_err-value-clause-flag c = grind (arith, (as_err c.from_residual-in_err-value.ensures.0).1)
+pub returns-in_err-value-clause-flags : goal.returns-in_err-value-clause-flags
+returns-in_err-value-clause-flags c = grind (arith, (as_err c.from_residual-in_err-value.ensures.0).1)
 
-pub returns-in_err-pushed-clause-flag : goal.returns-in_err-pushed-clause-flag
-returns-in_err-pushed-clause-flag c = grind (arith, (as_err c.from_residual-in_err-pushed.ensures.0).1)
+pub returns-in_err-pushed-clause-flags : goal.returns-in_err-pushed-clause-flags
+returns-in_err-pushed-clause-flags c = grind (arith, (as_err c.from_residual-in_err-pushed.ensures.0).1)
 
-pub returns-clause-flag : goal.returns-clause-flag
-returns-clause-flag c = grind (arith, pushed)
+pub returns-clause-flags : goal.returns-clause-flags
+returns-clause-flags c = grind (arith, pushed)
 
 pub returns-in_err-value-clause-masked : goal.returns-in_err-value-clause-masked
 returns-in_err-value-clause-masked c = grind (arith, (as_err c.from_residual-in_err-value.ensures.0).1)
