@@ -1,8 +1,9 @@
 -- Plain arrays that views and buffers have room for.
-use Rattle.std.proofs.Common.{◌≡◌, ◌<◌, ◌≤◌, ◌+◌, ◌*◌, ℕ, zero, suc, Bool, true, false, cond, leb, List, [], ◌∷◌, length, map, take, drop, get_or, refl, sym, ap, subst, ◌∙◌, arith, inl, inr}
+use Rattle.std.proofs.Common.{◌≡◌, ◌<◌, ◌≤◌, ◌+◌, ◌*◌, ℕ, zero, suc, Bool, true, false, cond, leb, List, [], ◌∷◌, length, map, take, drop, get_or, Option, IfSome, refl, sym, ap, subst, ◌∙◌, arith, inl, inr}
 use Rattle.std.specs.List.{flat_map, range_with_len, All}
 use Rattle.std.proofs.lemmas.Bool.Decides.{leb_tells}
 use Rattle.std.proofs.lemmas.List.{length-take, drop_more, drop_all}
+use Rattle.std.proofs.lemmas.Option.{IfSome_then}
 use Rattle.vortex_model.specs.LogicalType.{LogicalType}
 use Rattle.vortex_model.specs.Content.{Content, null, tuple, Contents, nothing, first}
 use Rattle.vortex_arrays_view.specs.Views.{size_of, index_of, offset_of, inlined_of, value_of}
@@ -176,7 +177,11 @@ fields_columns ns [] = refl
 fields_columns [] (a ∷ fs) = ap (λ n. array_weight a + n) (fields_columns [] fs)
 fields_columns (x ∷ ns) (a ∷ fs) = ap (λ n. array_weight a + n) (fields_columns ns fs)
 
-pub ruleset columns = (fields_columns, size_without_names)
+-- what is left by the fields is left by the columns
+pub columns_left : (ns : List (List ℕ)) (fs : List Layout) (left : ℕ) (o : Option ℕ) → IfSome o (λ rest. fields_weight fs + rest ≤ left) → IfSome o (λ rest. columns_weight (columns_of ns fs) + rest ≤ left)
+columns_left ns fs left o h = IfSome_then o h (λ rest. subst (λ n. n + rest ≤ left) (fields_columns ns fs))
+
+pub ruleset columns = (columns_left, size_without_names)
 
 -- what the first ones took, of so many
 abbrev pub FieldsTook : List Layout → ℕ → ℕ → ℕ → Type 0
