@@ -10,7 +10,7 @@ use Rattle.vortex_model_table.specs.Typing.{sum_kind}
 use Rattle.vortex_model_table.specs.ZoneMap.{bound_of, sum_in}
 use Rattle.vortex_arrays_model.specs.Layout.{len_of, array_type_of, rows_of}
 use Rattle.vortex_table_schema.specs.Leaves.{leaf_positions}
-use Rattle.vortex_table_chunk.specs.Bounds.{AreBoundsOf, are_sums_of}
+use Rattle.vortex_table_chunk.specs.Bounds.{AreBoundsOf, are_typed_at}
 use Rattle.vortex_table_chunk.specs.Chunk.{chunk_rows}
 use Rattle.vortex_table_chunk.specs.Cloned.{IsCloneOf}
 use Rattle.vortex_table_chunk.specs.Formed.{is_formed, eq_leaves, are_lengths_of}
@@ -22,7 +22,8 @@ use Rattle.vortex_table_chunk.specs.zones.Alike.{said_by, SaysTheSame}
 use Rattle.vortex_table_chunk.specs.zones.Bounds.{bound_in, IsBoundsOf}
 use Rattle.vortex_table_chunk.specs.zones.Constancy.{known_constancy}
 use Rattle.vortex_table_chunk.specs.zones.Join.{zone_in}
-use Rattle.vortex_table_chunk.specs.zones.Sums.{int_kind_of, eq_sum_kind, known_sum}
+use Rattle.vortex_table_chunk.specs.zones.Sums.{int_kind_of, eq_sum_kind, known_sum, is_sum_of}
+use Rattle.vortex_table_chunk.specs.zones.Typed.{is_said_of, is_typed_as}
 
 -- ---- one leaf
 
@@ -37,12 +38,19 @@ from_said (Some b) = refl
 same_bound : (a b : Option Bound) → said_by b ≡ said_by a → bound_in b ≡ bound_in a
 same_bound a b e = from_said b ∙ ap bound_from e ∙ sym (from_said a)
 
+own_kind : (a b : ColumnBounds) → SaysTheSame a b → is_sum_of (int_kind_of b.sum_type) b.sum ≡ is_sum_of (int_kind_of a.sum_type) a.sum
+own_kind a b s = λ i. is_sum_of (int_kind_of (s.sum_type i)) (s.sum i)
+
+own_type : (k : LogicalType) (a b : ColumnBounds) → SaysTheSame a b → is_typed_as k b ≡ is_typed_as k a
+own_type k a b s = λ i. eq_sum_kind (int_kind_of (s.sum_type i)) (sum_kind k) && (is_said_of k (s.low i) && is_said_of k (s.high i))
+
 own_bounds : (L : ℕ) (a b : ColumnBounds) (cs : List Content) → SaysTheSame a b → IsBoundsOf L a cs → IsBoundsOf L b cs
 own_bounds L a b cs s h = record {
   low = same_bound a.low b.low s.low ∙ h.low;
   high = same_bound a.high b.high s.high ∙ h.high;
   nulls = s.nulls ∙ h.nulls;
   total = ap known_sum s.sum ∙ h.total ∙ ap (λ t. sum_in (int_kind_of t) (sum_of cs)) (sym s.sum_type);
+  kind = own_kind a b s ∙ h.kind;
   constant = ap known_constancy s.constant ∙ h.constant;
 }
 
@@ -67,19 +75,20 @@ all_own_bounds (L ∷ lengths) [] (a ∷ old) (b ∷ new) rows s h = absurd h
 all_own_bounds lengths leaves [] (b ∷ new) rows s h = absurd s
 all_own_bounds lengths leaves (a ∷ old) [] rows s h = absurd s
 
-own_sums : (k : LogicalType) (leaves : List Positions) (old new : List ColumnBounds) → AllZip SaysTheSame old new → are_sums_of k leaves new ≡ are_sums_of k leaves old
-own_sums k leaves [] [] s = refl
-own_sums k [] (a ∷ old) (b ∷ new) s = refl
-own_sums k (is ∷ leaves) (a ∷ old) (b ∷ new) s = λ i. eq_sum_kind (int_kind_of (s.0.sum_type i)) (sum_kind (kind_at k is)) && own_sums k leaves old new s.1 i
-own_sums k leaves [] (b ∷ new) s = absurd s
-own_sums k leaves (a ∷ old) [] s = absurd s
+own_types : (k : LogicalType) (leaves : List Positions) (old new : List ColumnBounds) → AllZip SaysTheSame old new → are_typed_at k leaves new ≡ are_typed_at k leaves old
+own_types k leaves [] [] s = refl
+own_types k [] (a ∷ old) (b ∷ new) s = refl
+own_types k (is ∷ leaves) (a ∷ old) (b ∷ new) s = λ i. own_type (kind_at k is) a b s.0 i && own_types k leaves old new s.1 i
+own_types k leaves [] (b ∷ new) s = absurd s
+own_types k leaves (a ∷ old) [] s = absurd s
 
 module _ (k : LogicalType) (L : Positions → ℕ) (chunks : List (List Content)) where
   own_joined : (is : Positions) (a b : ColumnBounds) → SaysTheSame a b → IsJoined k L is a chunks → IsJoined k L is b chunks
   own_joined is a b s h = record {
     made = λ part leaf. (let p = h.made part leaf in (p.0, p.1, p.2 ∙ sym (own_zone a b (rows_in chunks) s)));
     nulls = (let e = s.nulls in let l = h.nulls in omega (arith, e, l));
-    sums = ap int_kind_of s.sum_type ∙ h.sums;
+    kind = own_kind a b s ∙ h.kind;
+    types = own_type (kind_at k is) a b s ∙ h.types;
   }
 
   pub all_own_joined : (leaves : List Positions) (old new : List ColumnBounds) → AllZip SaysTheSame old new → AreJoined k L leaves old chunks → AreJoined k L leaves new chunks
@@ -93,9 +102,9 @@ module _ (k : LogicalType) (L : Positions → ℕ) (chunks : List (List Content)
 
 own_formed : (L : Positions → ℕ) (k : LogicalType) (c d : Chunk) → IsCloneOf c d → is_formed L k d ≡ is_formed L k c
 own_formed L k c d s =
-    let sums : are_sums_of k d.leaves.value.items d.bounds.items ≡ are_sums_of k c.leaves.value.items c.bounds.items =
-    ap (λ leaves. are_sums_of k leaves d.bounds.items) s.leaves ∙ own_sums k c.leaves.value.items c.bounds.items d.bounds.items s.bounds in
-    λ i. nat_lt 0 (len_of (s.array i)) && (eq_type (array_type_of (s.array i)) k && (eq_leaves (s.leaves i) (leaf_positions k) && (are_lengths_of L k (s.lengths i) && sums i)))
+    let types : are_typed_at k d.leaves.value.items d.bounds.items ≡ are_typed_at k c.leaves.value.items c.bounds.items =
+    ap (λ leaves. are_typed_at k leaves d.bounds.items) s.leaves ∙ own_types k c.leaves.value.items c.bounds.items d.bounds.items s.bounds in
+    λ i. nat_lt 0 (len_of (s.array i)) && (eq_type (array_type_of (s.array i)) k && (eq_leaves (s.leaves i) (leaf_positions k) && (are_lengths_of L k (s.lengths i) && types i)))
 
 pub all_own_formed : (L : Positions → ℕ) (k : LogicalType) (old new : List Chunk) → AllZip IsCloneOf old new → list_all (is_formed L k) new ≡ list_all (is_formed L k) old
 all_own_formed L k [] [] s = refl

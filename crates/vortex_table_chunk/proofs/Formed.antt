@@ -9,7 +9,7 @@ use Rattle.vortex_model_table.proofs.Equality.{content_passes}
 use Rattle.vortex_model.proofs.Tests.{kind_so}
 use Rattle.vortex_arrays_model.specs.Layout.{len_of, array_type_of}
 use Rattle.vortex_table_schema.specs.Leaves.{leaf_positions}
-use Rattle.vortex_table_chunk.specs.Bounds.{are_sums_of}
+use Rattle.vortex_table_chunk.specs.Bounds.{are_typed_at}
 use Rattle.vortex_table_chunk.specs.declared.chunk.Chunk.{Chunk}
 use Rattle.vortex_table_schema.proofs.Places.{positions_so, positions_itself, by_steps}
 use Rattle.vortex_table_chunk.specs.Formed.{is_formed, eq_leaves, are_lengths_of}
@@ -46,7 +46,7 @@ module _ (L : Positions → ℕ) (k : LogicalType) (c : Chunk) (formed : IsTrue 
   is_as_long = are_lengths_of L k c.lengths.value.items
 
   abbrev is_summed : Bool
-  is_summed = are_sums_of k c.leaves.value.items c.bounds.items
+  is_summed = are_typed_at k c.leaves.value.items c.bounds.items
 
   abbrev has_rows : Bool
   has_rows = nat_lt 0 (len_of c.array)
@@ -78,6 +78,6 @@ module _ (L : Positions → ℕ) (k : LogicalType) (c : Chunk) (formed : IsTrue 
 
 -- what all hold of is formed
 pub formed_so : (L : Positions → ℕ) (k : LogicalType) (c : Chunk) → 0 < len_of c.array → array_type_of c.array ≡ k → c.leaves.value.items ≡ leaf_positions k →
-    c.lengths.value.items ≡ map L (leaf_positions k) → are_sums_of k c.leaves.value.items c.bounds.items ≡ true → is_formed L k c ≡ true
+    c.lengths.value.items ≡ map L (leaf_positions k) → are_typed_at k c.leaves.value.items c.bounds.items ≡ true → is_formed L k c ≡ true
 formed_so L k c some typed leaves lengths sums = λ i.
     not_none (len_of c.array) some i && (type_same (array_type_of c.array) k typed i && (leaves_same c.leaves.value.items (leaf_positions k) leaves i && (lengths_same L k c.lengths.value.items lengths i && sums i)))

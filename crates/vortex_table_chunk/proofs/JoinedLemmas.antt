@@ -6,7 +6,7 @@ use Rattle.std.specs.List.{AllByRecursion}
 use Rattle.std.proofs.Math.Logic.{∥∥₁_elim, ∥∥₁_map, ∥∥₁_prop}
 use Rattle.std.proofs.lemmas.List.{length-map, map-append}
 use Rattle.std.proofs.lemmas.List.Sums.{sum_by-append, count_by-le-length}
-use Rattle.vortex_model.specs.LogicalType.{LogicalType, IntKind, u8, u16, u32, u64, i8, i16, i32, i64, eq_int_kind, null_only}
+use Rattle.vortex_model.specs.LogicalType.{LogicalType, null_only}
 use Rattle.vortex_model.specs.Content.{Content, is_null}
 use Rattle.vortex_model.specs.Valid.{IsContent}
 use Rattle.vortex_model.specs.Path.{Positions, type_at, at}
@@ -18,11 +18,13 @@ use Rattle.vortex_model_table.proofs.ContentOrder.{true_left, true_right}
 use Rattle.vortex_model_laws.proofs.LeafOrder.{bounds_of_column}
 use Rattle.vortex_table_chunk.specs.declared.zones.bounds.ColumnBounds.{ColumnBounds}
 use Rattle.vortex_table_chunk.specs.zones.Bounds.{bound_in, IsBoundsOf}
-use Rattle.vortex_table_chunk.specs.zones.Sums.{int_kind_of, eq_sum_kind}
+use Rattle.vortex_table_chunk.specs.zones.Sums.{int_kind_of, is_sum_of}
+use Rattle.vortex_table_chunk.specs.zones.Typed.{is_typed_as}
 use Rattle.vortex_table_chunk.specs.zones.Join.{AreNeighbours, IsJoinOf, CanJoin, AreJoinsOf, zone_in}
-use Rattle.vortex_table_chunk.specs.Bounds.{AreBoundsOf, are_sums_of}
+use Rattle.vortex_table_chunk.specs.Bounds.{AreBoundsOf, are_typed_at}
 use Rattle.vortex_table_chunk.specs.Joined.{IsLeafAt, IsJoined, AreJoined, rows_in}
 use Rattle.vortex_table_chunk.proofs.ProvenAlike.{all_of_type}
+use Rattle.vortex_table_chunk.proofs.zones.TypeLemmas.{typed_sum}
 use Rattle.vortex_table_chunk.proofs.zones.Forms.{FormIn, both_compare, group_low_form, group_high_form}
 
 -- ---- counts
@@ -33,23 +35,7 @@ rows_append xs ys = sym (ap sum (map-append length xs ys) ∙ sum_by-append (λ 
 one_row_count : (n : ℕ) → sum (n ∷ []) ≡ n
 one_row_count n = let e : 0 + n ≡ n = omega arith in e
 
-same_kind : (i j : IntKind) → eq_int_kind i j ≡ true → i ≡ j
-same_kind u8 u8 h = refl
-same_kind u16 u16 h = refl
-same_kind u32 u32 h = refl
-same_kind u64 u64 h = refl
-same_kind i8 i8 h = refl
-same_kind i16 i16 h = refl
-same_kind i32 i32 h = refl
-same_kind i64 i64 h = refl
-same_kind i j h = absurd (cc (h))
-
-pub same_sum_kind : (o p : Option IntKind) → eq_sum_kind o p ≡ true → o ≡ p
-same_sum_kind None None h = refl
-same_sum_kind (Some i) (Some j) h = ap Some (same_kind i j h)
-same_sum_kind o p h = absurd (cc (h))
-
-kind_there : (k : LogicalType) (is : Positions) (part : LogicalType) → type_at k is ≡ Some part → kind_at k is ≡ part
+pub kind_there : (k : LogicalType) (is : Positions) (part : LogicalType) → type_at k is ≡ Some part → kind_at k is ≡ part
 kind_there k is part e = ap (λ o. elim o [ None ↦ null_only | Some t ↦ t ]) e
 
 -- ---- one chunk
@@ -72,23 +58,24 @@ module _ (k : LogicalType) (L : Positions → ℕ) (rows : List Content) (typed 
         constant = honest.constant i;
       })
 
-  one_joined : (is : Positions) (b : ColumnBounds) → IsBoundsOf (L is) b (values_at is rows) → int_kind_of b.sum_type ≡ sum_kind (kind_at k is) → IsJoined k L is b (rows ∷ [])
-  one_joined is b honest sums = record {
-    made = λ part leaf. (alone (zone_of part (L is) (values_at is rows)), refl, one_zone is b honest sums part leaf);
+  one_joined : (is : Positions) (b : ColumnBounds) → IsBoundsOf (L is) b (values_at is rows) → is_typed_as (kind_at k is) b ≡ true → IsJoined k L is b (rows ∷ [])
+  one_joined is b honest types = record {
+    made = λ part leaf. (alone (zone_of part (L is) (values_at is rows)), refl, one_zone is b honest (typed_sum (kind_at k is) b types) part leaf);
     nulls = (
         let count = count_by-le-length is_null (values_at is rows) in let same = column_length is in let kept = honest.nulls in
         omega (arith, count, same, kept));
-    sums = sums;
+    kind = honest.kind;
+    types = types;
   }
 
-  pub chunk_joined : (leaves : List Positions) (bounds : List ColumnBounds) → AreBoundsOf (map L leaves) leaves bounds rows → are_sums_of k leaves bounds ≡ true → AreJoined k L leaves bounds (rows ∷ [])
+  pub chunk_joined : (leaves : List Positions) (bounds : List ColumnBounds) → AreBoundsOf (map L leaves) leaves bounds rows → are_typed_at k leaves bounds ≡ true → AreJoined k L leaves bounds (rows ∷ [])
   chunk_joined [] [] h g = tt
   chunk_joined [] (b ∷ bounds) h g = absurd h
   chunk_joined (is ∷ leaves) [] h g = absurd h
   chunk_joined (is ∷ leaves) (b ∷ bounds) h g =
-      let own = eq_sum_kind (int_kind_of b.sum_type) (sum_kind (kind_at k is)) in (
-        one_joined is b h.0 (same_sum_kind (int_kind_of b.sum_type) (sum_kind (kind_at k is)) (true_left own (are_sums_of k leaves bounds) g)),
-        chunk_joined leaves bounds h.1 (true_right own (are_sums_of k leaves bounds) g),
+      let own = is_typed_as (kind_at k is) b in (
+        one_joined is b h.0 (true_left own (are_typed_at k leaves bounds) g),
+        chunk_joined leaves bounds h.1 (true_right own (are_typed_at k leaves bounds) g),
       )
 
 -- ---- two neighbours
@@ -114,7 +101,7 @@ module _ (k : LogicalType) (L : Positions → ℕ) (xs ys : List (List Content))
       let high_b : FormIn part (value_in (bound_in b.high)) = subst (λ x. FormIn part (value_in x)) (sym has_vs.high ∙ ap (λ z. z.high) q.2) (group_high_form part (L is) leaf.leaf vs typed_vs) in record {
         lows = both_compare part (bound_in a.low) (bound_in b.low) low_a low_b;
         highs = both_compare part (bound_in a.high) (bound_in b.high) high_a high_b;
-        sums = left.sums ∙ ap sum_kind (kind_there k is part leaf.there);
+        sums = typed_sum (kind_at k is) a left.types ∙ ap sum_kind (kind_there k is part leaf.there);
       }
 
   two_joined : (is : Positions) (a b j : ColumnBounds) → IsJoined k L is a xs → IsJoined k L is b ys → IsJoinOf a b j → IsJoined k L is j (xs ++ ys)
@@ -130,7 +117,8 @@ module _ (k : LogicalType) (L : Positions → ℕ) (xs ys : List (List Content))
     nulls = (
         let first = left.nulls in let second = right.nulls in let added = both.nulls in let all = rows_append xs ys in
         omega (arith, first, second, added, all));
-    sums = ap int_kind_of both.sum_type ∙ left.sums;
+    kind = ap (λ t. is_sum_of (int_kind_of t) j.sum) both.sum_type ∙ both.kind;
+    types = both.types (kind_at k is) left.types right.types;
   }
 
   pub all_joined_up : (leaves : List Positions) (left right all : List ColumnBounds) → AreJoined k L leaves left xs → AreJoined k L leaves right ys → AreJoinsOf left right all → AreJoined k L leaves all (xs ++ ys)

@@ -1,17 +1,16 @@
 -- The bounds that belong to the leaves.
 use Rattle.std.proofs.Common.{◌≡◌, refl, sym, ◌∙◌, ap, subst, zero, suc, ℕ, ◌+◌, ◌<◌, List, [], ◌∷◌, ◌++◌, length, map, take, drop, get_or, slice_get, Bool, true, false, ◌&&◌, ◌||◌, Option, Some, None, if◌then◌else◌, add-one, arith}
 use Rattle.std.proofs.lemmas.List.{take_more}
-use Rattle.vortex_model.specs.LogicalType.{LogicalType, IntKind, u8, u16, u32, u64, i8, i16, i32, i64, eq_int_kind}
+use Rattle.vortex_model.specs.LogicalType.{LogicalType}
 use Rattle.vortex_model.specs.Path.{Positions, eq_positions}
 use Rattle.vortex_model.specs.Content.{Content}
 use Rattle.vortex_model_table.specs.Scan.{kind_at}
-use Rattle.vortex_model_table.specs.Typing.{sum_kind}
 use Rattle.vortex_model_table.specs.ZoneMap.{values_at}
 use Rattle.vortex_model_table.proofs.ContentOrder.{true_left, true_right}
 use Rattle.vortex_table_schema.proofs.Places.{positions_so, is_among}
 use Rattle.vortex_table_chunk.specs.zones.Bounds.{IsBoundsOf}
-use Rattle.vortex_table_chunk.specs.zones.Sums.{int_kind_of, eq_sum_kind}
-use Rattle.vortex_table_chunk.specs.Bounds.{AreBoundsOf, are_sums_of}
+use Rattle.vortex_table_chunk.specs.zones.Typed.{is_typed_as}
+use Rattle.vortex_table_chunk.specs.Bounds.{AreBoundsOf, are_typed_at}
 use Rattle.vortex_table_chunk.specs.BoundStat.{bounds_at}
 use Rattle.vortex_table_chunk.specs.declared.zones.bounds.ColumnBounds.{ColumnBounds}
 
@@ -57,35 +56,18 @@ leaf_pushed lengths leaves i d L leaf old new b rows g at_i h is made before own
     (subst (λ bs. AreBoundsOf (take i lengths ++ L ∷ []) (take i leaves ++ leaf ∷ []) bs rows) (sym made) (one_more_leaf L (take i lengths) (take i leaves) old leaf b rows before own)))
 
 -- the sum of one more leaf
-abbrev is_sum_of : LogicalType → Positions → ColumnBounds → Bool
-is_sum_of k is b = eq_sum_kind (int_kind_of b.sum_type) (sum_kind (kind_at k is))
+one_more_type : (k : LogicalType) (leaves : List Positions) (bounds : List ColumnBounds) (is : Positions) (b : ColumnBounds) → are_typed_at k leaves bounds ≡ true → is_typed_as (kind_at k is) b ≡ true →
+    are_typed_at k (leaves ++ is ∷ []) (bounds ++ b ∷ []) ≡ true
+one_more_type k [] [] is b h g = ap (λ t. t && true) g
+one_more_type k (js ∷ leaves) (d ∷ bounds) is b h g =
+    (λ i. true_left (is_typed_as (kind_at k js) d) (are_typed_at k leaves bounds) h i && one_more_type k leaves bounds is b (true_right (is_typed_as (kind_at k js) d) (are_typed_at k leaves bounds) h) g i)
+one_more_type k leaves bounds is b h g = absurd (cc (h))
 
-eq_itself : (i : IntKind) → eq_int_kind i i ≡ true
-eq_itself u8 = refl
-eq_itself u16 = refl
-eq_itself u32 = refl
-eq_itself u64 = refl
-eq_itself i8 = refl
-eq_itself i16 = refl
-eq_itself i32 = refl
-eq_itself i64 = refl
-
-kind_itself : (o : Option IntKind) → eq_sum_kind o o ≡ true
-kind_itself None = refl
-kind_itself (Some i) = eq_itself i
-
-one_more_sum : (k : LogicalType) (leaves : List Positions) (bounds : List ColumnBounds) (is : Positions) (b : ColumnBounds) → are_sums_of k leaves bounds ≡ true → is_sum_of k is b ≡ true →
-    are_sums_of k (leaves ++ is ∷ []) (bounds ++ b ∷ []) ≡ true
-one_more_sum k [] [] is b h g = ap (λ t. t && true) g
-one_more_sum k (js ∷ leaves) (d ∷ bounds) is b h g =
-    (λ i. true_left (is_sum_of k js d) (are_sums_of k leaves bounds) h i && one_more_sum k leaves bounds is b (true_right (is_sum_of k js d) (are_sums_of k leaves bounds) h) g i)
-one_more_sum k leaves bounds is b h g = absurd (cc (h))
-
-pub sum_pushed : (k : LogicalType) (leaves : List Positions) (i : ℕ) (leaf : Positions) (old new : List ColumnBounds) (b : ColumnBounds) → i < length leaves → leaf ≡ get_or leaves i leaf → new ≡ old ++ b ∷ [] →
-    are_sums_of k (take i leaves) old ≡ true → int_kind_of b.sum_type ≡ sum_kind (kind_at k leaf) → are_sums_of k (take (i + 1) leaves) new ≡ true
-sum_pushed k leaves i leaf old new b h is made before g =
-    (λ j. are_sums_of k ((take_more leaves i leaf h ∙ ap (λ l. take i leaves ++ l ∷ []) (sym is)) j) (made j))
-    ∙ one_more_sum k (take i leaves) old leaf b before (ap (λ o. eq_sum_kind o (sum_kind (kind_at k leaf))) g ∙ kind_itself (sum_kind (kind_at k leaf)))
+pub type_pushed : (k : LogicalType) (leaves : List Positions) (i : ℕ) (leaf : Positions) (old new : List ColumnBounds) (b : ColumnBounds) → i < length leaves → leaf ≡ get_or leaves i leaf → new ≡ old ++ b ∷ [] →
+    are_typed_at k (take i leaves) old ≡ true → is_typed_as (kind_at k leaf) b ≡ true → are_typed_at k (take (i + 1) leaves) new ≡ true
+type_pushed k leaves i leaf old new b h is made before g =
+    (λ j. are_typed_at k ((take_more leaves i leaf h ∙ ap (λ l. take i leaves ++ l ∷ []) (sym is)) j) (made j))
+    ∙ one_more_type k (take i leaves) old leaf b before g
 
 -- the bounds of a leaf that is there
 pub record Found (L : Positions → ℕ) (leaves : List Positions) (bounds : List ColumnBounds) (rows : List Content) (is : Positions) : Type 0 where

@@ -7,6 +7,6 @@ pub mod JoinedLemmas
 pub mod KeptLemmas
 pub mod LeafBounds
 pub mod LeafPlaces
-pub mod LeafSums
+pub mod LeafTypes
 pub mod ProvenAlike
 pub mod TypedRows

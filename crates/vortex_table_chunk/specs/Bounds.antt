@@ -5,12 +5,11 @@ use Rattle.vortex_model.specs.Content.{Content}
 use Rattle.vortex_model.specs.Path.{Positions}
 use Rattle.vortex_model.specs.LogicalType.{LogicalType}
 use Rattle.vortex_model_table.specs.Scan.{kind_at}
-use Rattle.vortex_model_table.specs.Typing.{sum_kind}
 use Rattle.vortex_model_table.specs.ZoneMap.{values_at}
 use Rattle.vortex_table_chunk.specs.zones.Bounds.{IsBoundsOf}
 use Rattle.vortex_table_chunk.specs.declared.zones.bounds.ColumnBounds.{ColumnBounds}
 use Rattle.vortex_table_chunk.specs.BoundCode.{coded_bound, coded_precision}
-use Rattle.vortex_table_chunk.specs.zones.Sums.{int_kind_of, eq_sum_kind}
+use Rattle.vortex_table_chunk.specs.zones.Typed.{is_typed_as}
 
 -- one to one, the bounds are those of the rows' leaves at these positions, each at its bound length
 abbrev pub AreBoundsOf : List ℕ → List Positions → List ColumnBounds → List Content → Type 0
@@ -19,12 +18,12 @@ AreBoundsOf (L ∷ lengths) (is ∷ leaves) (b ∷ bounds) rows =
     IsBoundsOf L b (values_at is rows) × AreBoundsOf lengths leaves bounds rows
 AreBoundsOf lengths leaves bounds rows = ⊥
 
--- one to one, the sums are of the kinds of a type's leaves at these positions
-abbrev pub are_sums_of : LogicalType → List Positions → List ColumnBounds → Bool
-are_sums_of k [] [] = true
-are_sums_of k (is ∷ leaves) (b ∷ bounds) =
-    eq_sum_kind (int_kind_of b.sum_type) (sum_kind (kind_at k is)) && are_sums_of k leaves bounds
-are_sums_of k leaves bounds = false
+-- one to one, the statistics are of the types of a type's leaves at these positions
+abbrev pub are_typed_at : LogicalType → List Positions → List ColumnBounds → Bool
+are_typed_at k [] [] = true
+are_typed_at k (is ∷ leaves) (b ∷ bounds) =
+    is_typed_as (kind_at k is) b && are_typed_at k leaves bounds
+are_typed_at k leaves bounds = false
 
 pub IsBoundsOf-prop : (L : ℕ) (b : ColumnBounds) (cs : List Content) → IsProp (IsBoundsOf L b cs)
 IsBoundsOf-prop L b cs = λ p q i. record {
@@ -32,6 +31,7 @@ IsBoundsOf-prop L b cs = λ p q i. record {
   high = Coded-set coded_bound _ _ p.high q.high i;
   nulls = Coded-set coded_ℕ _ _ p.nulls q.nulls i;
   total = Coded-set (coded_precision coded_ℤ) _ _ p.total q.total i;
+  kind = Coded-set coded_bool _ _ p.kind q.kind i;
   constant = Coded-set (coded_precision coded_bool) _ _ p.constant q.constant i;
 }
 

@@ -5,7 +5,7 @@ use Rattle.vortex_model.specs.LogicalType.{LogicalType, eq_type}
 use Rattle.vortex_model.specs.Path.{Positions, eq_positions}
 use Rattle.vortex_arrays_model.specs.Layout.{len_of, array_type_of}
 use Rattle.vortex_table_schema.specs.Leaves.{leaf_positions}
-use Rattle.vortex_table_chunk.specs.Bounds.{are_sums_of}
+use Rattle.vortex_table_chunk.specs.Bounds.{are_typed_at}
 use Rattle.vortex_table_chunk.specs.declared.chunk.Chunk.{Chunk}
 
 -- the leaves are equal, one by one
@@ -19,10 +19,10 @@ abbrev pub are_lengths_of : (Positions → ℕ) → LogicalType → List ℕ →
 are_lengths_of L k lengths = pointwise nat_eq lengths (map L (leaf_positions k))
 
 -- the chunk has rows, its array is of the type, its leaves are those of the type and its bound
--- lengths theirs, and its sums are of the kinds of the leaves
+-- lengths theirs, and its statistics are of the types of the leaves
 abbrev pub is_formed : (Positions → ℕ) → LogicalType → Chunk → Bool
 is_formed L k c =
     nat_lt 0 (len_of c.array) &&
     (eq_type (array_type_of c.array) k &&
     (eq_leaves c.leaves.value.items (leaf_positions k) && (are_lengths_of L k c.lengths.value.items
-    && are_sums_of k c.leaves.value.items c.bounds.items)))
+    && are_typed_at k c.leaves.value.items c.bounds.items)))

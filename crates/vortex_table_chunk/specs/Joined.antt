@@ -5,10 +5,10 @@ use Rattle.vortex_model.specs.Content.{Content}
 use Rattle.vortex_model.specs.Kept.{is_leaf}
 use Rattle.vortex_model.specs.Path.{Positions, type_at}
 use Rattle.vortex_model_table.specs.Scan.{kind_at}
-use Rattle.vortex_model_table.specs.Typing.{sum_kind}
 use Rattle.vortex_model_table.specs.ZoneMap.{ZoneMap, zone_of, values_at, Joins, all_joined, made_by}
 use Rattle.vortex_table_chunk.specs.zones.Join.{zone_in}
-use Rattle.vortex_table_chunk.specs.zones.Sums.{int_kind_of}
+use Rattle.vortex_table_chunk.specs.zones.Sums.{int_kind_of, is_sum_of}
+use Rattle.vortex_table_chunk.specs.zones.Typed.{is_typed_as}
 use Rattle.vortex_table_chunk.specs.declared.zones.bounds.ColumnBounds.{ColumnBounds}
 
 -- joins in some order make it of the zone maps of the chunks' columns
@@ -25,13 +25,15 @@ pub record IsLeafAt (k : LogicalType) (is : Positions) (part : LogicalType) : Ty
   pub there : type_at k is ≡ Some part
   pub leaf : is_leaf part ≡ true
 
--- The statistics are those of a column of these chunks of a type, at these bound lengths.
+-- The statistics are those of a column of these chunks of a type, at these bound lengths, and are
+-- values of the types that the column has for them.
 pub record IsJoined (k : LogicalType) (L : Positions → ℕ) (is : Positions) (b : ColumnBounds)
     (chunks : List (List Content)) : Type 0 where
   pub made : (part : LogicalType) → IsLeafAt k is part →
       IsMadeOf part (L is) (map (values_at is) chunks) (zone_in b (rows_in chunks))
   pub nulls : b.null_count ≤ rows_in chunks
-  pub sums : int_kind_of b.sum_type ≡ sum_kind (kind_at k is)
+  pub kind : is_sum_of (int_kind_of b.sum_type) b.sum ≡ true
+  pub types : is_typed_as (kind_at k is) b ≡ true
 
 -- one to one, the statistics are those of the chunks' leaves at these positions
 abbrev pub AreJoined : LogicalType → (Positions → ℕ) → List Positions → List ColumnBounds →

@@ -5,3 +5,4 @@ pub mod Join
 pub mod Kinds
 pub mod StatValue
 pub mod Sums
+pub mod Typed

@@ -2,16 +2,15 @@
 ghost use Rattle.std.specs.Prelude.{◌≡◌, length, true, IfOk, IsTrue};
 ghost use Rattle.vortex_model.specs.Kept.{is_leaf, is_leaf_at};
 ghost use Rattle.vortex_model_table.specs.Scan.{kind_at};
-ghost use Rattle.vortex_model_table.specs.Typing.{sum_kind};
 ghost use Rattle.vortex_model_table.specs.ZoneMap.{values_at, zone_of};
 ghost use Rattle.vortex_arrays_model.specs.Layout.{array_type_of, rows_of};
 ghost use Rattle.vortex_arrays_model.specs.Column.{IsPart};
-ghost use Rattle.vortex_stats_array.specs.Zones.{zone_in};
+ghost use Rattle.vortex_stats_array.specs.Zones.{zone_in, AreOfType};
 ghost use Rattle.vortex_table_schema.specs.Leaves.{leaf_positions};
 ghost use Rattle.vortex_table_chunk.specs.zones.Join.{CanJoin, AreJoinsOf};
 ghost use Rattle.vortex_table_chunk.specs.zones.Bounds.{IsBoundsOf};
-ghost use Rattle.vortex_table_chunk.specs.zones.Sums.{int_kind_of};
-ghost use Rattle.vortex_table_chunk.specs.Bounds.{AreBoundsOf, are_sums_of};
+ghost use Rattle.vortex_table_chunk.specs.zones.Typed.{is_typed_as};
+ghost use Rattle.vortex_table_chunk.specs.Bounds.{AreBoundsOf, are_typed_at};
 
 use crate::zones::bounds::ColumnBounds;
 use std::alloc::{AllocError, Global};
@@ -44,8 +43,9 @@ pub(crate) fn leaf_stats(
     max_length: usize,
 ) -> Result<ArrayStats, AllocError>
     requires { is_leaf (array_type_of column.now) ≡ true }
-    ensures { IfOk result (λ stats. zone_in stats
+    ensures zone { IfOk result (λ stats. zone_in stats
         ≡ zone_of (array_type_of column.now) max_length (rows_of column.now)) }
+    ensures types { IfOk result (λ stats. AreOfType (array_type_of column.now) stats) }
 {
     let Some(stats) = array_stats(alloc, column, max_length)? else {
         unreachable!()
@@ -64,8 +64,8 @@ pub fn leaf_bounds(
     requires { is_leaf_at (array_type_of array.now) leaf.now ≡ true }
     ensures statistics { IfOk result (λ bounds.
         IsBoundsOf max_length bounds (values_at leaf.now (rows_of array.now))) }
-    ensures sums { IfOk result (λ bounds.
-        int_kind_of bounds.sum_type ≡ sum_kind (kind_at (array_type_of array.now) leaf.now)) }
+    ensures types { IfOk result (λ bounds.
+        is_typed_as (kind_at (array_type_of array.now) leaf.now) bounds ≡ true) }
 {
     let column = leaf_column(alloc, array, leaf)?;
     let stats = leaf_stats(alloc, &column, max_length)?;
@@ -85,8 +85,8 @@ pub fn all_bounds(
     requires leaves { leaves.now ≡ leaf_positions (array_type_of array.now) }
     ensures statistics { IfOk result
         (λ all. AreBoundsOf max_lengths.now leaves.now all.items (rows_of array.now)) }
-    ensures sums { IfOk result
-        (λ all. IsTrue (are_sums_of (array_type_of array.now) leaves.now all.items)) }
+    ensures types { IfOk result
+        (λ all. IsTrue (are_typed_at (array_type_of array.now) leaves.now all.items)) }
 {
     let mut all = Vec::with_capacity(alloc, leaves.len())?;
     for (index, leaf) in leaves.iter().enumerate() {

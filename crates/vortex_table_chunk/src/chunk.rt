@@ -4,7 +4,7 @@ ghost use Rattle.std.proofs.Math.Logic.{∥∥₁_prop};
 ghost use Rattle.vortex_arrays_model.specs.Layout.{array_type_of, len_of, rows_of, IsSound};
 ghost use Rattle.vortex_table_schema.specs.Leaves.{leaf_positions};
 ghost use Rattle.vortex_table_chunk.specs.Rows.{are_rows_valid};
-ghost use Rattle.vortex_table_chunk.specs.Bounds.{AreBoundsOf, AreBoundsOf-prop, are_sums_of};
+ghost use Rattle.vortex_table_chunk.specs.Bounds.{AreBoundsOf, AreBoundsOf-prop, are_typed_at};
 ghost use Rattle.vortex_table_chunk.specs.BoundStat.{bounds_at};
 ghost use Rattle.vortex_table_chunk.specs.Kept.{AreKeptOf, AreKeptOf-prop};
 
@@ -91,8 +91,8 @@ pub fn new_chunk(
     ensures array { IfOk result (λ chunk. chunk.array ≡ array) }
     ensures leaves { IfOk result (λ chunk. chunk.leaves.value.items ≡ leaves.now.value.items) }
     ensures lengths { IfOk result (λ chunk. chunk.lengths.value.items ≡ lengths.now.value.items) }
-    ensures sums { IfOk result (λ chunk. IsTrue
-        (are_sums_of (array_type_of array) chunk.leaves.value.items chunk.bounds.items)) }
+    ensures types { IfOk result (λ chunk. IsTrue
+        (are_typed_at (array_type_of array) chunk.leaves.value.items chunk.bounds.items)) }
 {
     let bounds = all_bounds(alloc, &array, leaves, lengths)?;
     let columns = kept_columns(alloc, &array, leaves)?;

@@ -2,6 +2,7 @@
 ghost use Rattle.std.specs.Prelude.{◌≡◌, ◌<◌, ◌+◌, ℕ, List, length, take, true, Some, IfOk, OnOk, IfSome, IsTrue};
 ghost use Rattle.vortex_model.specs.Content.{Content};
 ghost use Rattle.vortex_model.specs.Kept.{is_leaf, is_leaf_at};
+ghost use Rattle.vortex_model.specs.LogicalType.{nullable, with_nullability};
 ghost use Rattle.vortex_model.specs.Path.{part_at};
 ghost use Rattle.vortex_model_table.specs.Scan.{kind_at};
 ghost use Rattle.vortex_model_table.specs.Statistics.{sum_of};
@@ -10,10 +11,12 @@ ghost use Rattle.vortex_model_table.specs.ZoneMap.{sum_in, values_at};
 ghost use Rattle.vortex_dtype_core.specs.View.{type_of};
 ghost use Rattle.vortex_arrays_model.specs.Layout.{array_type_of, rows_of};
 ghost use Rattle.vortex_table_schema.specs.Leaves.{leaf_positions};
-ghost use Rattle.vortex_table_chunk.specs.Bounds.{AreBoundsOf, are_sums_of};
+ghost use Rattle.vortex_table_chunk.specs.Bounds.{AreBoundsOf, are_typed_at};
 ghost use Rattle.vortex_table_chunk.specs.Chunk.{chunk_rows};
+ghost use Rattle.vortex_table_chunk.specs.Rows.{HasRowsOfType};
 ghost use Rattle.vortex_table_chunk.specs.zones.Bounds.{IsBoundsOf};
-ghost use Rattle.vortex_table_chunk.specs.zones.Sums.{int_kind_of, known_sum};
+ghost use Rattle.vortex_table_chunk.specs.zones.Sums.{known_sum, is_sum_of};
+ghost use Rattle.vortex_table_chunk.specs.zones.Typed.{is_typed_as};
 
 use crate::bounds::{leaf_bounds, leaf_column, leaf_stats};
 use crate::chunk::{Chunk, with_bounds};
@@ -35,8 +38,10 @@ fn carried_sum(
 ) -> Result<Option<PValue>, AllocError>
     requires leaf { is_leaf (array_type_of column.now) ≡ true }
     requires old { IsBoundsOf max_length old.now (rows_of column.now) }
-    ensures { IfOk result (λ sum. known_sum sum
+    ensures number { IfOk result (λ sum. known_sum sum
         ≡ sum_in (sum_kind (array_type_of column.now)) (sum_of (rows_of column.now))) }
+    ensures kind { IfOk result
+        (λ sum. is_sum_of (sum_kind (array_type_of column.now)) sum ≡ true) }
 {
     if old.has_sum_of(column.dtype()) {
         return Ok(old.sum);
@@ -60,11 +65,11 @@ fn field_type<'a>(dtype: &'a DType, position: usize) -> Option<&'a DType>
     }
 }
 
-// The type of the leaf at these positions, as it is in its record.
-#[tactic(auto, using(crate::proofs::LeafSums::sums))]
+// The type of the leaf at these positions, as it is in its record, which may be null itself.
+#[tactic(auto, using(crate::proofs::LeafTypes::types))]
 fn leaf_type<'a>(dtype: &'a DType, leaf: &[usize]) -> Option<&'a DType>
-    ensures { IfSome result (λ found. sum_kind (type_of found.now)
-        ≡ sum_kind (kind_at (type_of dtype.now) leaf.now)) }
+    ensures { IfSome result (λ found. with_nullability nullable (type_of found.now)
+        ≡ with_nullability nullable (kind_at (type_of dtype.now) leaf.now)) }
 {
     let mut part = dtype;
     for position in leaf {
@@ -88,8 +93,8 @@ fn summed_bounds(
     requires old { IsBoundsOf max_length old.now (values_at leaf.now (rows_of array.now)) }
     ensures statistics { IfOk result (λ bounds.
         IsBoundsOf max_length bounds (values_at leaf.now (rows_of array.now))) }
-    ensures sums { IfOk result (λ bounds.
-        int_kind_of bounds.sum_type ≡ sum_kind (kind_at (array_type_of array.now) leaf.now)) }
+    ensures types { IfOk result (λ bounds. HasRowsOfType array.now
+        → is_typed_as (kind_at (array_type_of array.now) leaf.now) bounds ≡ true) }
 {
     let column = leaf_column(alloc, array, leaf)?;
     let sum = carried_sum(alloc, old, &column, max_length)?;
@@ -111,8 +116,8 @@ fn carried_bounds(
     requires old { IsBoundsOf max_length old.now (values_at leaf.now (rows_of array.now)) }
     ensures statistics { IfOk result (λ bounds.
         IsBoundsOf max_length bounds (values_at leaf.now (rows_of array.now))) }
-    ensures sums { IfOk result (λ bounds.
-        int_kind_of bounds.sum_type ≡ sum_kind (kind_at (array_type_of array.now) leaf.now)) }
+    ensures types { IfOk result (λ bounds. HasRowsOfType array.now
+        → is_typed_as (kind_at (array_type_of array.now) leaf.now) bounds ≡ true) }
 {
     if let Some(dtype) = leaf_type(array.dtype(), leaf) {
         if old.has_sum_of(dtype) {
@@ -176,8 +181,8 @@ fn all_retyped(
     requires rows { rows_of array.now ≡ chunk_rows chunk.now }
     ensures statistics { IfOk result
         (λ all. AreBoundsOf max_lengths.now leaves.now all.items (rows_of array.now)) }
-    ensures sums { IfOk result
-        (λ all. IsTrue (are_sums_of (array_type_of array.now) leaves.now all.items)) }
+    ensures types { IfOk result (λ all. HasRowsOfType array.now
+        → IsTrue (are_typed_at (array_type_of array.now) leaves.now all.items)) }
 {
     let mut all = Vec::with_capacity(alloc, leaves.len())?;
     let mut from = 0;
@@ -218,9 +223,9 @@ fn push_retyped(
         (AreBoundsOf (take index max_lengths.now) (take index leaves.now) all.old.items
         (rows_of array.now) → AreBoundsOf (take (index + 1) max_lengths.now)
         (take (index + 1) leaves.now) all.new.items (rows_of array.now)) }
-    ensures sums { OnOk result
-        (IsTrue (are_sums_of (array_type_of array.now) (take index leaves.now) all.old.items)
-        → IsTrue (are_sums_of (array_type_of array.now) (take (index + 1) leaves.now)
+    ensures types { OnOk result (HasRowsOfType array.now
+        → IsTrue (are_typed_at (array_type_of array.now) (take index leaves.now) all.old.items)
+        → IsTrue (are_typed_at (array_type_of array.now) (take (index + 1) leaves.now)
         all.new.items)) }
 {
     let positions = leaves[index].as_slice();
@@ -241,8 +246,10 @@ fn push_retyped(
 fn carried_integers(old: &ColumnBounds, array: &ArrayRef, leaf: &[usize]) -> Option<ColumnBounds>
     ensures statistics { IfSome result (λ new. (L : ℕ) (values : List Content)
         → IsBoundsOf L old.now values → IsBoundsOf L new values) }
-    ensures sums { IfSome result (λ new.
-        int_kind_of new.sum_type ≡ sum_kind (kind_at (array_type_of array.now) leaf.now)) }
+    ensures types { IfSome result (λ new. (L : ℕ) → HasRowsOfType array.now
+        → is_leaf_at (array_type_of array.now) leaf.now ≡ true
+        → IsBoundsOf L old.now (values_at leaf.now (rows_of array.now))
+        → is_typed_as (kind_at (array_type_of array.now) leaf.now) new ≡ true) }
 {
     let dtype = leaf_type(array.dtype(), leaf)?;
     if !old.has_sum_of(dtype) {
@@ -264,8 +271,8 @@ fn retyped_bounds(
         IsBoundsOf max_length bounds.now (values_at leaf.now (rows_of array.now))) }
     ensures statistics { IfOk result (λ bounds.
         IsBoundsOf max_length bounds (values_at leaf.now (rows_of array.now))) }
-    ensures sums { IfOk result (λ bounds.
-        int_kind_of bounds.sum_type ≡ sum_kind (kind_at (array_type_of array.now) leaf.now)) }
+    ensures types { IfOk result (λ bounds. HasRowsOfType array.now
+        → is_typed_as (kind_at (array_type_of array.now) leaf.now) bounds ≡ true) }
 {
     match old {
         Some(old) => carried_bounds(alloc, old, array, leaf, max_length),
@@ -290,8 +297,8 @@ pub fn retyped_chunk(
     ensures array { IfOk result (λ new. new.array ≡ array) }
     ensures leaves { IfOk result (λ new. new.leaves.value.items ≡ leaves.now.value.items) }
     ensures lengths { IfOk result (λ new. new.lengths.value.items ≡ lengths.now.value.items) }
-    ensures sums { IfOk result (λ new. IsTrue
-        (are_sums_of (array_type_of array) new.leaves.value.items new.bounds.items)) }
+    ensures types { IfOk result (λ new. IsTrue
+        (are_typed_at (array_type_of array) new.leaves.value.items new.bounds.items)) }
 {
     let bounds = all_retyped(alloc, chunk, &array, leaves, lengths)?;
     let new = with_bounds(leaves, lengths, array, bounds, Vec::new(alloc))?;

@@ -6,7 +6,7 @@ use Rattle.std.proofs.lemmas.List.{length-drop, length-take, length-append, map-
 use Rattle.std.proofs.Math.Seq.{drop-cons}
 use Rattle.vortex_model.specs.LogicalType.{LogicalType}
 use Rattle.vortex_model_table.specs.Command.{joined_at}
-use Rattle.vortex_table_chunk.specs.Bounds.{AreBoundsOf, are_sums_of}
+use Rattle.vortex_table_chunk.specs.Bounds.{AreBoundsOf, are_typed_at}
 use Rattle.vortex_model.specs.Path.{Positions}
 use Rattle.vortex_table_chunk.specs.Chunk.{chunk_rows, row_count}
 use Rattle.vortex_table_chunk.specs.Joined.{AreJoined, rows_in}
@@ -80,7 +80,7 @@ module _ (k : LogicalType) (L : Positions → ℕ) (chunks : List Chunk) where
       (subst (λ ls. AreBoundsOf c.lengths.value.items ls c.bounds.items (chunk_rows c)) (led L k c here) c.honest) in
       subst (λ cs. AreJoined k L (leaf_positions k) c.bounds.items (map chunk_rows cs)) (sym alone)
       (chunk_joined k L (chunk_rows c) (all_said L k (c ∷ []) (λ i. here i && true)).0 (leaf_positions k) c.bounds.items honest
-      (ap (λ ls. are_sums_of k ls c.bounds.items) (sym (led L k c here)) ∙ summed L k c here))
+      (ap (λ ls. are_typed_at k ls c.bounds.items) (sym (led L k c here)) ∙ summed L k c here))
 
   -- ---- two as one
 

@@ -12,7 +12,7 @@ use Rattle.vortex_table_schema.specs.Leaves.{leaf_positions}
 use Rattle.vortex_table_schema.specs.Error.{Explains}
 use Rattle.vortex_table_schema.specs.declared.error.TableError.{TableError}
 use Rattle.vortex_table_schema.specs.declared.error.TableError.TheVariants as error
-use Rattle.vortex_table_chunk.specs.Bounds.{are_sums_of}
+use Rattle.vortex_table_chunk.specs.Bounds.{are_typed_at}
 use Rattle.vortex_table_chunk.specs.Chunk.{chunk_rows}
 use Rattle.vortex_table_chunk.specs.Formed.{is_formed, eq_leaves, are_lengths_of}
 use Rattle.vortex_table_chunk.specs.Joined.{AreJoined, rows_in}
@@ -171,7 +171,7 @@ module _ (k : LogicalType) (L : Positions → ℕ) where
   one_formed : (c d : Chunk) (a : Layout) → IsWithArray c a d → rows_of a ≡ chunk_rows c → array_type_of a ≡ array_type_of c.array → is_formed L k d ≡ is_formed L k c
   one_formed c d a w rows kind =
       let as_long : len_of d.array ≡ len_of c.array = ap len_of w.array ∙ sym (row_count a) ∙ ap length rows ∙ row_count c.array in
-      λ i. nat_lt 0 (as_long i) && (eq_type ((ap array_type_of w.array ∙ kind) i) k && (eq_leaves (w.leaves i).value.items (leaf_positions k) && (are_lengths_of L k (w.lengths i).value.items && are_sums_of k (w.leaves i).value.items (w.bounds i).items)))
+      λ i. nat_lt 0 (as_long i) && (eq_type ((ap array_type_of w.array ∙ kind) i) k && (eq_leaves (w.leaves i).value.items (leaf_positions k) && (are_lengths_of L k (w.lengths i).value.items && are_typed_at k (w.leaves i).value.items (w.bounds i).items)))
 
   all_alike : (xs : List Chunk) (ys : List Layout) (zs : List Chunk) → AreWithArrays xs ys zs → map rows_of ys ≡ map chunk_rows xs → map array_type_of ys ≡ map (λ (c : Chunk). array_type_of c.array) xs → list_all (is_formed L k) zs ≡ list_all (is_formed L k) xs
   all_alike [] [] [] w r t = refl

@@ -13,6 +13,7 @@ use vortex_table_schema::leaf::leaf_at;
 
 impl Table {
     ghost use Rattle.std.specs.Prelude.{◌≡◌, ◌<◌, Some, None, true, length, map, slice_index_or, IfOk, OnOk, IfErr};
+    ghost use Rattle.vortex_model_table.specs.Scan.{kind_at};
     ghost use Rattle.vortex_model_table.specs.ZoneMap.{ZoneMap};
     ghost use Rattle.vortex_model_table.specs.Reply.{Describes};
     ghost use Rattle.vortex_model_table.specs.Command.{describe, positions_of, refusal};
@@ -28,6 +29,7 @@ impl Table {
     ghost use Rattle.vortex_table_core.specs.declared.group.Group.{Group};
     ghost use Rattle.vortex_table_core.specs.Statistics.{statistics_at, IsDescribedBy};
     ghost use Rattle.vortex_table_core.specs.TableView.{table_of};
+    ghost use Rattle.vortex_table_plan.specs.Described.{IsOfLeaf};
     ghost use Rattle.vortex_table_schema.specs.Description.{IsDescription};
 
     /// What is known of the leaf column that the path leads to, in the rows of a group.
@@ -48,6 +50,8 @@ impl Table {
         ensures statistics { IfOk result (λ d. (b : ColumnBounds) × (statistics_at self.now
             (positions_of (table_of self.now).kind (steps_of path.now)) group ≡ Some b)
             × IsDescribedBy b d) }
+        ensures types { IfOk result (λ d. IsOfLeaf (kind_at (table_of self.now).kind
+            (positions_of (table_of self.now).kind (steps_of path.now))) d) }
         ensures accepted { OnOk result
             (refusal (table_of self.now) (describe (steps_of path.now) group) ≡ None) }
         ensures refused { IfErr result

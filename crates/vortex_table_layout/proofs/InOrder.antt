@@ -7,37 +7,37 @@ use Rattle.std.proofs.lemmas.List.{map-append}
 use Rattle.vortex_model.specs.LogicalType.{LogicalType}
 use Rattle.vortex_model.specs.Content.{Content}
 use Rattle.vortex_model.specs.Path.{Positions}
-use Rattle.vortex_model_table.specs.Typing.{sum_kind}
 use Rattle.vortex_model_table.specs.Scan.{kind_at}
 use Rattle.vortex_model.specs.Valid.{IsContent}
 use Rattle.vortex_model_table.specs.ZoneMap.{ZoneMap, zone_of, values_at, joined, joined_from}
 use Rattle.vortex_model_table.proofs.ContentOrder.{true_left, true_right}
 use Rattle.vortex_table_schema.specs.Leaves.{leaf_positions}
-use Rattle.vortex_table_chunk.specs.Bounds.{AreBoundsOf, are_sums_of}
+use Rattle.vortex_table_chunk.specs.Bounds.{AreBoundsOf, are_typed_at}
 use Rattle.vortex_table_chunk.specs.Chunk.{chunk_rows, row_count}
 use Rattle.vortex_table_chunk.specs.Formed.{is_formed}
 use Rattle.vortex_table_chunk.specs.Joined.{IsJoined, rows_in}
 use Rattle.vortex_table_chunk.specs.zones.Join.{zone_in, IsJoinOf, CanJoin, AreJoinsOf}
-use Rattle.vortex_table_chunk.specs.zones.Sums.{int_kind_of, eq_sum_kind}
+use Rattle.vortex_table_chunk.specs.zones.Typed.{is_typed_as}
 use Rattle.vortex_table_chunk.specs.declared.chunk.Chunk.{Chunk}
 use Rattle.vortex_table_chunk.specs.declared.zones.bounds.ColumnBounds.{ColumnBounds}
 use Rattle.vortex_table_chunk.proofs.Formed.{led, as_long, summed}
-use Rattle.vortex_table_chunk.proofs.JoinedLemmas.{rows_append, one_zone, chunk_joined, same_sum_kind, neighbours, all_joined_up, groups_can_join}
+use Rattle.vortex_table_chunk.proofs.JoinedLemmas.{rows_append, one_zone, chunk_joined, neighbours, all_joined_up, groups_can_join}
+use Rattle.vortex_table_chunk.proofs.zones.TypeLemmas.{typed_sum}
 use Rattle.vortex_table_chunk.proofs.TypedRows.{formed_said, all_said, all_counted}
 use Rattle.vortex_table_layout.specs.InOrder.{IsInOrder, AreInOrder, AreJoinedInOrder}
 
 -- ---- one chunk
 
 module _ (k : LogicalType) (L : Positions → ℕ) (rows : List Content) (typed : AllByRecursion (IsContent k) rows) where
-  one_in_order : (leaves : List Positions) (bounds : List ColumnBounds) → AreBoundsOf (map L leaves) leaves bounds rows → are_sums_of k leaves bounds ≡ true → AreInOrder k L leaves bounds (rows ∷ [])
+  one_in_order : (leaves : List Positions) (bounds : List ColumnBounds) → AreBoundsOf (map L leaves) leaves bounds rows → are_typed_at k leaves bounds ≡ true → AreInOrder k L leaves bounds (rows ∷ [])
   one_in_order [] [] h g = tt
   one_in_order [] (b ∷ bounds) h g = absurd h
   one_in_order (is ∷ leaves) [] h g = absurd h
   one_in_order (is ∷ leaves) (b ∷ bounds) h g =
-      let own = eq_sum_kind (int_kind_of b.sum_type) (sum_kind (kind_at k is)) in
-      let sums = same_sum_kind (int_kind_of b.sum_type) (sum_kind (kind_at k is)) (true_left own (are_sums_of k leaves bounds) g) in (
+      let own = is_typed_as (kind_at k is) b in
+      let sums = typed_sum (kind_at k is) b (true_left own (are_typed_at k leaves bounds) g) in (
         (λ part leaf. sym (one_zone k L rows typed is b h.0 sums part leaf)),
-        one_in_order leaves bounds h.1 (true_right own (are_sums_of k leaves bounds) g),
+        one_in_order leaves bounds h.1 (true_right own (are_typed_at k leaves bounds) g),
       )
 
 -- a formed chunk has its own statistics
@@ -47,14 +47,14 @@ module _ (k : LogicalType) (L : Positions → ℕ) (c : Chunk) (formed : is_form
       subst (λ ns. AreBoundsOf ns (leaf_positions k) c.bounds.items (chunk_rows c)) (as_long L k c formed)
       (subst (λ ls. AreBoundsOf c.lengths.value.items ls c.bounds.items (chunk_rows c)) (led L k c formed) c.honest)
 
-  sums : are_sums_of k (leaf_positions k) c.bounds.items ≡ true
-  sums = ap (λ ls. are_sums_of k ls c.bounds.items) (sym (led L k c formed)) ∙ summed L k c formed
+  types : are_typed_at k (leaf_positions k) c.bounds.items ≡ true
+  types = ap (λ ls. are_typed_at k ls c.bounds.items) (sym (led L k c formed)) ∙ summed L k c formed
 
   pub alone_in_order : AreJoinedInOrder k L (leaf_positions k) c.bounds.items (chunk_rows c ∷ [])
   alone_in_order =
       let typed = formed_said L k c formed in (
-        chunk_joined k L (chunk_rows c) typed (leaf_positions k) c.bounds.items honest sums,
-        one_in_order k L (chunk_rows c) typed (leaf_positions k) c.bounds.items honest sums,
+        chunk_joined k L (chunk_rows c) typed (leaf_positions k) c.bounds.items honest types,
+        one_in_order k L (chunk_rows c) typed (leaf_positions k) c.bounds.items honest types,
       )
 
 -- ---- one chunk more

@@ -1,25 +1,37 @@
 -- Numbers of their own kind, and bounds that are values of a leaf.
-use Rattle.std.proofs.Common.{◌≡◌, refl, sym, ◌∙◌, ap, subst, ℕ, ℤ, List, map, true, ◌&&◌, Some}
+use Rattle.std.proofs.Common.{◌≡◌, refl, sym, ◌∙◌, ap, subst, ℕ, ℤ, List, map, Bool, true, false, ◌&&◌, Option, Some, None, IfSome, option_map, option_and_then}
 use Rattle.std.specs.Coded.{Coded-set, coded_bool}
 use Rattle.std.specs.List.{AllByRecursion}
 use Rattle.std.proofs.Math.Logic.{∥∥₁_elim}
-use Rattle.vortex_model.specs.LogicalType.{LogicalType, boolean_type, integer_type, utf8, binary, IntKind, u8, u16, u32, u64, i8, i16, i32, i64, eq_int_kind}
-use Rattle.vortex_model.specs.Content.{Content, boolean, integer, text, byte_string}
+use Rattle.vortex_model.specs.LogicalType.{LogicalType, boolean_type, integer_type, utf8, binary, nullable, non_nullable, IntKind, u8, u16, u32, u64, i8, i16, i32, i64, eq_int_kind}
+use Rattle.vortex_model.specs.Content.{Content, boolean, integer, text, byte_string, Raw, raw_null, raw_boolean, raw_number, raw_text, raw_byte_string}
 use Rattle.vortex_model.specs.Valid.{in_range, IsContent}
 use Rattle.vortex_model.specs.Kept.{is_leaf}
 use Rattle.vortex_model_table.specs.Laws.{is_leaf_value}
 use Rattle.vortex_model.specs.Path.{Positions, type_at}
 use Rattle.vortex_model_table.specs.Statistics.{Precision, exact, inexact, absent}
+use Rattle.vortex_model_table.specs.Scan.{kind_at}
+use Rattle.vortex_model_table.specs.Typing.{sum_kind, type_of_bound, type_of_sum}
 use Rattle.vortex_model_table.specs.ZoneMap.{value_in, values_at}
-use Rattle.vortex_model_laws.proofs.LeafOrder.{IsOfForm, bounds_of_column}
+use Rattle.vortex_model_laws.proofs.LeafOrder.{bounds_of_column}
 use Rattle.vortex_dtype_core.proofs.Views as types
 use Rattle.vortex_scalar_value.proofs.Views as values
+use Rattle.vortex_scalar_value.specs.Numbers.{kind_of_number}
+use Rattle.vortex_scalar_value.specs.View.{raw_of}
+use Rattle.vortex_scalar_value.specs.declared.pvalue.PValue.{PValue}
+use Rattle.vortex_table_schema.specs.declared.description.Description.{Description}
 use Rattle.vortex_table_chunk.specs.Joined.{IsJoined}
+use Rattle.vortex_table_chunk.specs.declared.zones.bounds.Bound.{Bound}
 use Rattle.vortex_table_chunk.specs.declared.zones.bounds.ColumnBounds.{ColumnBounds}
+use Rattle.vortex_table_chunk.specs.zones.Alike.{said_by}
 use Rattle.vortex_table_chunk.specs.zones.Bounds.{bound_in}
+use Rattle.vortex_table_chunk.specs.zones.Sums.{int_kind_of, is_sum_of}
+use Rattle.vortex_table_chunk.specs.zones.Typed.{is_value_of, is_said_of, is_typed_as}
+use Rattle.vortex_table_chunk.proofs.JoinedLemmas.{kind_there}
+use Rattle.vortex_table_chunk.proofs.zones.TypeLemmas.{same_kind, same_sum_kind, typed_sum, typed_low, typed_high}
 use Rattle.vortex_table_chunk.proofs.ProvenAlike.{all_of_type}
-use Rattle.vortex_table_chunk.proofs.zones.Forms.{FormIn, group_low_form, group_high_form}
-use Rattle.vortex_table_plan.specs.Described.{is_of_leaf, HasLeafBounds}
+use Rattle.vortex_table_chunk.proofs.zones.Forms.{Fits, FormIn, group_low_form, group_high_form}
+use Rattle.vortex_table_plan.specs.Described.{is_of_leaf, HasLeafBounds, leaf_type, bound_type, HasTypesOf, IsOfLeaf}
 
 -- ---- numbers
 
@@ -41,7 +53,7 @@ pub ruleset numbers = (types.one_level, values.one_level, own_kind)
 
 -- ---- bounds of a leaf's column are values of a leaf
 
-leaf_form : (k : LogicalType) (c : Content) → IsOfForm k c → is_leaf_value c ≡ true
+leaf_form : (k : LogicalType) (c : Content) → Fits k c → is_leaf_value c ≡ true
 leaf_form (integer_type i n) (integer z) h = refl
 leaf_form (boolean_type n) (boolean b) h = refl
 leaf_form (utf8 n) (text v) h = refl
@@ -76,3 +88,55 @@ module _ (k : LogicalType) (L : Positions → ℕ) (is : Positions) (part : Logi
     low = ∥∥₁_elim joined (Coded-set coded_bool _ _) (λ h. (of_joined h).low);
     high = ∥∥₁_elim joined (Coded-set coded_bool _ _) (λ h. (of_joined h).high);
   }
+
+-- ---- the types of what is described
+
+value_type : (k : LogicalType) (r : Raw) → is_leaf k ≡ true → is_value_of k r ≡ true → IfSome (leaf_type nullable r) (λ l. type_of_bound k ≡ Some l)
+value_type (boolean_type n) raw_null w h = tt
+value_type (boolean_type n) (raw_boolean b) w h = refl
+value_type (boolean_type n) r w h = absurd (cc (h))
+value_type (integer_type i n) raw_null w h = tt
+value_type (integer_type i n) (raw_number j z) w h = ap (λ l. Some (integer_type l nullable)) (sym (same_kind j i h))
+value_type (integer_type i n) r w h = absurd (cc (h))
+value_type (utf8 n) raw_null w h = tt
+value_type (utf8 n) (raw_text v) w h = refl
+value_type (utf8 n) r w h = absurd (cc (h))
+value_type (binary n) raw_null w h = tt
+value_type (binary n) (raw_byte_string v) w h = refl
+value_type (binary n) r w h = absurd (cc (h))
+value_type k r w h = absurd (cc (w))
+
+said_type : (k : LogicalType) (o : Option Bound) → is_leaf k ≡ true → is_said_of k (said_by o) ≡ true → IfSome (bound_type nullable o) (λ l. type_of_bound k ≡ Some l)
+said_type k None w h = tt
+said_type k (Some b) w h = value_type k (raw_of b.value) w h
+
+leaf_sum : (k : LogicalType) → is_leaf k ≡ true → type_of_sum k ≡ option_and_then (λ i. Some (integer_type i nullable)) (sum_kind k)
+leaf_sum (boolean_type n) w = refl
+leaf_sum (integer_type i n) w = refl
+leaf_sum (utf8 n) w = refl
+leaf_sum (binary n) w = refl
+leaf_sum k w = absurd (cc (w))
+
+sum_type : (k : LogicalType) (s : Option IntKind) (o : Option PValue) → is_leaf k ≡ true → s ≡ sum_kind k → is_sum_of s o ≡ true →
+    IfSome (option_map (λ v. integer_type (kind_of_number v) nullable) o) (λ l. type_of_sum k ≡ Some l)
+sum_type k s None w e h = tt
+sum_type k s (Some v) w e h = leaf_sum k w ∙ ap (option_and_then (λ i. Some (integer_type i nullable))) (sym e ∙ sym (same_sum_kind (Some (kind_of_number v)) s h))
+
+constancy_type : (o : Option Bool) → IfSome (option_map (λ c. boolean_type non_nullable) o) (λ l. l ≡ boolean_type non_nullable)
+constancy_type None = tt
+constancy_type (Some b) = refl
+
+of_types : (k : LogicalType) (b : ColumnBounds) (d : Description) → is_leaf k ≡ true → is_typed_as k b ≡ true → is_sum_of (int_kind_of b.sum_type) b.sum ≡ true → HasTypesOf nullable b d → IsOfLeaf k d
+of_types k b d leaf typed kind types = record {
+  min = subst (λ o. IfSome o (λ l. type_of_bound k ≡ Some l)) (sym types.min) (said_type k b.low leaf (typed_low k b typed));
+  max = subst (λ o. IfSome o (λ l. type_of_bound k ≡ Some l)) (sym types.max) (said_type k b.high leaf (typed_high k b typed));
+  null_count = types.null_count;
+  sum = subst (λ o. IfSome o (λ l. type_of_sum k ≡ Some l)) (sym types.sum) (sum_type k (int_kind_of b.sum_type) b.sum leaf (typed_sum k b typed) kind);
+  constant = subst (λ o. IfSome o (λ l. l ≡ boolean_type non_nullable)) (sym types.constant) (constancy_type b.constant);
+}
+
+-- however the chunks of its column were joined
+pub joined_types : (k : LogicalType) (L : Positions → ℕ) (is : Positions) (part : LogicalType) (b : ColumnBounds) (chunks : List (List Content)) (d : Description) → type_at k is ≡ Some part → is_leaf part ≡ true →
+    ∥ IsJoined k L is b chunks ∥₁ → HasTypesOf nullable b d → IsOfLeaf (kind_at k is) d
+joined_types k L is part b chunks d there leaf joined =
+    of_types (kind_at k is) b d (ap is_leaf (kind_there k is part there) ∙ leaf) (∥∥₁_elim joined (Coded-set coded_bool _ _) (λ h. h.types)) (∥∥₁_elim joined (Coded-set coded_bool _ _) (λ h. h.kind))

@@ -1,9 +1,10 @@
 -- What is described of the statistics of a column.
-use Rattle.std.specs.Prelude.{◌≡◌, Bool, true, Option, Some, None, option_map, if◌then◌else◌}
+use Rattle.std.specs.Prelude.{◌≡◌, Bool, true, Option, Some, None, IfSome, option_map, if◌then◌else◌}
 use Rattle.vortex_model.specs.LogicalType.{LogicalType, Nullability, non_nullable, nullable, boolean_type, integer_type, utf8, binary, u64}
 use Rattle.vortex_model.specs.Content.{Content, Raw, raw_boolean, raw_number, raw_text, raw_byte_string}
 use Rattle.vortex_model_table.specs.Laws.{is_leaf_value}
 use Rattle.vortex_model_table.specs.Statistics.{Precision, exact, inexact, absent}
+use Rattle.vortex_model_table.specs.Typing.{type_of_bound, type_of_sum}
 use Rattle.vortex_model_table.specs.ZoneMap.{bound_of}
 use Rattle.vortex_scalar_value.specs.Numbers.{kind_of_number}
 use Rattle.vortex_scalar_value.specs.View.{raw_of}
@@ -66,3 +67,11 @@ pub record HasTypesOf (n : Nullability) (b : ColumnBounds) (d : Description) : T
   pub null_count : known_type d.null_count ≡ Some (integer_type u64 non_nullable)
   pub sum : known_type d.sum ≡ option_map (λ v. integer_type (kind_of_number v) nullable) b.sum
   pub constant : known_type d.constant ≡ option_map (λ c. boolean_type non_nullable) b.constant
+
+-- What is known has the types of statistics of a leaf of this type. Bounds and sums may be null.
+pub record IsOfLeaf (k : LogicalType) (d : Description) : Type 0 where
+  pub min : IfSome (known_type d.min) (λ l. type_of_bound k ≡ Some l)
+  pub max : IfSome (known_type d.max) (λ l. type_of_bound k ≡ Some l)
+  pub null_count : known_type d.null_count ≡ Some (integer_type u64 non_nullable)
+  pub sum : IfSome (known_type d.sum) (λ l. type_of_sum k ≡ Some l)
+  pub constant : IfSome (known_type d.constant) (λ l. l ≡ boolean_type non_nullable)

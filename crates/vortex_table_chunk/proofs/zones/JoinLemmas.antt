@@ -2,7 +2,7 @@
 use Rattle.std.proofs.Common.{◌≡◌, refl, sym, ◌∙◌, ap, subst, ℕ, ℤ, ◌+◌, ◌+ℤ◌, List, [], ◌∷◌, Bool, true, false, not, ◌&&◌, ◌||◌, if◌then◌else◌, Option, Some, None, arith}
 use Rattle.std.specs.Prelude.{sum}
 use Rattle.std.specs.List.{list_any}
-use Rattle.vortex_model.specs.LogicalType.{IntKind}
+use Rattle.vortex_model.specs.LogicalType.{LogicalType, IntKind}
 use Rattle.vortex_model.specs.Content.{Content, equal_content}
 use Rattle.vortex_model_table.specs.Statistics.{Precision, exact, inexact, absent, is_at_most, least_value, greatest_value}
 use Rattle.vortex_model_table.specs.ZoneMap.{bound_of, is_exactly, bound_among, sum_in, joined_total, joined_constant}
@@ -15,7 +15,8 @@ use Rattle.vortex_table_chunk.specs.declared.zones.bounds.Bound.{Bound}
 use Rattle.vortex_table_chunk.specs.declared.zones.bounds.ColumnBounds.{ColumnBounds}
 use Rattle.vortex_table_chunk.specs.zones.Bounds.{bound_content, bound_in}
 use Rattle.vortex_table_chunk.specs.zones.Constancy.{known_constancy}
-use Rattle.vortex_table_chunk.specs.zones.Sums.{int_kind_of, known_sum}
+use Rattle.vortex_table_chunk.specs.zones.Sums.{int_kind_of, known_sum, is_sum_of}
+use Rattle.vortex_table_chunk.specs.zones.Typed.{is_typed_as}
 use Rattle.vortex_table_chunk.specs.zones.Join.{BothCompare, IsJoinOf}
 
 -- ---- two values that compare
@@ -232,8 +233,9 @@ pub is_join : (a b both : ColumnBounds) → (BothCompare (bound_in a.low) (bound
     (BothCompare (bound_in a.high) (bound_in b.high) → bound_in both.high ≡ bound_among greatest_value (bound_in a.high ∷ bound_in b.high ∷ [])) →
     both.null_count ≡ a.null_count + b.null_count → both.sum_type ≡ a.sum_type → known_sum both.sum ≡ joined_total (int_kind_of a.sum_type) (known_sum a.sum) (known_sum b.sum) →
     (BothCompare (bound_in a.low) (bound_in b.low) → known_constancy both.constant ≡ joined_constant (known_constancy a.constant) (known_constancy b.constant) (bound_in a.low) (bound_in b.low)) →
+    is_sum_of (int_kind_of a.sum_type) both.sum ≡ true → ((k : LogicalType) → is_typed_as k a ≡ true → is_typed_as k b ≡ true → is_typed_as k both ≡ true) →
     IsJoinOf a b both
-is_join a b both low high nulls sum_type total constant = record {
+is_join a b both low high nulls sum_type total constant kind types = record {
   zone = λ k m n near i. record {
     low = low near.lows i;
     high = high near.highs i;
@@ -244,4 +246,6 @@ is_join a b both low high nulls sum_type total constant = record {
   };
   nulls = nulls;
   sum_type = sum_type;
+  kind = kind;
+  types = types;
 }

@@ -1,5 +1,5 @@
 -- Zone maps of the statistics of a leaf, and of those of neighbours that are joined.
-use Rattle.std.specs.Prelude.{◌≡◌, ℕ, ◌+◌, List, [], ◌∷◌, filter_map, ◌<◌, ◌^◌}
+use Rattle.std.specs.Prelude.{◌≡◌, true, ℕ, ◌+◌, List, [], ◌∷◌, filter_map, ◌<◌, ◌^◌}
 use Rattle.vortex_model.specs.LogicalType.{LogicalType}
 use Rattle.vortex_model.specs.Content.{Content}
 use Rattle.vortex_model_table.specs.Statistics.{Precision}
@@ -9,7 +9,8 @@ use Rattle.vortex_model_table.specs.ZoneLaws.{AllCompare}
 use Rattle.vortex_table_chunk.specs.declared.zones.bounds.ColumnBounds.{ColumnBounds}
 use Rattle.vortex_table_chunk.specs.zones.Bounds.{bound_in}
 use Rattle.vortex_table_chunk.specs.zones.Constancy.{known_constancy}
-use Rattle.vortex_table_chunk.specs.zones.Sums.{int_kind_of, known_sum}
+use Rattle.vortex_table_chunk.specs.zones.Sums.{int_kind_of, known_sum, is_sum_of}
+use Rattle.vortex_table_chunk.specs.zones.Typed.{is_typed_as}
 
 -- the zone map of so many rows that the statistics stand for
 abbrev pub zone_in : ColumnBounds → ℕ → ZoneMap
@@ -34,12 +35,16 @@ pub record AreNeighbours (k : LogicalType) (a b : ColumnBounds) : Type 0 where
   pub sums : int_kind_of a.sum_type ≡ sum_kind k
 
 -- The statistics are those of both as one group: where the two are of neighbours, of however many
--- rows, they stand for the zone map that a join makes of theirs.
+-- rows, they stand for the zone map that a join makes of theirs. The sum is of its own type, and
+-- the bounds of the type that those of both are.
 pub record IsJoinOf (a b both : ColumnBounds) : Type 0 where
   pub zone : (k : LogicalType) (m n : ℕ) → AreNeighbours k a b →
       zone_in both (m + n) ≡ joined k (zone_in a m) (zone_in b n)
   pub nulls : both.null_count ≡ a.null_count + b.null_count
   pub sum_type : both.sum_type ≡ a.sum_type
+  pub kind : is_sum_of (int_kind_of a.sum_type) both.sum ≡ true
+  pub types : (k : LogicalType) → is_typed_as k a ≡ true → is_typed_as k b ≡ true →
+      is_typed_as k both ≡ true
 
 -- ---- of all leaves
 

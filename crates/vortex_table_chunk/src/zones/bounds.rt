@@ -1,13 +1,14 @@
 //! The statistics of a leaf column that a chunk keeps.
-ghost use Rattle.std.specs.Prelude.{◌≡◌, ℕ, List, IfOk};
+ghost use Rattle.std.specs.Prelude.{◌≡◌, ℕ, List, IfOk, true};
 ghost use Rattle.vortex_model.specs.Content.{Content};
-ghost use Rattle.vortex_model_table.specs.Typing.{sum_kind};
+ghost use Rattle.vortex_model.specs.Kept.{is_leaf};
+ghost use Rattle.vortex_model.specs.LogicalType.{LogicalType};
 ghost use Rattle.vortex_model_table.specs.ZoneMap.{zone_of};
 ghost use Rattle.vortex_dtype_core.specs.View.{type_of};
-ghost use Rattle.vortex_stats_array.specs.Zones.{zone_in, bound_content as known_bound};
+ghost use Rattle.vortex_stats_array.specs.Zones.{zone_in, bound_content as known_bound, IsBoundIn, AreOfType};
 ghost use Rattle.vortex_table_chunk.specs.zones.Bounds.{bound_in, IsBoundsOf};
-ghost use Rattle.vortex_table_chunk.specs.zones.Sums.{int_kind_of};
 ghost use Rattle.vortex_table_chunk.specs.zones.Alike.{said_by};
+ghost use Rattle.vortex_table_chunk.specs.zones.Typed.{is_said_of, is_typed_as};
 
 use std::alloc::AllocError;
 use vortex_dtype_core::dtype::DType;
@@ -47,8 +48,11 @@ pub struct ColumnBounds {
     pub constant: Option<bool>,
 }
 
+#[tactic(auto, using(crate::proofs::zones::TypeLemmas::valids))]
 fn bound_of(known: Precision<ScalarValue>) -> Option<Bound>
-    ensures { bound_in result ≡ known_bound known }
+    ensures bound { bound_in result ≡ known_bound known }
+    ensures kind { (k : LogicalType) → is_leaf k ≡ true → IsBoundIn k known
+        → is_said_of k (said_by result) ≡ true }
 {
     let (value, shortened) = match known {
         Precision::Exact(value) => (value, false),
@@ -62,8 +66,10 @@ impl ColumnBounds {
     /// The statistics to keep of a column of the type.
     pub fn of_stats(dtype: &DType, stats: ArrayStats) -> ColumnBounds
         ensures statistics { (L : ℕ) (values : List Content)
-            → zone_in stats ≡ zone_of (type_of dtype.now) L values → IsBoundsOf L result values }
-        ensures sum_type { int_kind_of result.sum_type ≡ sum_kind (type_of dtype.now) }
+            → zone_in stats ≡ zone_of (type_of dtype.now) L values
+            → AreOfType (type_of dtype.now) stats → IsBoundsOf L result values }
+        ensures types { is_leaf (type_of dtype.now) ≡ true → AreOfType (type_of dtype.now) stats
+            → is_typed_as (type_of dtype.now) result ≡ true }
     {
         ColumnBounds {
             low: bound_of(stats.min),

@@ -1,5 +1,5 @@
 //! Statistics of a leaf column whose rows are converted.
-ghost use Rattle.std.specs.Prelude.{◌≡◌, ℕ, List, Some, IfOk, IfSome, IsTrue};
+ghost use Rattle.std.specs.Prelude.{◌≡◌, true, ℕ, List, Some, IfOk, IfSome, IsTrue};
 ghost use Rattle.vortex_model.specs.Content.{Content, content_of};
 ghost use Rattle.vortex_model.specs.LogicalType.{Nullability};
 ghost use Rattle.vortex_model_table.specs.Statistics.{sum_of};
@@ -12,7 +12,7 @@ ghost use Rattle.vortex_scalar_value.specs.Numbers.{integer_of, raw_of_number};
 ghost use Rattle.vortex_scalar_value.specs.View.{raw_of};
 ghost use Rattle.vortex_table_chunk.specs.zones.Bounds.{bound_in, IsBoundsOf};
 ghost use Rattle.vortex_table_chunk.specs.zones.Kinds.{IsOfKindOf, HasKindsOf};
-ghost use Rattle.vortex_table_chunk.specs.zones.Sums.{int_kind_of, known_sum};
+ghost use Rattle.vortex_table_chunk.specs.zones.Sums.{int_kind_of, known_sum, is_sum_of};
 
 use crate::zones::bounds::{Bound, ColumnBounds};
 use std::alloc::AllocError;
@@ -157,6 +157,7 @@ impl ColumnBounds {
         ensures statistics { IfOk result (λ new. (L : ℕ) (values : List Content)
             → IsBoundsOf L self.now values
             → known_sum sum ≡ sum_in (sum_kind (type_of dtype.now)) (sum_of values)
+            → is_sum_of (sum_kind (type_of dtype.now)) sum ≡ true
             → IsBoundsOf L new values) }
         ensures sum_type { IfOk result
             (λ new. int_kind_of new.sum_type ≡ sum_kind (type_of dtype.now)) }

@@ -1,14 +1,18 @@
 //! The statistics of two neighbouring groups of rows of a column as those of one.
 ghost use Rattle.std.specs.Prelude.{◌≡◌, ◌<◌, ◌+◌, ◌+ℤ◌, ◌^◌, ◌∷◌, [], true, IfOk, if◌then◌else◌, not, ◌&&◌, ◌||◌};
+ghost use Rattle.vortex_model.specs.LogicalType.{LogicalType};
 ghost use Rattle.vortex_model_table.specs.Statistics.{exact, least_value, greatest_value};
 ghost use Rattle.vortex_model_table.specs.ZoneMap.{bound_among, sum_in, joined_total, joined_constant};
 ghost use Rattle.vortex_dtype_ptype.specs.Numbers.{int_kind_in};
 ghost use Rattle.vortex_dtype_ptype.specs.View.{number_kind_of};
 ghost use Rattle.vortex_scalar_value.specs.Numbers.{integer_of};
+ghost use Rattle.vortex_scalar_value.specs.View.{raw_of};
+ghost use Rattle.vortex_table_chunk.specs.zones.Alike.{said_by};
 ghost use Rattle.vortex_table_chunk.specs.zones.Bounds.{bound_content, bound_in};
 ghost use Rattle.vortex_table_chunk.specs.zones.Constancy.{known_constancy};
 ghost use Rattle.vortex_table_chunk.specs.zones.Join.{BothCompare, IsJoinOf};
-ghost use Rattle.vortex_table_chunk.specs.zones.Sums.{int_kind_of, known_sum};
+ghost use Rattle.vortex_table_chunk.specs.zones.Sums.{int_kind_of, known_sum, is_sum_of};
+ghost use Rattle.vortex_table_chunk.specs.zones.Typed.{is_value_of, is_said_of};
 
 use crate::zones::bounds::{Bound, ColumnBounds};
 use crate::zones::order::is_at_most;
@@ -29,6 +33,10 @@ fn end_of(
     ensures shortened { IfOk result (λ bound. bound.shortened
         ≡ (if is_first then first.now.shortened && (second.now.shortened || not is_second)
         else second.now.shortened)) }
+    ensures kind { IfOk result (λ bound. (k : LogicalType)
+        → is_value_of k (raw_of first.now.value) ≡ true
+        → is_value_of k (raw_of second.now.value) ≡ true
+        → is_value_of k (raw_of bound.value) ≡ true) }
 {
     if is_first {
         let value = first.value.clone()?;
@@ -44,8 +52,10 @@ fn end_of(
 
 // A bound from below of the rows of both sides. Nothing is known of both where nothing is of one.
 fn joined_low(left: &Option<Bound>, right: &Option<Bound>) -> Result<Option<Bound>, AllocError>
-    ensures { IfOk result (λ low. BothCompare (bound_in left.now) (bound_in right.now)
+    ensures bound { IfOk result (λ low. BothCompare (bound_in left.now) (bound_in right.now)
         → bound_in low ≡ bound_among least_value (bound_in left.now ∷ bound_in right.now ∷ [])) }
+    ensures kind { IfOk result (λ low. (k : LogicalType) → is_said_of k (said_by left.now) ≡ true
+        → is_said_of k (said_by right.now) ≡ true → is_said_of k (said_by low) ≡ true) }
 {
     let Some(left) = left else {
         return Ok(None);
@@ -61,9 +71,11 @@ fn joined_low(left: &Option<Bound>, right: &Option<Bound>) -> Result<Option<Boun
 
 // A bound from above of the rows of both sides.
 fn joined_high(left: &Option<Bound>, right: &Option<Bound>) -> Result<Option<Bound>, AllocError>
-    ensures { IfOk result (λ high. BothCompare (bound_in left.now) (bound_in right.now)
+    ensures bound { IfOk result (λ high. BothCompare (bound_in left.now) (bound_in right.now)
         → bound_in high
         ≡ bound_among greatest_value (bound_in left.now ∷ bound_in right.now ∷ [])) }
+    ensures kind { IfOk result (λ high. (k : LogicalType) → is_said_of k (said_by left.now) ≡ true
+        → is_said_of k (said_by right.now) ≡ true → is_said_of k (said_by high) ≡ true) }
 {
     let Some(left) = left else {
         return Ok(None);
@@ -105,15 +117,17 @@ fn sum_of(left: PValue, right: PValue) -> i128
 
 // The number as one of a kind of integers that holds it.
 fn of_kind(ptype: PType, number: i128) -> Option<PValue>
-    ensures { known_sum result ≡ sum_in (int_kind_in (number_kind_of ptype)) number }
+    ensures number { known_sum result ≡ sum_in (int_kind_in (number_kind_of ptype)) number }
+    ensures kind { is_sum_of (int_kind_in (number_kind_of ptype)) result ≡ true }
 {
     PValue::of(ptype, number)
 }
 
 // The sum as a number of the type, where that holds it.
 fn sum_of_kind(ptype: PType, left: PValue, right: PValue) -> Option<PValue>
-    ensures { known_sum result
+    ensures number { known_sum result
         ≡ sum_in (int_kind_in (number_kind_of ptype)) (integer_of left +ℤ integer_of right) }
+    ensures kind { is_sum_of (int_kind_in (number_kind_of ptype)) result ≡ true }
 {
     let sum = sum_of(left, right);
     of_kind(ptype, sum)
@@ -122,8 +136,9 @@ fn sum_of_kind(ptype: PType, left: PValue, right: PValue) -> Option<PValue>
 impl ColumnBounds {
     // The sum of both, where each is there and its type holds it.
     fn joined_sum(&self, other: &ColumnBounds) -> Option<PValue>
-        ensures { known_sum result ≡ joined_total (int_kind_of self.now.sum_type)
+        ensures number { known_sum result ≡ joined_total (int_kind_of self.now.sum_type)
             (known_sum self.now.sum) (known_sum other.now.sum) }
+        ensures kind { is_sum_of (int_kind_of self.now.sum_type) result ≡ true }
     {
         let ptype = self.sum_type?;
         let left = self.sum?;

@@ -1,11 +1,11 @@
 use Rattle.std.proofs.Common.{◌≡◌, ◌<◌, sym, subst, ap, ◌∙◌, refl, true, length, get_or, arith}
 use Rattle.vortex_model.specs.Kept.{is_leaf_at}
 use Rattle.vortex_model_table.specs.Scan.{kind_at}
-use Rattle.vortex_model_table.specs.Typing.{sum_kind}
 use Rattle.vortex_model_table.specs.ZoneMap.{values_at}
 use Rattle.vortex_arrays_model.specs.Layout.{array_type_of, rows_of}
 use Rattle.vortex_table_chunk.specs.zones.Bounds.{IsBoundsOf}
-use Rattle.vortex_table_chunk.proofs.LeafBounds.{leaf_pushed, sum_pushed}
+use Rattle.vortex_table_chunk.specs.zones.Typed.{is_typed_as}
+use Rattle.vortex_table_chunk.proofs.LeafBounds.{leaf_pushed, type_pushed}
 use Rattle.vortex_table_chunk.proofs.LeafPlaces.{leaf_leads}
 use Rattle.vortex_table_chunk.proofs.bounds.all_bounds.Goals as goal
 
@@ -29,7 +29,7 @@ loop-index-preserved c =
       leaf_pushed lengths c.args.leaves.now i 0 L c.index-leaves-index.result c.loop-index.all.items c.push.new.self.items b rows
           within refl c.loop-index-test.true c.index-leaves-index.is c.in_ok-push.ensures.items c.loop-index.invariant.0
           (subst (λ is. IsBoundsOf L b (values_at is rows)) c.as_slice.ensures c.in_ok-bounds.ensures.statistics),
-      sum_pushed k c.args.leaves.now i c.index-leaves-index.result c.loop-index.all.items c.push.new.self.items b
+      type_pushed k c.args.leaves.now i c.index-leaves-index.result c.loop-index.all.items c.push.new.self.items b
           c.loop-index-test.true c.index-leaves-index.is c.in_ok-push.ensures.items c.loop-index.invariant.1
-          (c.in_ok-bounds.ensures.sums ∙ ap (λ is. sum_kind (kind_at k is)) c.as_slice.ensures),
+          (subst (λ is. is_typed_as (kind_at k is) b ≡ true) c.as_slice.ensures c.in_ok-bounds.ensures.types),
     )

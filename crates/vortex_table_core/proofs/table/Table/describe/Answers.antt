@@ -2,6 +2,8 @@ use Rattle.std.proofs.Common.{◌≡◌, ◌<◌, Some, refl, sym, ◌∙◌, su
 use Rattle.std.proofs.lemmas.Grind.{common_steps}
 use Rattle.vortex_dtype_core.specs.View.{type_of}
 use Rattle.vortex_model_table.specs.Reply.{Describes}
+use Rattle.vortex_model_table.specs.Scan.{kind_at}
+use Rattle.vortex_table_plan.specs.Described.{IsOfLeaf}
 use Rattle.vortex_table_chunk.specs.Chunk.{chunk_rows}
 use Rattle.vortex_table_chunk.specs.Joined.{IsJoined, rows_in}
 use Rattle.vortex_table_chunk.specs.zones.Join.{zone_in}
@@ -9,7 +11,7 @@ use Rattle.vortex_table_core.specs.Group.{chunks_of}
 use Rattle.vortex_table_core.specs.Statistics.{statistics_at}
 use Rattle.vortex_table_core.specs.TableView.{table_of}
 use Rattle.vortex_table_core.proofs.Described.{chunks_typed, column_described}
-use Rattle.vortex_table_plan.proofs.DescribedBounds.{leaf_bounds}
+use Rattle.vortex_table_plan.proofs.DescribedBounds.{leaf_bounds, joined_types}
 use Rattle.vortex_table_core.proofs.JoinedGroups.{same_at}
 use Rattle.vortex_table_schema.proofs.LeafPlaces.{leaf_part, one_of}
 use Rattle.vortex_table_schema.specs.Lengths.{length_in}
@@ -52,3 +54,16 @@ returns-clause-statistics c =
       subst (λ is. statistics_at t is i ≡ Some b) (c.deref.ensures.value ∙ sym c.in_ok-place.ensures.place) c.leaf_statistics-statistics.ensures.own,
       record { contents = λ n. c.in_ok-description.ensures.described n bounds; types = c.in_ok-description.ensures.types },
     )
+
+pub returns-clause-types : goal.returns-clause-types
+returns-clause-types c =
+    let t = c.args.self.now in let k = type_of t.dtype in let i = c.args.group in let all = t.groups in
+    let inside : i < length all = grind (arith, common_steps) in
+    let d = one_of all i inside in let place = c.in_ok-place.place.items in
+    let leaf = leaf_part k place c.in_ok-place.ensures.leaf in
+    let b = c.leaf_statistics-statistics.result.now in
+    let rows = map chunk_rows (chunks_of t.chunks.items (get_or all i d)) in
+    let joined : ∥ IsJoined k (length_in t.bound_lengths) place b rows ∥₁ =
+    subst (λ is. ∥ IsJoined k (length_in t.bound_lengths) is b rows ∥₁) c.deref.ensures.value (c.leaf_statistics-statistics.ensures.joined d) in
+    subst (λ is. IsOfLeaf (kind_at k is) c.in_ok-description.description) (sym c.in_ok-place.ensures.place)
+    (joined_types k (length_in t.bound_lengths) place leaf.part b rows c.in_ok-description.description leaf.there leaf.leaf joined c.in_ok-description.ensures.types)

@@ -7,7 +7,7 @@ use Rattle.vortex_model_table.specs.Table.{rows_of as table_rows}
 use Rattle.vortex_arrays_model.specs.Layout.{len_of, array_type_of, rows_of}
 use Rattle.vortex_arrays_model.proofs.RowsLemmas.{row_count as rows_counted}
 use Rattle.vortex_dtype_core.specs.View.{type_of}
-use Rattle.vortex_table_chunk.specs.Bounds.{are_sums_of}
+use Rattle.vortex_table_chunk.specs.Bounds.{are_typed_at}
 use Rattle.vortex_table_chunk.specs.Chunk.{chunk_rows, row_count}
 use Rattle.vortex_table_chunk.specs.Formed.{is_formed}
 use Rattle.vortex_table_chunk.specs.declared.chunk.Chunk.{Chunk}
@@ -55,9 +55,9 @@ invariant_of-self-2 c =
     let n = c.len-rows.ensures.count in
     let len : len_of chunk.array ≡ len_of c.args.array = ap len_of made.array in
     let some : 0 < len_of chunk.array = omega (arith, c.if-rows-eq0.false, n, len) in
-    let sums : are_sums_of k chunk.leaves.value.items chunk.bounds.items ≡ true = ap (λ x. are_sums_of x chunk.leaves.value.items chunk.bounds.items) (sym c.requires) ∙ made.sums in
+    let types : are_typed_at k chunk.leaves.value.items chunk.bounds.items ≡ true = ap (λ x. are_typed_at x chunk.leaves.value.items chunk.bounds.items) (sym c.requires) ∙ made.types in
     let one : is_formed L k chunk ≡ true = formed_so L k chunk some (ap array_type_of made.array ∙ c.requires)
-    (made.leaves ∙ leaves_so t.leaves.value.items (leaf_positions k) t.led) (made.lengths ∙ lengths_so L k t.lengths.value.items t.measured) sums in
+    (made.leaves ∙ leaves_so t.leaves.value.items (leaf_positions k) t.led) (made.lengths ∙ lengths_so L k t.lengths.value.items t.measured) types in
     let g : Group = record { first = c.len-index.result; chunks = 1; rows = c.len-rows.result; joined = None } in
     let count : g.rows ≡ len_of chunk.array = n ∙ sym len in
     let size = c.len-index.ensures in let same = t.chunks.ok.0 in

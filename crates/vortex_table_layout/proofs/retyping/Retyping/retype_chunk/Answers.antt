@@ -3,7 +3,7 @@ use Rattle.vortex_model_table.specs.Command.{first_unconvertible}
 use Rattle.vortex_arrays_model.specs.Layout.{array_type_of, rows_of}
 use Rattle.vortex_arrays_model.proofs.RowsLemmas.{row_count}
 use Rattle.vortex_table_schema.specs.Error.{Explains}
-use Rattle.vortex_table_chunk.specs.Bounds.{are_sums_of}
+use Rattle.vortex_table_chunk.specs.Bounds.{are_typed_at}
 use Rattle.vortex_table_chunk.specs.Chunk.{chunk_rows}
 use Rattle.vortex_table_chunk.proofs.Formed.{some_rows, of_type, formed_so}
 use Rattle.vortex_table_layout.specs.Retyping.{source_of, target_of, lengths_of}
@@ -29,7 +29,7 @@ returns-clause-formed c =
     let some = some_rows L (source_of r) chunk c.requires.formed in
     let typed = c.in_ok-array.ensures.dtype in
     formed_so L t new (omega (arith, count, some)) (ap array_type_of array ∙ typed) (c.in_ok-new.ensures.leaves ∙ c.requires.retyping.leaves) (c.in_ok-new.ensures.lengths ∙ c.requires.retyping.lengths)
-    (subst (λ k. are_sums_of k new.leaves.value.items new.bounds.items ≡ true) typed c.in_ok-new.ensures.sums)
+    (subst (λ k. are_typed_at k new.leaves.value.items new.bounds.items ≡ true) typed c.in_ok-new.ensures.types)
 
 pub returns-clause-converts : goal.returns-clause-converts
 returns-clause-converts c =

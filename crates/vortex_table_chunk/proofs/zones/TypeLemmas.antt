@@ -1,0 +1,204 @@
+-- Statistics of a leaf as values of its type, nullability aside.
+use Rattle.std.proofs.Common.{◌≡◌, refl, sym, ◌∙◌, ap, subst, ℕ, List, true, false, Bool, ◌&&◌, Option, Some, None, IfSome}
+use Rattle.std.specs.List.{AllByRecursion}
+use Rattle.vortex_model.specs.LogicalType.{LogicalType, null_only, boolean_type, integer_type, float, decimal, utf8, binary, list, fixed_list, mapping, struct, union, variant, extension, IntKind, u8, u16, u32, u64, i8, i16, i32, i64, eq_int_kind, Nullability, non_nullable, nullable, with_nullability, nullable_inside}
+use Rattle.vortex_model.specs.Content.{Content, content_of, Raw, raw_null, raw_boolean, raw_number, raw_text, raw_byte_string}
+use Rattle.vortex_model.specs.Kept.{is_leaf}
+use Rattle.vortex_model.specs.Valid.{IsContent, valid, in_range}
+use Rattle.vortex_model_table.specs.Typing.{sum_kind}
+use Rattle.vortex_model_table.specs.ZoneMap.{bound_of, value_in}
+use Rattle.vortex_model_table.proofs.ContentOrder.{true_left, true_right}
+use Rattle.vortex_dtype_ptype.specs.Numbers.{NumberKind, integral, int_kind_in}
+use Rattle.vortex_dtype_core.specs.Parts.{numbers_in_type}
+use Rattle.vortex_scalar_value.specs.Numbers.{kind_of_number}
+use Rattle.vortex_scalar_value.specs.View.{raw_of}
+use Rattle.vortex_scalar_value.specs.declared.pvalue.PValue.{PValue}
+use Rattle.vortex_stats_array.specs.Sums.{IsSumIn}
+use Rattle.vortex_stats_array.proofs.OwnTypes.{last_nullability}
+use Rattle.vortex_table_chunk.specs.declared.zones.bounds.Bound.{Bound}
+use Rattle.vortex_table_chunk.specs.declared.zones.bounds.ColumnBounds.{ColumnBounds}
+use Rattle.vortex_table_chunk.specs.zones.Alike.{said_by}
+use Rattle.vortex_table_chunk.specs.zones.Bounds.{bound_content, bound_in, IsBoundsOf}
+use Rattle.vortex_table_chunk.specs.zones.Kinds.{IsOfKind, IsOfKindOf, HasKindsOf}
+use Rattle.vortex_table_chunk.specs.zones.Sums.{int_kind_of, eq_sum_kind, is_sum_of}
+use Rattle.vortex_table_chunk.specs.zones.Typed.{is_value_of, is_said_of, is_typed_as}
+use Rattle.vortex_table_chunk.proofs.zones.Forms.{Fits, FormIn, values_low, values_high}
+
+-- ---- kinds
+
+eq_itself : (i : IntKind) → eq_int_kind i i ≡ true
+eq_itself u8 = refl
+eq_itself u16 = refl
+eq_itself u32 = refl
+eq_itself u64 = refl
+eq_itself i8 = refl
+eq_itself i16 = refl
+eq_itself i32 = refl
+eq_itself i64 = refl
+
+kind_itself : (o : Option IntKind) → eq_sum_kind o o ≡ true
+kind_itself None = refl
+kind_itself (Some i) = eq_itself i
+
+pub same_kind : (i j : IntKind) → eq_int_kind i j ≡ true → i ≡ j
+same_kind u8 u8 h = refl
+same_kind u16 u16 h = refl
+same_kind u32 u32 h = refl
+same_kind u64 u64 h = refl
+same_kind i8 i8 h = refl
+same_kind i16 i16 h = refl
+same_kind i32 i32 h = refl
+same_kind i64 i64 h = refl
+same_kind i j h = absurd (cc (h))
+
+pub same_sum_kind : (o p : Option IntKind) → eq_sum_kind o p ≡ true → o ≡ p
+same_sum_kind None None h = refl
+same_sum_kind (Some i) (Some j) h = ap Some (same_kind i j h)
+same_sum_kind o p h = absurd (cc (h))
+
+-- ---- sums
+
+-- a number of some kind of numbers is a sum of that kind of integers
+pub number_sum : (o : Option PValue) (k : NumberKind) → IfSome o (λ v. integral (kind_of_number v) ≡ k) → is_sum_of (int_kind_in k) o ≡ true
+number_sum None k h = refl
+number_sum (Some v) k h = ap (λ o. eq_sum_kind (Some (kind_of_number v)) o) (sym (ap int_kind_in h)) ∙ eq_itself (kind_of_number v)
+
+pub sum_in_type : (k : LogicalType) (s : Option IntKind) (o : Option PValue) → s ≡ sum_kind k → IsSumIn k o → is_sum_of s o ≡ true
+sum_in_type k s None e h = refl
+sum_in_type k s (Some v) e h = (λ i. eq_sum_kind (h i) (e i)) ∙ kind_itself (sum_kind k)
+
+-- ---- the three parts
+
+pub typed_as : (k : LogicalType) (b : ColumnBounds) → int_kind_of b.sum_type ≡ sum_kind k → is_said_of k (said_by b.low) ≡ true → is_said_of k (said_by b.high) ≡ true → is_typed_as k b ≡ true
+typed_as k b sums low high = λ i. (ap (λ o. eq_sum_kind o (sum_kind k)) sums ∙ kind_itself (sum_kind k)) i && (low i && high i)
+
+module _ (k : LogicalType) (b : ColumnBounds) (typed : is_typed_as k b ≡ true) where
+  abbrev sum_test : Bool
+  sum_test = eq_sum_kind (int_kind_of b.sum_type) (sum_kind k)
+
+  abbrev low_test : Bool
+  low_test = is_said_of k (said_by b.low)
+
+  abbrev high_test : Bool
+  high_test = is_said_of k (said_by b.high)
+
+  pub typed_sum : int_kind_of b.sum_type ≡ sum_kind k
+  typed_sum = same_sum_kind (int_kind_of b.sum_type) (sum_kind k) (true_left sum_test (low_test && high_test) typed)
+
+  pub typed_low : low_test ≡ true
+  typed_low = true_left low_test high_test (true_right sum_test (low_test && high_test) typed)
+
+  pub typed_high : high_test ≡ true
+  typed_high = true_right low_test high_test (true_right sum_test (low_test && high_test) typed)
+
+-- of two neighbours as one
+pub typed_join : (a b both : ColumnBounds) → both.sum_type ≡ a.sum_type →
+    ((k : LogicalType) → is_said_of k (said_by a.low) ≡ true → is_said_of k (said_by b.low) ≡ true → is_said_of k (said_by both.low) ≡ true) →
+    ((k : LogicalType) → is_said_of k (said_by a.high) ≡ true → is_said_of k (said_by b.high) ≡ true → is_said_of k (said_by both.high) ≡ true) →
+    (k : LogicalType) → is_typed_as k a ≡ true → is_typed_as k b ≡ true → is_typed_as k both ≡ true
+typed_join a b both sum_type low high k p q =
+    typed_as k both (ap int_kind_of sum_type ∙ typed_sum k a p) (low k (typed_low k a p) (typed_low k b q)) (high k (typed_high k a p) (typed_high k b q))
+
+-- ---- valid values
+
+pub valid_value : (k : LogicalType) (r : Raw) → is_leaf k ≡ true → valid k r ≡ true → is_value_of k r ≡ true
+valid_value (boolean_type n) raw_null w h = refl
+valid_value (boolean_type n) (raw_boolean b) w h = refl
+valid_value (boolean_type n) r w h = absurd (cc (h))
+valid_value (integer_type i n) raw_null w h = refl
+valid_value (integer_type i n) (raw_number j z) w h = true_left (eq_int_kind j i) (in_range i z) h
+valid_value (integer_type i n) r w h = absurd (cc (h))
+valid_value (utf8 n) raw_null w h = refl
+valid_value (utf8 n) (raw_text v) w h = refl
+valid_value (utf8 n) r w h = absurd (cc (h))
+valid_value (binary n) raw_null w h = refl
+valid_value (binary n) (raw_byte_string v) w h = refl
+valid_value (binary n) r w h = absurd (cc (h))
+valid_value k r w h = absurd (cc (w))
+
+pub ruleset valids = (valid_value, sum_in_type)
+
+-- ---- nullability aside
+
+sum_aside : (n : Nullability) (k : LogicalType) → sum_kind (with_nullability n k) ≡ sum_kind k
+sum_aside n null_only = refl
+sum_aside n (boolean_type m) = refl
+sum_aside n (integer_type u8 m) = refl
+sum_aside n (integer_type u16 m) = refl
+sum_aside n (integer_type u32 m) = refl
+sum_aside n (integer_type u64 m) = refl
+sum_aside n (integer_type i8 m) = refl
+sum_aside n (integer_type i16 m) = refl
+sum_aside n (integer_type i32 m) = refl
+sum_aside n (integer_type i64 m) = refl
+sum_aside n (float f m) = refl
+sum_aside n (decimal p s m) = refl
+sum_aside n (utf8 m) = refl
+sum_aside n (binary m) = refl
+sum_aside n (list k m) = refl
+sum_aside n (fixed_list k j m) = refl
+sum_aside n (mapping k v s m) = refl
+sum_aside n (struct fs m) = refl
+sum_aside n (union vs m) = refl
+sum_aside n (variant m) = refl
+sum_aside n (extension id meta k) = refl
+
+numbers_aside : (n : Nullability) (k : LogicalType) → numbers_in_type (with_nullability n k) ≡ numbers_in_type k
+numbers_aside n null_only = refl
+numbers_aside n (boolean_type m) = refl
+numbers_aside n (integer_type i m) = refl
+numbers_aside n (float f m) = refl
+numbers_aside n (decimal p s m) = refl
+numbers_aside n (utf8 m) = refl
+numbers_aside n (binary m) = refl
+numbers_aside n (list k m) = refl
+numbers_aside n (fixed_list k j m) = refl
+numbers_aside n (mapping k v s m) = refl
+numbers_aside n (struct fs m) = refl
+numbers_aside n (union vs m) = refl
+numbers_aside n (variant m) = refl
+numbers_aside n (extension id meta k) = refl
+
+pub inside_aside : (n : Nullability) (k : LogicalType) → with_nullability nullable (nullable_inside n k) ≡ with_nullability nullable k
+inside_aside non_nullable k = refl
+inside_aside nullable k = last_nullability nullable nullable k
+
+module _ (k part : LogicalType) (same : with_nullability nullable k ≡ with_nullability nullable part) where
+  pub same_sums : sum_kind k ≡ sum_kind part
+  same_sums = sym (sum_aside nullable k) ∙ ap sum_kind same ∙ sum_aside nullable part
+
+  same_numbers : numbers_in_type k ≡ numbers_in_type part
+  same_numbers = sym (numbers_aside nullable k) ∙ ap numbers_in_type same ∙ numbers_aside nullable part
+
+  kinds_as : (o : Option Bound) → IfSome o (λ b. IsOfKindOf k (raw_of b.value)) → IfSome o (λ b. IsOfKindOf part (raw_of b.value))
+  kinds_as None h = tt
+  kinds_as (Some b) h = λ i e. h i (same_numbers ∙ e)
+
+-- ---- converted values
+
+value_fits : (k : LogicalType) (r : Raw) → Fits k (content_of r) → IsOfKindOf k r → is_value_of k r ≡ true
+value_fits (boolean_type n) (raw_boolean b) f h = refl
+value_fits (boolean_type n) r f h = absurd f
+value_fits (integer_type i n) (raw_number j z) f h = ap (λ l. eq_int_kind l i) (h i refl f) ∙ eq_itself i
+value_fits (integer_type i n) r f h = absurd f
+value_fits (utf8 n) (raw_text v) f h = refl
+value_fits (utf8 n) r f h = absurd f
+value_fits (binary n) (raw_byte_string v) f h = refl
+value_fits (binary n) r f h = absurd f
+value_fits k r f h = absurd f
+
+fits_of : (k : LogicalType) (shortened : Bool) (c : Content) → FormIn k (value_in (bound_of shortened c)) → Fits k c
+fits_of k true c h = h
+fits_of k false c h = h
+
+said_fits : (k : LogicalType) (o : Option Bound) → FormIn k (value_in (bound_in o)) → IfSome o (λ b. IsOfKindOf k (raw_of b.value)) → is_said_of k (said_by o) ≡ true
+said_fits k None f h = refl
+said_fits k (Some b) f h = value_fits k (raw_of b.value) (fits_of k b.shortened (bound_content b) f) h
+
+-- bounds of a type's values, in the kind of its integers
+pub typed_so : (k part : LogicalType) (L : ℕ) (b : ColumnBounds) (cs : List Content) → with_nullability nullable k ≡ with_nullability nullable part → is_leaf part ≡ true → AllByRecursion (IsContent part) cs →
+    IsBoundsOf L b cs → HasKindsOf k b → int_kind_of b.sum_type ≡ sum_kind k → is_typed_as part b ≡ true
+typed_so k part L b cs same leaf typed honest kinds sums =
+    typed_as part b (sums ∙ same_sums k part same)
+    (said_fits part b.low (subst (λ p. FormIn part (value_in p)) (sym honest.low) (values_low part L cs leaf typed)) (kinds_as k part same b.low kinds.low))
+    (said_fits part b.high (subst (λ p. FormIn part (value_in p)) (sym honest.high) (values_high part L cs leaf typed)) (kinds_as k part same b.high kinds.high))
