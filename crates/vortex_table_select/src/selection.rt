@@ -3,7 +3,6 @@ ghost use Rattle.std.specs.Prelude.{◌≡◌, ◌<◌, map, All, IfOk};
 ghost use Rattle.std.specs.Coded.{le_prop};
 ghost use Rattle.vortex_arrays_model.specs.Layout.{len_of};
 ghost use Rattle.vortex_table_schema.specs.Cut.{tree_of, part_of_field};
-ghost use Rattle.vortex_table_select.specs.Cloned.{IsSameSelection, AreSameRows, IsSameAnswer};
 
 use std::alloc::AllocError;
 use vortex_arrays_core::array::ArrayRef;
@@ -22,6 +21,8 @@ pub struct Selection {
 }
 
 impl Clone for Selection {
+    ghost use Rattle.vortex_table_select.specs.Cloned.{IsSameSelection};
+
     ghost is_clone = { IsSameSelection };
 
     // The array is shared.
@@ -44,6 +45,8 @@ pub struct ScanSelection {
 }
 
 impl Clone for ScanSelection {
+    ghost use Rattle.vortex_table_select.specs.Cloned.{AreSameRows};
+
     ghost is_clone = { AreSameRows };
 
     fn clone(&self) -> Result<ScanSelection, AllocError> {
@@ -71,6 +74,9 @@ pub struct LazyAnswer {
 }
 
 impl LazyAnswer {
+    ghost use Rattle.std.specs.Prelude.{IfOk};
+    ghost use Rattle.vortex_table_select.specs.Cloned.{IsSameAnswer};
+
     /// The answer once more. The arrays are shared.
     pub fn clone(&self) -> Result<LazyAnswer, AllocError>
         ensures { IfOk result (λ new. IsSameAnswer self.now new) }
