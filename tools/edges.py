@@ -17,7 +17,7 @@ import sys
 sys.dont_write_bytecode = True
 import sources
 
-MOST_LINES = 1600
+MOST_LINES = 1650
 MOST_FUNCTIONS = 110
 FUNCTION = re.compile(r"\bfn\s+\w+")
 # Also of a macro, whose functions are named by what it is given.

@@ -10,8 +10,8 @@ So in code a value of these names may be made only
 - in an arm of a `match`, a branch of an `if` or a closure, where the pattern, the condition or the
   parameters say that there is such a value already (each alternative of the pattern).
 
-A body can also ask for more than there is: so no request may be of a number that is large whatever
-came in, as `usize::MAX` or a name that a `let` or `const` gives one.
+A body can also ask for more than there is: so no request, by a call or by `vec!`, may be of a number
+that is large whatever came in, as `usize::MAX` or a name that a `let` or `const` gives one.
 
 Clauses and ghost items are no code. Every other place is printed; the last line counts, and the
 status is 1 if there is one.
@@ -29,7 +29,7 @@ TESTS = {"is_memory", "is_out_of_memory"}
 # The calls that ask for memory by a number of items.
 REQUESTS = {"with_capacity", "reserve", "reserve_exact", "resize"}
 # What makes a number large by itself: words, and the least literal.
-LARGE_WORDS = re.compile(r"MAX|<<|!|pow|wrapping_\w+|saturating_\w+")
+LARGE_WORDS = re.compile(r"MAX|<<|!|pow|wrapping_\w+|saturating_(?!sub$|div$)\w+")
 LARGE = 1 << 30
 TOKEN = re.compile(r"\w+|::|=>|->|==|!=|<=|>=|<<|&&|\|\||\.\.=?|[^\w\s]")
 CLOSES = {"(": ")", "[": "]", "{": "}"}
@@ -236,6 +236,9 @@ class Walk:
         elif word in REQUESTS and at + 1 < len(nodes) and nodes[at + 1].text == "(":
             if self.is_large(nodes[at + 1].inner):
                 self.report(node, "%s: %s of a large number" % (name, word))
+        elif word == "vec" and at + 2 < len(nodes) and nodes[at + 1].text == "!":
+            if self.is_large(split(nodes[at + 2].inner, ";")[-1]):
+                self.report(node, "%s: vec! of a large number" % name)
         return at + 1
 
     def skip(self, nodes, at):
@@ -312,14 +315,16 @@ class Walk:
     def is_large(self, nodes):
         """Whether an expression has a number that is large whatever came in. In a call it may be
         anything, so what a group holds counts as what stands beside it."""
+        before = ""
         for node in nodes:
             if node.inner is not None:
                 if not node.is_block() and self.is_large(node.inner):
                     return True
-            elif LARGE_WORDS.fullmatch(node.text) or node.text in self.large:
+            elif LARGE_WORDS.fullmatch(node.text) or large_number(node.text):
                 return True
-            elif large_number(node.text):
+            elif node.text in self.large and before != ".":
                 return True
+            before = node.text
         return False
 
 

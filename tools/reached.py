@@ -1,8 +1,9 @@
 #!/usr/bin/env python3
-"""Writes docs/TRUSTED.md: the definitions that the contract of `run` rests on.
+"""Writes docs/TRUSTED.md: the definitions that the contract of `run` rests on, and how many lines
+they are into README.md.
 
-reached.py            writes the page
-reached.py --check    writes nothing; the status is 1 if the page is not as it would be written
+reached.py            writes both
+reached.py --check    writes nothing; the status is 1 if a page is not as it would be written
 
 A contract names definitions by the `ghost use` lines of its file. From these each definition of
 the files below specs/ is followed to those that it names in turn: of its own file, and of those
@@ -20,6 +21,9 @@ sys.dont_write_bytecode = True
 import sources
 
 PAGE = os.path.join(sources.TOP, "docs", "TRUSTED.md")
+README = os.path.join(sources.TOP, "README.md")
+# Where README says how many they are.
+FIGURE = re.compile(r"\d+ lines of definitions in \d+ files")
 # The file of the contract, and that of the traits of its reader and its writer.
 CONTRACTS = (("vortex_table_run", "commands.rt"), ("vortex_table_io", "traits.rt"))
 HEAD = """# What a reader of the headline has to trust
@@ -153,10 +157,12 @@ def reached():
     return found, types
 
 
-def page():
+def pages():
+    """The text that each page is to have."""
     found, types = reached()
     order = [*sources.crates()]
     count = {it: sum(len(each.lines) for each in found[it]) for it in found}
+    figure = "%d lines of definitions in %d files" % (sum(count.values()), len(count))
     text = [HEAD.rstrip("\n") % (sum(count.values()), len(count)), ""]
     text += ["| Crate | File | Definitions | Lines |", "|---|---|---|---|"]
     for words in sorted(count, key=lambda it: (order.index(it[0]), it)):
@@ -167,16 +173,17 @@ def page():
     text += ["| Crate | Type |", "|---|---|"]
     for crate, name in sorted(types, key=lambda it: (order.index(it[0]), it)):
         text.append("| `%s` | `%s` |" % (crate, name))
-    return "\n".join(text) + "\n"
+    readme = FIGURE.sub(figure, sources.page_text(README))
+    return {PAGE: "\n".join(text) + "\n", README: readme}
 
 
 def check(made):
-    """Whether the page is as it would be written."""
-    there = sources.page_text(PAGE)
-    if there == made:
-        print("reached: docs/TRUSTED.md is as the definitions are")
+    """Whether each page is as it would be written, and README says how many lines they are."""
+    stale = [it for it in made if sources.page_text(it) != made[it]]
+    if not stale and FIGURE.search(made[README]):
+        print("reached: the pages are as the definitions are")
         return 0
-    print("reached: docs/TRUSTED.md is not as the definitions are: run tools/reached.py")
+    print("reached: docs/TRUSTED.md or README.md is not as the definitions are: run tools/reached.py")
     return 1
 
 
@@ -184,11 +191,12 @@ def main(words):
     if words not in ([], ["--check"]):
         print("reached: it takes --check or nothing", file=sys.stderr)
         return 2
-    made = page()
+    made = pages()
     if words:
         return check(made)
-    with open(PAGE, "w", encoding="utf-8") as file:
-        file.write(made)
+    for path, text in made.items():
+        with open(path, "w", encoding="utf-8") as file:
+            file.write(text)
     return 0
 
 

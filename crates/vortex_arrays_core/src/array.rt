@@ -34,7 +34,6 @@ pub struct ArrayData {
 
 /// What stands for the values.
 #[cycle(array)]
-#[derive(Clone)]
 pub enum ArrayLayout {
     /// Truth values.
     Bool(BitBuffer, Validity),
@@ -53,6 +52,43 @@ pub enum ArrayLayout {
     ListView(ArrayRef, ArrayRef, ArrayRef, bool, Validity),
     /// Records: the fields' names, an array for each field, and how many records there are.
     Struct(Rc<FieldNames>, Vec<ArrayRef>, usize, Validity),
+}
+
+impl Clone for ArrayLayout {
+    ghost is_clone = { λ old new. layout_of new ≡ layout_of old };
+
+    // Arrays and buffers are shared.
+    fn clone(&self) -> Result<ArrayLayout, AllocError> {
+        match self {
+            ArrayLayout::Bool(bits, validity) => {
+                Ok(ArrayLayout::Bool(bits.clone()?, validity.clone()?))
+            }
+            ArrayLayout::Primitive(items, validity) => {
+                Ok(ArrayLayout::Primitive(items.clone()?, validity.clone()?))
+            }
+            ArrayLayout::VarBinView(kind, views, buffers, validity) => {
+                let (views, buffers) = (views.clone()?, buffers.clone()?);
+                Ok(ArrayLayout::VarBinView(*kind, views, buffers, validity.clone()?))
+            }
+            ArrayLayout::Constant(scalar, len) => Ok(ArrayLayout::Constant(scalar.clone()?, *len)),
+            ArrayLayout::Dict(codes, values, flag) => {
+                Ok(ArrayLayout::Dict(codes.clone()?, values.clone()?, *flag))
+            }
+            ArrayLayout::FixedSizeList(elements, size, len, validity) => {
+                let elements = elements.clone()?;
+                Ok(ArrayLayout::FixedSizeList(elements, *size, *len, validity.clone()?))
+            }
+            ArrayLayout::ListView(elements, offsets, sizes, flag, validity) => {
+                let (elements, offsets) = (elements.clone()?, offsets.clone()?);
+                let (sizes, validity) = (sizes.clone()?, validity.clone()?);
+                Ok(ArrayLayout::ListView(elements, offsets, sizes, *flag, validity))
+            }
+            ArrayLayout::Struct(names, fields, len, validity) => {
+                let (names, fields) = (names.clone()?, fields.clone()?);
+                Ok(ArrayLayout::Struct(names, fields, *len, validity.clone()?))
+            }
+        }
+    }
 }
 
 impl Drop for ArrayLayout {

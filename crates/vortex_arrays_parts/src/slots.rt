@@ -51,7 +51,7 @@ pub struct DictSlots<'a> {
 }
 
 /// The children of a `StructArray`, as Vortex's `StructSlots`.
-#[derive(Drop)]
+#[derive(Clone, Drop)]
 pub struct StructSlots<'a> {
     /// Which records are null, shared.
     pub validity: Validity,

@@ -5,6 +5,7 @@
 ghost use Rattle.std.specs.Prelude.{◌≡◌, IfOk, IfSome, IfNone, None, []};
 ghost use Rattle.vortex_model_table.specs.Expression.{literal, column, compare, both, either, negation, is_null, is_not_null, is_nan, between, like, row_count, equal, not_equal, greater, at_least, less, at_most, statistic};
 ghost use Rattle.vortex_scalar_core.specs.Scalar.{scalar_type, scalar_content};
+ghost use Rattle.vortex_stats_expr.specs.TreeOf.{tree_of};
 ghost use Rattle.vortex_stats_expr.specs.Tree.{combined, comparison_of, is_strict, path_of, scalar_fn_of};
 ghost use Rattle.vortex_stats_expr.specs.Aggregate.{aggregate_of};
 
@@ -365,15 +366,24 @@ impl Clone for Expression {
     ghost is_clone = { λ old new. new ≡ old };
 
     fn clone(&self) -> Result<Expression, AllocError> {
-        copy_of(self)
+        copy_of(&self.node)
+    }
+}
+
+impl Clone for Node {
+    ghost is_clone = { λ old new. tree_of new ≡ tree_of old };
+
+    fn clone(&self) -> Result<Node, AllocError> {
+        let copy = copy_of(self)?;
+        Ok(copy.node)
     }
 }
 
 #[cycle(copy)]
-fn copy_of(e: &Expression) -> Result<Expression, AllocError>
-    ensures { IfOk result (λ copy. copy ≡ e.now) }
+fn copy_of(node: &Node) -> Result<Expression, AllocError>
+    ensures { IfOk result (λ copy. copy ≡ tree_of node.now) }
 {
-    match &e.node {
+    match node {
         Node::Literal(value) => copy_literal(value),
         Node::Column(path) => copy_column(path),
         Node::Compare(comparison, x, y) => {
@@ -389,19 +399,19 @@ fn copy_of(e: &Expression) -> Result<Expression, AllocError>
             or(*Box::allocator(x), left, right)
         }
         Node::Not(x) => {
-            let input = copy_of(x)?;
+            let input = copy_of(&x.node)?;
             not(*Box::allocator(x), input)
         }
         Node::IsNull(x) => {
-            let input = copy_of(x)?;
+            let input = copy_of(&x.node)?;
             is_null(*Box::allocator(x), input)
         }
         Node::IsNotNull(x) => {
-            let input = copy_of(x)?;
+            let input = copy_of(&x.node)?;
             is_not_null(*Box::allocator(x), input)
         }
         Node::IsNan(x) => {
-            let input = copy_of(x)?;
+            let input = copy_of(&x.node)?;
             is_nan(*Box::allocator(x), input)
         }
         Node::Between(x, lower, upper, options) => {
@@ -413,7 +423,7 @@ fn copy_of(e: &Expression) -> Result<Expression, AllocError>
         }
         Node::RowCount => Ok(row_count()),
         Node::Stat(aggregate, x) => {
-            let input = copy_of(x)?;
+            let input = copy_of(&x.node)?;
             stat(*Box::allocator(x), *aggregate, input)
         }
     }
@@ -431,7 +441,7 @@ fn copy_range(
         (is_strict options.lower_strict) (is_strict options.upper_strict)) }
 {
     let (lower, upper) = copy_both(lower, upper)?;
-    let value = copy_of(value)?;
+    let value = copy_of(&value.node)?;
     between(alloc, value, lower, upper, options)
 }
 
@@ -440,8 +450,8 @@ fn copy_both(left: &Expression, right: &Expression) -> Result<(Expression, Expre
     ensures left { IfOk result (λ copies. copies.0 ≡ left.now) }
     ensures right { IfOk result (λ copies. copies.1 ≡ right.now) }
 {
-    let first = copy_of(left)?;
-    let second = copy_of(right)?;
+    let first = copy_of(&left.node)?;
+    let second = copy_of(&right.node)?;
     Ok((first, second))
 }
 

@@ -222,8 +222,8 @@ pub mod expr {
 /// Laws of tables, each a function that makes the calls that it speaks of.
 pub mod laws {
     pub use vortex_table_laws::laws::{
-        Retypes, retype_in_two_steps, scan_around_append, scan_around_compact, scan_by_false,
-        scan_by_true, scan_by_two_lists, scan_two_tables,
+        Retypes, compact_two_tables, retype_in_two_steps, scan_around_append, scan_around_compact,
+        scan_by_false, scan_by_true, scan_by_two_lists, scan_two_tables,
     };
 }
 

@@ -1,6 +1,6 @@
 -- Chunks whose rows are laid out in another way.
 use Rattle.std.proofs.Common.{◌≡◌, ◌<◌, ◌≤◌, ◌+◌, ◌&&◌, ℕ, zero, suc, nat_lt, List, [], ◌∷◌, ◌++◌, length, map, take, drop, get_or, set, true, Option, Some, None, option_map, refl, sym, ap, subst, ◌∙◌, inl, inr, arith}
-use Rattle.std.specs.List.{list_all}
+use Rattle.std.specs.List.{list_all, Any}
 use Rattle.std.proofs.lemmas.Bool.{cases_eq}
 use Rattle.std.proofs.lemmas.List.{length-map, map-append, take_more, take_all, get_or-map, get_or_default, get_or-set_same, get_or-set_other, length-set}
 use Rattle.vortex_model.specs.LogicalType.{LogicalType, eq_type}
@@ -21,7 +21,7 @@ use Rattle.vortex_table_chunk.specs.declared.zones.bounds.ColumnBounds.{ColumnBo
 use Rattle.vortex_table_chunk.proofs.Formed.{of_type}
 use Rattle.vortex_table_chunk.proofs.TypedRows.{chunk_counted}
 use Rattle.vortex_table_zonemaps.specs.Zones.{zone_of}
-use Rattle.vortex_table_layout.specs.Compacted.{IsCompactedAs}
+use Rattle.vortex_table_layout.specs.Compacted.{HasTooManyItems, IsCompactedAs}
 use Rattle.vortex_table_layout.specs.TooManyElements.{HasTooManyElements, AnyHasTooManyElements}
 use Rattle.vortex_table_core.specs.Arrays.{AreAllCompacted}
 use Rattle.vortex_table_core.specs.Group.{HasStatistics, IsGroup, AreGroups}
@@ -265,6 +265,10 @@ pub one_refused : (L : Positions → ℕ) (k : LogicalType) (chunks : List Chunk
 one_refused L k chunks n c error.Memory f l e h = tt
 one_refused L k chunks n c error.Total f l e h = too_many_there L k chunks n c f l e h
 one_refused L k chunks n c x f l e h = h
+
+-- the array of such a chunk is one of the arrays
+pub among_arrays : (chunks : List Chunk) (n : ℕ) (c : Chunk) → n < length chunks → c ≡ get_or chunks n c → HasTooManyItems c.array → Any HasTooManyItems (map (λ (x : Chunk). x.array) chunks)
+among_arrays chunks n c l e h = (n, c.array, subst (λ m. n < m) (sym (length-map chunks (λ (x : Chunk). x.array))) l, get_or-map (λ (x : Chunk). x.array) chunks n c c.array l ∙ ap (λ (x : Chunk). x.array) (sym e), h)
 
 pub no_memory : (P : Type 0) (x : TableError) → x ≡ error.Memory → Explains P None x
 no_memory P x h = subst (Explains P None) (sym h) tt

@@ -1,10 +1,11 @@
 //! Tables from arrays, and the arrays of their chunks.
-ghost use Rattle.std.specs.Prelude.{◌≡◌, None, map, IfOk, IfErr};
+ghost use Rattle.std.specs.Prelude.{◌≡◌, None, map, IfOk, IfErr, IsErrOf};
 ghost use Rattle.vortex_arrays_model.specs.Layout.{array_type_of, rows_of};
 ghost use Rattle.vortex_table_schema.specs.Error.{Explains};
 ghost use Rattle.vortex_table_chunk.specs.Chunk.{chunk_rows};
-ghost use Rattle.vortex_table_layout.specs.Compacted.{IsCompactedAs};
+ghost use Rattle.vortex_table_layout.specs.Compacted.{HasTooManyItems, IsCompactedAs};
 ghost use Rattle.vortex_table_layout.specs.TooManyElements.{HasTooManyElements};
+ghost use Rattle.vortex_table_schema.specs.declared.error.TableError.TheVariants.{Total};
 ghost use Rattle.vortex_table_core.specs.WithArrays.{IsWithArray, AreWithArrays};
 
 use crate::table::Table;
@@ -25,10 +26,12 @@ use vortex_table_schema::layout::Layout;
 
 impl Table {
     ghost use Rattle.std.specs.Prelude.{◌≡◌, None, Some, map, option_map, slice_get, IfOk, OnOk, IfErr, OnErr, IsErrOf};
+    ghost use Rattle.std.specs.List.{Any};
     ghost use Rattle.vortex_model_table.specs.Command.{append_array, compact, refusal, after, first_unconvertible};
     ghost use Rattle.vortex_model_table.specs.Reply.{RowsPass};
     ghost use Rattle.vortex_dtype_core.specs.View.{type_of};
     ghost use Rattle.vortex_arrays_model.specs.Layout.{array_type_of, rows_of};
+    ghost use Rattle.vortex_table_layout.specs.Compacted.{HasTooManyItems};
     ghost use Rattle.vortex_table_layout.specs.Kept.{KeepsLayout};
     ghost use Rattle.vortex_table_layout.specs.TooLarge.{AreTooLarge};
     ghost use Rattle.vortex_table_schema.specs.Error.{Explains};
@@ -131,6 +134,7 @@ impl Table {
         ensures refused { IfErr result
             (λ e. Explains (PassesTotal (Some (table_of self.old)) compact)
             (refusal (table_of self.old) compact) e) }
+        ensures kept { IsErrOf result Total → Any HasTooManyItems (arrays_of self.old) }
         ensures unchanged { OnErr result (self.new ≡ self.old) }
     {
         let alloc = *self.chunks.allocator();
@@ -149,6 +153,7 @@ impl Table {
             (λ new. map array_type_of new.items ≡ map array_type_of (arrays_of self.now)) }
         ensures refused { IfErr result
             (λ e. Explains (PassesTotal (Some (table_of self.now)) compact) None e) }
+        ensures kept { IsErrOf result Total → Any HasTooManyItems (arrays_of self.now) }
     {
         let mut arrays = Vec::with_capacity(alloc, self.chunks.len())?;
         for chunk in &self.chunks {
@@ -175,6 +180,7 @@ fn compacted(alloc: Global, array: &ArrayRef) -> Result<ArrayRef, TableError>
     ensures dtype { IfOk result (λ new. array_type_of new ≡ array_type_of array.now) }
     ensures refused { IfErr result (λ e. Explains
         (HasTooManyElements (array_type_of array.now) (rows_of array.now)) None e) }
+    ensures kept { IsErrOf result Total → HasTooManyItems array.now }
 {
     match compact_array(alloc, array) {
         Ok(array) => Ok(array),

@@ -1,9 +1,29 @@
--- What compactions leave of list views with equal rows.
-use Rattle.std.specs.Prelude.{◌≡◌, ◌<◌, ℕ, List, [], ◌∷◌, false, Option, Some, None, option_and_then, slice_get}
+-- What compactions leave.
+use Rattle.std.specs.Prelude.{◌≡◌, ◌<◌, ℕ, List, [], ◌∷◌, false, map, Option, Some, None, Result, OnOk, IfErr, OnErr, option_and_then, slice_get}
 use Rattle.vortex_model.specs.Path.{Positions}
 use Rattle.vortex_arrays_model.specs.Layout.{Layout, list_views, records, len_of, rows_of}
 use Rattle.vortex_arrays_model.specs.Column.{array_at}
+use Rattle.vortex_model_table.specs.Command.{compact}
 use Rattle.vortex_table_layout.specs.Compacted.{HasTooManyItems}
+use Rattle.vortex_table_schema.specs.Error.{Explains}
+use Rattle.vortex_table_schema.specs.declared.error.TableError.{TableError}
+use Rattle.vortex_table_core.specs.Arrays.{arrays_of, AreAllCompacted}
+use Rattle.vortex_table_core.specs.TableView.{table_of}
+use Rattle.vortex_table_core.specs.Totals.{PassesTotal}
+use Rattle.vortex_table_core.specs.declared.table.Table.{Table}
+
+-- a compaction of the old table ended so, and left the new one: with its arrays compacted, and its
+-- rows, statistics and groups
+pub record IsCompactedBy {A : Type 0} (old new : Table) (result : Result A TableError) :
+    Type 0 where
+  pub compacted : OnOk result (AreAllCompacted (arrays_of old) (arrays_of new))
+  pub rows : OnOk result (table_of new ≡ table_of old)
+  pub statistics : OnOk result (map (λ c. c.bounds.items) new.chunks.items
+      ≡ map (λ c. c.bounds.items) old.chunks.items)
+  pub groups : OnOk result (new.groups ≡ old.groups)
+  pub refused : IfErr result
+      (λ e. Explains (PassesTotal (Some (table_of old)) compact) None e)
+  pub unchanged : OnErr result (new ≡ old)
 
 -- the array that records alone lead to, each by the position of a column
 abbrev pub array_in : Layout → Positions → Option Layout

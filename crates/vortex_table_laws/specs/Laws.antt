@@ -14,10 +14,6 @@ OnBoth Holds one other = IfOk one (λ a. IfOk other (λ b. Holds a b))
 abbrev pub HaveSameRows : ScanAnswer → ScanAnswer → Type 0
 HaveSameRows a b = (answer_of b).rows ≡ (answer_of a).rows
 
--- the same rows, of the same type
-abbrev pub HaveSameTypedRows : ScanAnswer → ScanAnswer → Type 0
-HaveSameTypedRows a b = HaveSameRows a b × ((answer_of b).kind ≡ (answer_of a).kind)
-
 -- the same in all parts: rows, type, chunks that are skipped and taken whole, counts
 abbrev pub AreSame : ScanAnswer → ScanAnswer → Type 0
 AreSame a b = answer_of b ≡ answer_of a

@@ -13,14 +13,13 @@ ghost use Rattle.vortex_dtype_path.specs.View.{steps_of};
 ghost use Rattle.vortex_scalar_value.specs.View.{raw_in};
 ghost use Rattle.vortex_table_schema.specs.Answer.{answer_of};
 ghost use Rattle.vortex_table_core.specs.Append.{Appends};
-ghost use Rattle.vortex_table_core.specs.Arrays.{arrays_of, AreAllCompacted};
+ghost use Rattle.vortex_table_core.specs.Arrays.{arrays_of};
 ghost use Rattle.vortex_table_core.specs.TableView.{table_of};
 ghost use Rattle.vortex_table_laws.specs.Calls.{IsScanned, IsRetyped};
-ghost use Rattle.vortex_table_laws.specs.Compactions.{LeaveAlike};
+ghost use Rattle.vortex_table_laws.specs.Compactions.{IsCompactedBy, LeaveAlike};
 ghost use Rattle.vortex_table_laws.specs.Laws.{
   OnBoth,
   HaveSameRows,
-  HaveSameTypedRows,
   AreSame,
   HasMoreRows,
 };
@@ -107,8 +106,7 @@ pub fn scan_two_tables(
     (of_one, of_other)
 }
 
-/// One scan by two lists of paths. Where they cover the same, the answers have the same rows, of
-/// the same type.
+/// One scan by two lists of paths. Where they cover the same, the answers are equal.
 pub fn scan_by_two_lists(
     alloc: Global,
     table: &Table,
@@ -124,7 +122,7 @@ pub fn scan_by_two_lists(
         result.1 }
     ensures law { CoverTheSame (map names_of (map steps_of paths.now))
         (map names_of (map steps_of others.now))
-        → OnBoth HaveSameTypedRows result.0 result.1 }
+        → OnBoth AreSame result.0 result.1 }
 {
     covers_tell_answers();
     let by_paths = table.scan(alloc, paths, predicate);
@@ -178,9 +176,7 @@ pub fn scan_around_compact(
 )
     ensures before { IsScanned (table_of table.old) (map steps_of paths.now) predicate.now
         result.0 }
-    ensures compact { OnOk result.1 (AreAllCompacted (arrays_of table.old)
-        (arrays_of table.new)) }
-    ensures unchanged { OnErr result.1 (table.new ≡ table.old) }
+    ensures compact { IsCompactedBy table.old table.new result.1 }
     ensures after { IsScanned (table_of table.new) (map steps_of paths.now) predicate.now
         result.2 }
     ensures law { OnBoth AreSame result.0 result.2 }
@@ -199,8 +195,8 @@ pub fn compact_two_tables(
     one: &mut Table,
     other: &mut Table,
 ) -> (Result<(), TableError>, Result<(), TableError>)
-    ensures one { OnOk result.0 (AreAllCompacted (arrays_of one.old) (arrays_of one.new)) }
-    ensures other { OnOk result.1 (AreAllCompacted (arrays_of other.old) (arrays_of other.new)) }
+    ensures one { IsCompactedBy one.old one.new result.0 }
+    ensures other { IsCompactedBy other.old other.new result.1 }
     ensures law { OnOk result.0 (OnOk result.1 (LeaveAlike
         (arrays_of one.old ++ arrays_of other.old) (arrays_of one.new ++ arrays_of other.new))) }
 {

@@ -1,10 +1,11 @@
 //! List views of arrays, rebuilt.
-ghost use Rattle.std.specs.Prelude.{◌≡◌, ◌&&◌, false, true, length, map, slice_index_or, cond, IfOk, IfErr};
+ghost use Rattle.std.specs.Prelude.{◌≡◌, ◌&&◌, false, true, length, map, slice_index_or, cond, IfOk, IfErr, IsErrOf};
 ghost use Rattle.std.specs.List.{range_with_len};
 ghost use Rattle.vortex_arrays_model.specs.Layout.{array_type_of, is_valid, len_of, list_views, records, rows_of, HasLength, HaveLength, IsSound};
 ghost use Rattle.vortex_arrays_core.specs.LayoutOf.{valid_of};
 ghost use Rattle.vortex_arrays_model.specs.Parts.{columns_of};
 ghost use Rattle.vortex_arrays_nested.specs.ListViews.{IsListViews};
+ghost use Rattle.vortex_arrays_view.specs.declared.error.ArrayError.TheVariants.{Total};
 ghost use Rattle.vortex_arrays_rebuild.specs.Rebuilds.{IsRebuiltView, IsTotalFault};
 ghost use Rattle.vortex_table_layout.specs.Compacted.{
   AreCompacted,
@@ -44,6 +45,7 @@ pub fn compact_array(alloc: Global, array: &ArrayRef) -> Result<ArrayRef, ArrayE
     ensures dtype { IfOk result (λ compacted. array_type_of compacted ≡ array_type_of array.now) }
     ensures rows { IfOk result (λ compacted. rows_of compacted ≡ rows_of array.now) }
     ensures refused { IfErr result (λ e. IsCompactFault e array.now) }
+    ensures kept { IsErrOf result Total → HasTooManyItems array.now }
 {
     let _rows = array.len();
     match compact_part(alloc, array) {

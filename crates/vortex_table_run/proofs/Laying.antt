@@ -40,3 +40,10 @@ created_empty t k n entries e = no_arrays t.chunks.items (ap (λ m. m.chunks) e)
 -- what a table's call makes of them, the session's command makes
 pub done_so : (Makes : Option Table → List Layout → List Layout → Type 0) (old : Option Table) (t u : Table) → old ≡ Some t → Makes (Some t) (arrays_of t) (arrays_of u) → WhereDone Done (Makes old) old (Some u)
 done_so Makes old t u is h = subst (λ (o : Option Table). Makes o (arrays_in o) (arrays_of u)) (sym is) h
+
+-- what changes no table
+pub untouched : (r : Response) (t : Option Table) → WhereDone r (λ old new. new ≡ old) t t
+untouched Written t = refl
+untouched (Short text) t = refl
+untouched Done t = refl
+untouched NoMemory t = refl

@@ -1,7 +1,9 @@
 -- How commands lay out the rows of a session's table.
-use Rattle.std.specs.Prelude.{◌≡◌, ℕ, List, [], Option, Some, None, IfSome}
+use Rattle.std.specs.Prelude.{◌≡◌, ℕ, List, [], Option, Some, None, IfSome, All}
+use Rattle.vortex_model.specs.LogicalType.{LogicalType}
 use Rattle.vortex_dtype_core.specs.View.{type_of}
 use Rattle.vortex_arrays_model.specs.Layout.{Layout}
+use Rattle.vortex_arrays_builder.specs.Types.{IsPlainLayout}
 use Rattle.vortex_table_schema.specs.declared.layout.Layout as hint
 use Rattle.vortex_table_layout.specs.Hinted.{HasHintedColumns}
 use Rattle.vortex_table_core.specs.Arrays.{arrays_of, AddsArray, IsTakenBy, AreAllCompacted}
@@ -24,13 +26,19 @@ abbrev pub AddsTaken : Option Table → List hint.Layout → Layout → List Lay
 AddsTaken None hints a old new = new ≡ old
 AddsTaken (Some t) hints a old new = AddsArray (IsTakenBy (type_of t.dtype) hints a) old new
 
--- What a command makes of the arrays of the table. A retype lays all rows out anew.
+-- a retype to the table's own type changes nothing, and one to another lays all rows out plain
+abbrev pub LaysOutPlain : Option Table → LogicalType → List Layout → List Layout → Type 0
+LaysOutPlain None k old new = new ≡ old
+LaysOutPlain (Some t) k old new = (k ≡ type_of t.dtype → new ≡ old) ×
+    ((¬ (k ≡ type_of t.dtype)) → All IsPlainLayout new)
+
+-- what a command makes of the arrays of the table
 abbrev pub LaysOut : Option Table → Command → List Layout → List Layout → Type 0
 LaysOut t (Create dtype length lengths) old new = new ≡ []
 LaysOut t (Append dtype values hints) old new = AddsArray (HasHintedColumns hints.items) old new
 LaysOut t (AppendArray array hints) old new = AddsTaken t hints.items array old new
 LaysOut t Compact old new = AreAllCompacted old new
-LaysOut t (Retype dtype) old new = Unit {0}
+LaysOut t (Retype dtype) old new = LaysOutPlain t (type_of dtype) old new
 LaysOut t c old new = new ≡ old
 
 -- what a line makes of them: what its command does, with the hints that the line has

@@ -65,6 +65,7 @@ impl Session {
 
     /// Describes a column in a group of the table, which stays as it is. A text that memory can't
     /// hold is let go.
+    #[tactic(auto, using(crate::proofs::Laying::untouched))]
     pub(crate) fn answer_describe(
         &self,
         alloc: Global,

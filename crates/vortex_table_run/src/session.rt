@@ -13,7 +13,7 @@ ghost use Rattle.vortex_table_request.specs.View.{entry_of, raw_rows, shown};
 ghost use Rattle.vortex_table_core.specs.Arrays.{AddsArray};
 ghost use Rattle.vortex_table_layout.specs.Hinted.{HasHintedColumns};
 ghost use Rattle.vortex_table_run.specs.CommandAnswers.{Responds};
-ghost use Rattle.vortex_table_run.specs.Laying.{AddsTaken, LaysOut, LineLaysOut, WhereDone};
+ghost use Rattle.vortex_table_run.specs.Laying.{AddsTaken, LaysOut, LaysOutPlain, LineLaysOut, WhereDone};
 
 use crate::refused::fault;
 use crate::scan::push_scan;
@@ -134,7 +134,8 @@ impl Session {
         ensures answers { (out : List ℕ)
             → Responds (table_in self.old) (retype (type_of dtype)) result out
             (table_in self.new) }
-        ensures layout { WhereDone result (λ old new. Unit {0}) self.old.table self.new.table }
+        ensures layout { WhereDone result (LaysOutPlain self.old.table (type_of dtype))
+            self.old.table self.new.table }
     {
         let Some(table) = &mut self.table else {
             return Response::Short(without_table());
@@ -146,6 +147,7 @@ impl Session {
     }
 
     /// Scans the table, which stays as it is. A text that memory can't hold is let go.
+    #[tactic(auto, using(crate::proofs::Laying::untouched))]
     fn answer_scan(
         &self,
         alloc: Global,

@@ -23,8 +23,9 @@ pub enum TableError {
     /// 6: the first row, by its index, that the table's type can't hold.
     #[error("row {0} can't be converted")]
     NotConvertible(usize),
-    /// 7: the rows of the table would be more than `usize::MAX`.
-    #[error("too many rows")]
+    /// 7: the table would have more than `usize::MAX` rows, or a chunk more texts, bytes or lists
+    /// than can be laid out.
+    #[error("too many rows, or too much in a chunk")]
     Total,
     /// 8: there is no such group, or none behind it to join it with.
     #[error("there is no such group")]

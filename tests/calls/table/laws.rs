@@ -6,8 +6,8 @@ use std::alloc::{AllocError, Global};
 use vortex_dtype::{DType, FieldPath, Nullability, PType};
 use vortex_table::expr::gt;
 use vortex_table::laws::{
-    retype_in_two_steps, scan_around_append, scan_around_compact, scan_by_false, scan_by_true,
-    scan_by_two_lists, scan_two_tables,
+    compact_two_tables, retype_in_two_steps, scan_around_append, scan_around_compact,
+    scan_by_false, scan_by_true, scan_by_two_lists, scan_two_tables,
 };
 use vortex_table::table::TableError;
 
@@ -65,6 +65,10 @@ pub fn changes_keep_their_laws(alloc: Global, checks: &mut Checks<'_>) -> Result
     let (before, after) = (before?, after?);
     checks.holds("compacted", before.rows == after.rows && begin_with(&after, &[2, 10, 20]));
     checks.holds("its chunks", before.skipped == after.skipped && after.skipped.is_empty());
+
+    let mut other = filled(alloc)?;
+    let (one, two) = compact_two_tables(&mut table, &mut other);
+    checks.holds("two compactions", one.is_ok() && two.is_ok());
 
     let mut direct = filled(alloc)?;
     let mut stepwise = filled(alloc)?;

@@ -1,5 +1,5 @@
 use Rattle.std.proofs.Common.{◌≡◌, ◌<◌, subst, length, get_or}
-use Rattle.vortex_table_core.proofs.Rearrayed.{first_more}
+use Rattle.vortex_table_core.proofs.Rearrayed.{first_more, among_arrays}
 use Rattle.vortex_table_core.proofs.table.Table.compacted_arrays.Goals as goal
 
 pub loop-chunk-preserved : goal.loop-chunk-preserved
@@ -8,3 +8,8 @@ loop-chunk-preserved c =
     first_more c.args.self.now.chunks.items i c.loop-chunk.arrays.items c.push.new.self.items x c.in_ok-array.array c.loop-chunk.invariant
     (subst (λ xs. i < length xs) same c.loop-chunk-test.true) (subst (λ xs. x ≡ get_or xs i x) same c.chunk-item.is)
     c.in_ok-array.ensures.compacted c.in_ok-array.ensures.rows c.in_ok-array.ensures.dtype c.in_ok-push.ensures.items
+
+pub returns-in_err-array-clause-kept : goal.returns-in_err-array-clause-kept
+returns-in_err-array-clause-kept c = λ h.
+    let same = c.deref-chunk-items.ensures.value in let i = c.loop-chunk.chunk-index in let x = c.chunk-item.result in
+    among_arrays c.args.self.now.chunks.items i x (subst (λ xs. i < length xs) same c.loop-chunk-test.true) (subst (λ xs. x ≡ get_or xs i x) same c.chunk-item.is) (c.in_err-array.ensures.kept h)

@@ -9,7 +9,9 @@ use Rattle.vortex_table_run.specs.CommandAnswers.{error_answer}
 use Rattle.vortex_table_run.specs.State.{table_in}
 use Rattle.vortex_table_run.proofs.Errors.{no_rule}
 use Rattle.vortex_table_run.proofs.Responding.{without_table, refused_for}
-use Rattle.vortex_table_run.proofs.Laying.{table_stays}
+use Rattle.vortex_table_core.specs.Arrays.{arrays_of}
+use Rattle.vortex_table_run.specs.Laying.{LaysOutPlain}
+use Rattle.vortex_table_run.proofs.Laying.{table_stays, done_so}
 use Rattle.vortex_table_run.proofs.session.Session.answer_retype.Goals as goal
 
 pub returns-in_default-clause-answers : goal.returns-in_default-clause-answers
@@ -30,4 +32,8 @@ returns-in-Err-clause-answers c = λ out.
 
 pub returns-in-Err-clause-layout : goal.returns-in-Err-clause-layout
 returns-in-Err-clause-layout c =
-    table_stays c.fault.result (λ _ _. Unit {0}) c.args.self.now.table c.in-Some.table c.retype.new.self c.in-Some.is c.fault.ensures.refused c.in-Err.ensures.unchanged
+    table_stays c.fault.result (LaysOutPlain c.args.self.now.table (type_of c.args.dtype)) c.args.self.now.table c.in-Some.table c.retype.new.self c.in-Some.is c.fault.ensures.refused c.in-Err.ensures.unchanged
+
+pub returns-in-Ok-clause-layout : goal.returns-in-Ok-clause-layout
+returns-in-Ok-clause-layout c =
+    done_so (λ o. LaysOutPlain o (type_of c.args.dtype)) c.args.self.now.table c.in-Some.table c.retype.new.self c.in-Some.is (λ same. ap arrays_of (c.retype.ensures.equal same), c.in-Ok.ensures.layout)
