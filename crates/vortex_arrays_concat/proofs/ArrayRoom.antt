@@ -224,5 +224,3 @@ pub ruleset views = (views_none, views_more, views_all)
 pub left_fits : (k : LogicalType) (a : Layout) (o : Option ℕ) → IsSound a → IsPlainLayout a → IfSome o (λ rest. array_weight a + rest ≤ 4294967296) → is_some o ≡ true → ¬ AreTooLarge k (rows_of a)
 left_fits k a None s p h e = absurd (cc e)
 left_fits k a (Some rest) s p h e = plain_fits k a s p (omega (arith, h))
-
-pub ruleset room = (left_fits)
