@@ -51,7 +51,7 @@ impl ValidityConcat for Validity {
     const DTYPE: DType = DType::Bool(Nullability::NonNullable);
 
     fn array_dtype() -> DType {
-        DType::Bool(Nullability::NonNullable)
+        Self::DTYPE
     }
 
     #[tactic(auto, using(crate::proofs::ValidityLemmas::whole))]
