@@ -1,6 +1,7 @@
 -- Plain arrays that views and buffers have room for.
-use Rattle.std.proofs.Common.{◌≡◌, ◌<◌, ◌≤◌, ◌+◌, ◌*◌, ℕ, zero, suc, Bool, true, false, cond, leb, List, [], ◌∷◌, length, map, take, drop, get_or, Option, IfSome, refl, sym, ap, subst, ◌∙◌, arith, inl, inr}
+use Rattle.std.proofs.Common.{◌≡◌, ◌<◌, ◌≤◌, ◌+◌, ◌*◌, ℕ, zero, suc, Bool, true, false, cond, leb, List, [], ◌∷◌, length, map, take, drop, get_or, Option, Some, None, IfSome, refl, sym, ap, subst, ◌∙◌, arith, inl, inr}
 use Rattle.std.specs.List.{flat_map, range_with_len, All}
+use Rattle.std.specs.Option.{is_some}
 use Rattle.std.proofs.lemmas.Bool.Decides.{leb_tells}
 use Rattle.std.proofs.lemmas.List.{length-take, drop_more, drop_all}
 use Rattle.std.proofs.lemmas.Option.{IfSome_then}
@@ -220,4 +221,6 @@ views_all views i rest left h l = let none : views_weight (drop i views) ≡ 0 =
 
 pub ruleset views = (views_none, views_more, views_all)
 
-pub ruleset room = (plain_fits)
+pub left_fits : (k : LogicalType) (a : Layout) (o : Option ℕ) → IsSound a → IsPlainLayout a → IfSome o (λ rest. array_weight a + rest ≤ 4294967296) → is_some o ≡ true → ¬ AreTooLarge k (rows_of a)
+left_fits k a None s p h e = absurd (cc e)
+left_fits k a (Some rest) s p h e = plain_fits k a s p (omega (arith, h))

@@ -11,11 +11,11 @@ use vortex_arrays_view::build::MAX_BUFFER_LEN;
 use vortex_arrays_view::view::BinaryView;
 
 // Views number so many buffers.
-const MAX_BUFFERS: usize = 1 << 32;
+const MAX_BUFFERS: usize = 4_294_967_296;
 
-/// Whether, of an array that is laid out plain, each text and each bytes at whatever depth is no longer than a buffer, and there are no
-/// more of them than buffers can be numbered, so that each could have one of its own.
-#[tactic(auto, using(crate::proofs::ArrayRoom::room))]
+/// Whether, of an array that is laid out plain, each text and each bytes at whatever depth is no
+/// longer than a buffer, and there are no more of them than buffers can be numbered, so that each
+/// could have one of its own.
 pub(crate) fn have_room(array: &ArrayRef) -> bool
     requires { IsPlainLayout array.now }
     ensures { IsTrue result → ¬ AreTooLarge (array_type_of array.now) (rows_of array.now) }

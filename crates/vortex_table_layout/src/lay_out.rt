@@ -106,7 +106,8 @@ fn lay_out_columns(
         (λ columns. AreColumnsBy hints.now (fields_of fields.now) 0 (map raw_of rows.now)
         (columns_of (names_of (fields_of fields.now)) columns.items)) }
     ensures refused { IfErr result
-        (λ e. IsPlainFault e (struct (fields_of fields.now) non_nullable) (map row_content rows.now)) }
+        (λ e. IsPlainFault e (struct (fields_of fields.now) non_nullable)
+        (map row_content rows.now)) }
 {
     let mut columns = Vec::with_capacity(alloc, fields.len())?;
     for i in 0..fields.len() {

@@ -5,7 +5,7 @@ use Rattle.vortex_arrays_concat.specs.Columns.{IsJoined}
 use Rattle.vortex_arrays_concat.proofs.RecordLemmas.{joined_made}
 use Rattle.vortex_arrays_concat.proofs.struct_array_concat.concat.Goals as goal
 
-pub returns-then-have_room-clause-made : goal.returns-in-Some-2-clause-made
+pub returns-then-have_room-clause-made : goal.returns-then-have_room-clause-made
 returns-then-have_room-clause-made c =
     let ls = c.args.arrays.now in
     let shared = c.as_slice.result.now in
