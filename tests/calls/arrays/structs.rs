@@ -6,7 +6,7 @@ use std::alloc::Global;
 use std::rc::Rc;
 use vortex_arrays::laws::{slice_of_all, slice_of_slice};
 use vortex_arrays::{
-    ArrayError, ArrayRef, ListViewArray, StructArray, StructArrayExt, StructArraySlotsExt, Validity,
+    ArrayError, ArrayLayout, ArrayRef, ListViewArray, StructArray, StructArrayExt, StructArraySlotsExt, Validity,
     column_at,
 };
 use vortex_dtype::{
@@ -37,6 +37,8 @@ fn columns(alloc: Global) -> Result<Vec<ArrayRef>, DTypeError> {
 
 fn parts(alloc: Global, checks: &mut Checks<'_>) -> Result<(), DTypeError> {
     let (names, fields) = (names(alloc)?, columns(alloc)?);
+    let layout = fields[0].layout().clone()?;
+    checks.holds("clone of a layout", matches!(layout, ArrayLayout::Primitive(_, _)));
     let fits = StructArray::validate(&names, &fields, 3, &Validity::AllValid);
     checks.holds("validate of records", fits.is_ok());
     let fault = StructArray::validate(&names, &fields[..1], 3, &Validity::AllValid);
@@ -49,7 +51,7 @@ fn parts(alloc: Global, checks: &mut Checks<'_>) -> Result<(), DTypeError> {
     checks.holds("struct_fields", array.struct_fields().nfields() == 2);
     let (fields, nullability) = array.dtype_parts();
     checks.holds("dtype_parts of records", fields.nfields() == 2 && nullability.is_nullable());
-    let slots = array.slots()?;
+    let slots = array.slots()?.clone()?;
     checks.holds("slots of records", slots.fields.len() == 2 && slots.validity.is_null(2, 3));
     let parts = array.into_data_parts(alloc)?.clone()?;
     checks.holds("into_data_parts of records", parts.names.len() == 2);

@@ -221,9 +221,10 @@ fn is_true(
     row: &ScalarValue,
     predicate: Expression,
 ) -> Result<bool, ScalarError> {
-    let bound = settled(bind(alloc, &predicate, dtype))?;
+    // Clones select the same rows.
+    let node = predicate.node.clone()?;
+    let bound = settled(bind(alloc, &Expression { node }, dtype))?;
     let copy = bound.clone()?;
-    // A clone selects the same rows.
     if copy.tree.selects(row) != bound.tree.selects(row) {
         return Err(ScalarError::Invalid);
     }

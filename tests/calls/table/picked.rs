@@ -186,7 +186,8 @@ pub fn rows_are_selected_where_they_stand(
     paths.push(FieldPath::from_names(alloc, &["b"])?)?;
     let mut kept = Vec::new(alloc);
     for (i, (predicate, wanted)) in cases(alloc)?.iter().enumerate() {
-        let answer = table.select(alloc, &paths, predicate)?;
+        // A clone answers the same.
+        let answer = table.select(alloc, &paths, predicate)?.clone()?;
         let scanned = table.scan(alloc, &paths, predicate)?;
         let found = answer.selection;
         let counts = found.skipped.as_slice() == wanted.skipped
