@@ -6,8 +6,8 @@ use std::alloc::Global;
 use std::rc::Rc;
 use vortex_arrays::laws::{slice_of_all, slice_of_slice};
 use vortex_arrays::{
-    ArrayError, ArrayLayout, ArrayRef, ListViewArray, StructArray, StructArrayExt, StructArraySlotsExt, Validity,
-    column_at,
+    ArrayError, ArrayLayout, ArrayRef, ListViewArray, StructArray, StructArrayExt,
+    StructArraySlotsExt, Validity, column_at,
 };
 use vortex_dtype::{
     DType, DTypeError, FieldName, FieldNames, Nullability, PType, StructField, StructFields,
