@@ -38,7 +38,7 @@ fn columns(alloc: Global) -> Result<Vec<ArrayRef>, DTypeError> {
 fn parts(alloc: Global, checks: &mut Checks<'_>) -> Result<(), DTypeError> {
     let (names, fields) = (names(alloc)?, columns(alloc)?);
     let layout = fields[0].layout().clone()?;
-    checks.holds("clone of a layout", matches!(layout, ArrayLayout::Primitive(_, _)));
+    checks.holds("clone of a layout", matches!(&layout, ArrayLayout::Primitive(_, _)));
     let fits = StructArray::validate(&names, &fields, 3, &Validity::AllValid);
     checks.holds("validate of records", fits.is_ok());
     let fault = StructArray::validate(&names, &fields[..1], 3, &Validity::AllValid);
