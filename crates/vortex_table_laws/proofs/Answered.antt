@@ -1,10 +1,16 @@
 -- What holds of the answers of several calls, by what each of them gave.
-use Rattle.std.proofs.Common.{◌≡◌, sym, ◌∙◌, ap, subst, Result, Ok, Err, None}
+use Rattle.std.proofs.Common.{◌≡◌, List, sym, ◌∙◌, ap, subst, Result, Ok, Err, None}
 use Rattle.std.specs.Prelude.{IfOk, OnOk}
 use Rattle.vortex_model.specs.LogicalType.{LogicalType}
-use Rattle.vortex_model_table.specs.Table.{Table}
+use Rattle.vortex_model.specs.Path.{Names}
+use Rattle.vortex_model_table.specs.Cut.{cut_type}
+use Rattle.vortex_model_table.specs.Expression.{Expression}
+use Rattle.vortex_model_table.specs.Scan as model
+use Rattle.vortex_model_table.specs.Scan.{scanned, skipped_chunks, whole_chunks, rows_tested, proofs}
+use Rattle.vortex_model_table.specs.Table.{Table, answer}
 use Rattle.vortex_model_table.specs.Command.{retype, refusal, after}
 use Rattle.vortex_model_laws.specs.Laws.{RetypingTwiceIsRetypingAtOnce}
+use Rattle.vortex_table_schema.specs.Answer.{answer_of}
 use Rattle.vortex_table_schema.specs.declared.answer.ScanAnswer.{ScanAnswer}
 use Rattle.vortex_table_schema.specs.declared.error.TableError.{TableError}
 use Rattle.vortex_table_laws.specs.Laws.{OnBoth}
@@ -22,6 +28,24 @@ pub on_both : {P Q : ScanAnswer → Type 0} {H : ScanAnswer → ScanAnswer → T
 on_both (Ok a) (Ok b) follows h k = follows a b h k
 on_both (Ok a) (Err e) follows h k = tt
 on_both (Err e) s follows h k = tt
+
+-- what a scan answers by paths of which rows and type are those of others
+pub scanned_alike : (t : Table) (paths others : List Names) (e : Expression) →
+    answer t paths e ≡ answer t others e → cut_type paths t.kind ≡ cut_type others t.kind →
+    scanned t paths e ≡ scanned t others e
+scanned_alike t paths others e rows kind = λ i. record {
+  rows = rows i;
+  kind = kind i;
+  skipped = skipped_chunks t e;
+  whole = whole_chunks t e;
+  rows_tested = rows_tested t e;
+  proofs = proofs t e;
+}
+
+-- answers of which equal scans tell
+pub same_answers : (a b : ScanAnswer) (x y : model.ScanAnswer) → x ≡ y → answer_of a ≡ x →
+    answer_of b ≡ y → answer_of b ≡ answer_of a
+same_answers a b x y e h k = k ∙ (sym e ∙ sym h)
 
 -- what follows where a command was accepted
 pub where_accepted : {A : Type 0} {P Q : Type 0} (r : Result A TableError) → (P → Q) → OnOk r P →

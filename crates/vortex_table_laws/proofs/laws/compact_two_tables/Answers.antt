@@ -5,6 +5,6 @@ use Rattle.vortex_table_laws.proofs.laws.compact_two_tables.Goals as goal
 
 pub returns-clause-law : goal.returns-clause-law
 returns-clause-law c =
-    let a = arrays_of c.args.one.now in let b = arrays_of c.compact.new.self in
-    let x = arrays_of c.args.other.now in let y = arrays_of c.compact-2.new.self in
-    on_ok_weaker c.compact.result (λ h. on_ok_weaker c.compact-2.result (λ k. leave_alike _ _ (both_compacted a b x y h k)) c.compact-2.ensures.compacted) c.compact.ensures.compacted
+    let a = arrays_of c.args.one.now in let b = arrays_of c.compact-of_one.new.self in
+    let x = arrays_of c.args.other.now in let y = arrays_of c.compact-of_other.new.self in
+    on_ok_weaker c.compact-of_one.result (λ h. on_ok_weaker c.compact-of_other.result (λ k. leave_alike _ _ (both_compacted a b x y h k)) c.compact-of_other.ensures.compacted) c.compact-of_one.ensures.compacted

@@ -1,4 +1,6 @@
 use Rattle.std.proofs.Common.{◌≡◌, ◌<◌, subst, length, get_or}
+use Rattle.vortex_table_schema.specs.declared.error.TableError.TheVariants as error
+use Rattle.vortex_table_core.proofs.Appended.{total_of}
 use Rattle.vortex_table_core.proofs.Rearrayed.{first_more, among_arrays}
 use Rattle.vortex_table_core.proofs.table.Table.compacted_arrays.Goals as goal
 
@@ -12,4 +14,5 @@ loop-chunk-preserved c =
 pub returns-in_err-array-clause-kept : goal.returns-in_err-array-clause-kept
 returns-in_err-array-clause-kept c = λ h.
     let same = c.deref-chunk-items.ensures.value in let i = c.loop-chunk.chunk-index in let x = c.chunk-item.result in
-    among_arrays c.args.self.now.chunks.items i x (subst (λ xs. i < length xs) same c.loop-chunk-test.true) (subst (λ xs. x ≡ get_or xs i x) same c.chunk-item.is) (c.in_err-array.ensures.kept h)
+    let total : c.in_err-array.field-0.0 ≡ error.Total = total_of _ c.in_err-array.field-0.0 c.from_residual-in_err-array.ensures.1 h in
+    among_arrays c.args.self.now.chunks.items i x (subst (λ xs. i < length xs) same c.loop-chunk-test.true) (subst (λ xs. x ≡ get_or xs i x) same c.chunk-item.is) (c.in_err-array.ensures.kept (cc (total)))
