@@ -1,5 +1,5 @@
 //! A table, or none yet, and what is said to commands.
-ghost use Rattle.std.specs.Prelude.{◌≡◌, ℕ, List, map, None, OnOk, refl};
+ghost use Rattle.std.specs.Prelude.{[], ◌≡◌, ℕ, List, map, None, OnOk, refl};
 ghost use Rattle.std.proofs.Common.{inl};
 ghost use Rattle.vortex_model_table.specs.Command.{create, append, retype, scan};
 ghost use Rattle.vortex_dtype_core.specs.View.{type_of};
