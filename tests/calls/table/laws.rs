@@ -68,7 +68,10 @@ pub fn changes_keep_their_laws(alloc: Global, checks: &mut Checks<'_>) -> Result
 
     let mut other = filled(alloc)?;
     let (one, two) = compact_two_tables(&mut table, &mut other);
-    checks.holds("two compactions", one.is_ok() && two.is_ok());
+    one?;
+    two?;
+    let rows = scan(alloc, &other, &truth(true)?)?;
+    checks.holds("compacted with another", begin_with(&rows, &[1, 2, 10]));
 
     let mut direct = filled(alloc)?;
     let mut stepwise = filled(alloc)?;
