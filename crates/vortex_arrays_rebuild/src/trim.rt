@@ -89,8 +89,8 @@ fn trim_slots(
     Ok(array)
 }
 
-// The offsets lowered by a number, of the same kind, and shared where it is 0. None of them is below
-// it, nor above the bound.
+// The offsets lowered by a number, of the same kind, and shared where it is 0. None of them is
+// below it, nor above the bound.
 #[tactic(auto, using(crate::proofs::TrimLemmas::lowered))]
 fn lower_offsets(
     alloc: Global,

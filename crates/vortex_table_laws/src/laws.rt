@@ -188,9 +188,9 @@ pub fn scan_around_compact(
 }
 
 /// Compactions of two tables. Of two list views that records alone lead to, in chunks of one table
-/// or of both, which are not known to stand end to end and have equal rows of their own, those under
-/// null records too, they leave list views with equal offsets, sizes and rows of elements. Chunks
-/// with lists under null records that are too long together are aside.
+/// or of both, which are not known to stand end to end and have equal rows of their own, those
+/// under null records too, they leave list views with equal offsets, sizes and rows of elements.
+/// Chunks with lists under null records that are too long together are aside.
 pub fn compact_two_tables(
     one: &mut Table,
     other: &mut Table,
