@@ -3,11 +3,13 @@ ghost use Rattle.std.specs.Prelude.{◌≡◌, ℕ, List, IfOk, true};
 ghost use Rattle.vortex_model.specs.Content.{Content};
 ghost use Rattle.vortex_model.specs.Kept.{is_leaf};
 ghost use Rattle.vortex_model.specs.LogicalType.{LogicalType};
+ghost use Rattle.vortex_model_table.specs.Typing.{sum_kind};
 ghost use Rattle.vortex_model_table.specs.ZoneMap.{zone_of};
 ghost use Rattle.vortex_dtype_core.specs.View.{type_of};
 ghost use Rattle.vortex_stats_array.specs.Zones.{zone_in, bound_content as known_bound, IsBoundIn, AreOfType};
 ghost use Rattle.vortex_table_chunk.specs.zones.Bounds.{bound_in, IsBoundsOf};
 ghost use Rattle.vortex_table_chunk.specs.zones.Alike.{said_by};
+ghost use Rattle.vortex_table_chunk.specs.zones.Sums.{int_kind_of};
 ghost use Rattle.vortex_table_chunk.specs.zones.Typed.{is_said_of, is_typed_as};
 
 use std::alloc::AllocError;
@@ -70,6 +72,7 @@ impl ColumnBounds {
             → AreOfType (type_of dtype.now) stats → IsBoundsOf L result values }
         ensures types { is_leaf (type_of dtype.now) ≡ true → AreOfType (type_of dtype.now) stats
             → is_typed_as (type_of dtype.now) result ≡ true }
+        ensures sum_type { int_kind_of result.sum_type ≡ sum_kind (type_of dtype.now) }
     {
         ColumnBounds {
             low: bound_of(stats.min),
