@@ -1,7 +1,7 @@
 //! Expressions with their columns resolved.
 ghost use Rattle.std.specs.Prelude.{◌≡◌, ℕ, List, None, Some, IfOk, IfErr, OnOk};
 ghost use Rattle.vortex_model.specs.Content.{Content};
-ghost use Rattle.vortex_model_table.specs.Expression.{reads_columns};
+ghost use Rattle.vortex_model_table.specs.Expression.{reads_columns, HasFormedLiterals};
 ghost use Rattle.vortex_model_table.specs.Truth.{evaluate, has_truth};
 ghost use Rattle.vortex_model_table.specs.Typing.{expression_type};
 ghost use Rattle.vortex_model_rules.specs.Faults.{binding_fault};
@@ -49,6 +49,7 @@ pub fn bind(alloc: Global, e: &Expression, dtype: &DType) -> Result<BoundExpress
     ensures faultless { OnOk result (binding_fault (type_of dtype.now) e.now ≡ None) }
     ensures refused { IfErr result
         (λ error. IsReason error (binding_fault (type_of dtype.now) e.now)) }
+    ensures formed { OnOk result (HasFormedLiterals e.now) }
     ensures value { IfOk result (λ bound. (provided : Provided) → evaluate_bound provided bound.tree
         ≡ evaluate (by_names (type_of dtype.now) provided) e.now) }
     ensures at_rows { IfOk result (λ bound. (known : List ColumnStats) (rows : ℕ) (row : Content)

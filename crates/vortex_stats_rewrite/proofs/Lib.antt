@@ -1,4 +1,5 @@
 pub mod Falsifiers
+pub mod FormedLiterals
 pub mod Outside
 pub mod Rounds
 pub mod Signs

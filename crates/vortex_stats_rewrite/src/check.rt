@@ -5,7 +5,8 @@
 //! and that it reads a column outside placeholders.
 ghost use Rattle.std.specs.Prelude.{◌≡◌, None, IfErr, OnOk, not, ◌&&◌, ◌||◌, false};
 ghost use Rattle.vortex_model.specs.LogicalType.{LogicalType, boolean_type, nullable};
-ghost use Rattle.vortex_model_table.specs.Expression.{literal, column, reads_columns};
+ghost use Rattle.vortex_model.specs.Valid.{IsContent};
+ghost use Rattle.vortex_model_table.specs.Expression.{literal, column, reads_columns, HasFormedLiterals};
 ghost use Rattle.vortex_model_table.specs.Typing.{is_float};
 ghost use Rattle.vortex_model_table.specs.Truth.{is_free_of_backslash};
 ghost use Rattle.vortex_model_rules.specs.Faults.{unequal_types, not_boolean, proof_fault};
@@ -67,7 +68,8 @@ pub fn type_expression(
     dtype: &DType,
     e: &Expression,
 ) -> Result<TypedExpression, StatsError>
-    ensures { IsTyped (type_of dtype.now) e.now result }
+    ensures typed { IsTyped (type_of dtype.now) e.now result }
+    ensures formed { OnOk result (HasFormedLiterals e.now) }
 {
     match &e.node {
         Node::Literal(value) => type_literal(value),
@@ -128,7 +130,9 @@ fn type_both(
     left: &Expression,
     right: &Expression,
 ) -> Result<(TypedExpression, TypedExpression), StatsError>
-    ensures { AreTyped (type_of dtype.now) left.now right.now result }
+    ensures typed { AreTyped (type_of dtype.now) left.now right.now result }
+    ensures formed { OnOk result (HasFormedLiterals left.now) }
+    ensures formed_right { OnOk result (HasFormedLiterals right.now) }
 {
     let first = type_expression(alloc, dtype, left)?;
     let second = type_expression(alloc, dtype, right)?;
@@ -145,9 +149,11 @@ fn truth(has_truth: bool) -> TypedExpression
     }
 }
 
+#[tactic(auto, using(crate::proofs::FormedLiterals::scalar_is_formed))]
 fn type_literal(value: &Scalar) -> Result<TypedExpression, StatsError>
-    ensures { (k : LogicalType)
+    ensures typed { (k : LogicalType)
         → IsTyped k (literal (scalar_type value.now) (scalar_content value.now)) result }
+    ensures formed { IsContent (scalar_type value.now) (scalar_content value.now) }
 {
     Ok(TypedExpression {
         dtype: value.dtype().clone()?,

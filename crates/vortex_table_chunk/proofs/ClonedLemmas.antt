@@ -45,14 +45,17 @@ own_type : (k : LogicalType) (a b : ColumnBounds) → SaysTheSame a b → is_typ
 own_type k a b s = λ i. eq_sum_kind (int_kind_of (s.sum_type i)) (sum_kind k) && (is_said_of k (s.low i) && is_said_of k (s.high i))
 
 own_bounds : (L : ℕ) (a b : ColumnBounds) (cs : List Content) → SaysTheSame a b → IsBoundsOf L a cs → IsBoundsOf L b cs
-own_bounds L a b cs s h = record {
-  low = same_bound a.low b.low s.low ∙ h.low;
-  high = same_bound a.high b.high s.high ∙ h.high;
-  nulls = s.nulls ∙ h.nulls;
-  total = ap known_sum s.sum ∙ h.total ∙ ap (λ t. sum_in (int_kind_of t) (sum_of cs)) (sym s.sum_type);
-  kind = own_kind a b s ∙ h.kind;
-  constant = ap known_constancy s.constant ∙ h.constant;
-}
+own_bounds L a b cs s h =
+    let z = h.zone in record {
+      zone = record {
+        low = same_bound a.low b.low s.low ∙ z.low;
+        high = same_bound a.high b.high s.high ∙ z.high;
+        nulls = s.nulls ∙ z.nulls;
+        total = ap known_sum s.sum ∙ z.total ∙ ap (λ t. sum_in (int_kind_of t) (sum_of cs)) (sym s.sum_type);
+        constant = ap known_constancy s.constant ∙ z.constant;
+      };
+      kind = own_kind a b s ∙ h.kind;
+    }
 
 own_zone : (a b : ColumnBounds) (rows : ℕ) → SaysTheSame a b → zone_in b rows ≡ zone_in a rows
 own_zone a b rows s = λ i. record {

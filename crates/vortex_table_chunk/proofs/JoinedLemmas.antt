@@ -50,19 +50,19 @@ module _ (k : LogicalType) (L : Positions → ℕ) (rows : List Content) (typed 
   one_zone is b honest sums part leaf =
       let cs = values_at is rows in
       sym (λ i. record {
-        low = honest.low i;
-        high = honest.high i;
-        nulls = honest.nulls i;
+        low = honest.zone.low i;
+        high = honest.zone.high i;
+        nulls = honest.zone.nulls i;
         rows = column_length is i;
-        total = (honest.total ∙ ap (λ o. sum_in o (sum_of cs)) (sums ∙ ap sum_kind (kind_there k is part leaf.there))) i;
-        constant = honest.constant i;
+        total = (honest.zone.total ∙ ap (λ o. sum_in o (sum_of cs)) (sums ∙ ap sum_kind (kind_there k is part leaf.there))) i;
+        constant = honest.zone.constant i;
       })
 
   one_joined : (is : Positions) (b : ColumnBounds) → IsBoundsOf (L is) b (values_at is rows) → is_typed_as (kind_at k is) b ≡ true → IsJoined k L is b (rows ∷ [])
   one_joined is b honest types = record {
     made = λ part leaf. (alone (zone_of part (L is) (values_at is rows)), refl, one_zone is b honest (typed_sum (kind_at k is) b types) part leaf);
     nulls = (
-        let count = count_by-le-length is_null (values_at is rows) in let same = column_length is in let kept = honest.nulls in
+        let count = count_by-le-length is_null (values_at is rows) in let same = column_length is in let kept = honest.zone.nulls in
         omega (arith, count, same, kept));
     kind = honest.kind;
     types = types;

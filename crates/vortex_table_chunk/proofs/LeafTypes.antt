@@ -13,9 +13,9 @@ use Rattle.vortex_arrays_model.specs.Layout.{Layout, array_type_of, rows_of}
 use Rattle.vortex_table_schema.proofs.LeafPlaces.{leaf_part}
 use Rattle.vortex_table_chunk.specs.Rows.{HasRowsOfType}
 use Rattle.vortex_table_chunk.specs.declared.zones.bounds.ColumnBounds.{ColumnBounds}
-use Rattle.vortex_table_chunk.specs.zones.Bounds.{IsBoundsOf}
+use Rattle.vortex_table_chunk.specs.zones.Bounds.{IsZoneOf, IsBoundsOf}
 use Rattle.vortex_table_chunk.specs.zones.Kinds.{HasKindsOf}
-use Rattle.vortex_table_chunk.specs.zones.Sums.{int_kind_of}
+use Rattle.vortex_table_chunk.specs.zones.Sums.{int_kind_of, is_sum_of}
 use Rattle.vortex_table_chunk.specs.zones.Typed.{is_typed_as}
 use Rattle.vortex_table_chunk.proofs.JoinedLemmas.{kind_there}
 use Rattle.vortex_table_chunk.proofs.zones.TypeLemmas.{inside_aside, typed_so}
@@ -58,6 +58,12 @@ carried_typed a is k L b leads typed same honest kinds sums =
     let there = kind_there (array_type_of a) is leaf.part leaf.there in
     subst (λ t. is_typed_as t b ≡ true) (sym there)
     (typed_so k leaf.part L b (values_at is (rows_of a)) (same ∙ ap (with_nullability nullable) there) leaf.leaf (all_at_type (array_type_of a) is leaf.part (rows_of a) leaf.there typed) honest kinds sums)
+
+-- bounds of the same zone map, with the same sum of the same type
+pub bounds_stay : (old : ColumnBounds) (o : Option ColumnBounds) → IfSome o (λ b. (L : ℕ) (cs : List Content) → IsZoneOf L old cs → IsZoneOf L b cs) → IfSome o (λ b. b.sum ≡ old.sum) → IfSome o (λ b. b.sum_type ≡ old.sum_type) →
+    IfSome o (λ b. (L : ℕ) (cs : List Content) → IsBoundsOf L old cs → IsBoundsOf L b cs)
+bounds_stay old None zone sum type = tt
+bounds_stay old (Some b) zone sum type = λ L cs h. record { zone = zone L cs h.zone; kind = (λ j. is_sum_of (int_kind_of (type j)) (sum j)) ∙ h.kind }
 
 pub carried_where : (a : Layout) (is : Positions) (k : LogicalType) (old : ColumnBounds) (o : Option ColumnBounds) → int_kind_of old.sum_type ≡ sum_kind k → with_nullability nullable k ≡ type_aside (array_type_of a) is →
     IfSome o (λ b. (L : ℕ) (cs : List Content) → IsBoundsOf L old cs → IsBoundsOf L b cs) → IfSome o (λ b. b.sum_type ≡ old.sum_type) → IfSome o (λ b. HasKindsOf k b) →

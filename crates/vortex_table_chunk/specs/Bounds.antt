@@ -6,7 +6,7 @@ use Rattle.vortex_model.specs.Path.{Positions}
 use Rattle.vortex_model.specs.LogicalType.{LogicalType}
 use Rattle.vortex_model_table.specs.Scan.{kind_at}
 use Rattle.vortex_model_table.specs.ZoneMap.{values_at}
-use Rattle.vortex_table_chunk.specs.zones.Bounds.{IsBoundsOf}
+use Rattle.vortex_table_chunk.specs.zones.Bounds.{IsZoneOf, IsBoundsOf}
 use Rattle.vortex_table_chunk.specs.declared.zones.bounds.ColumnBounds.{ColumnBounds}
 use Rattle.vortex_table_chunk.specs.BoundCode.{coded_bound, coded_precision}
 use Rattle.vortex_table_chunk.specs.zones.Typed.{is_typed_as}
@@ -25,14 +25,19 @@ are_typed_at k (is ∷ leaves) (b ∷ bounds) =
     is_typed_as (kind_at k is) b && are_typed_at k leaves bounds
 are_typed_at k leaves bounds = false
 
-pub IsBoundsOf-prop : (L : ℕ) (b : ColumnBounds) (cs : List Content) → IsProp (IsBoundsOf L b cs)
-IsBoundsOf-prop L b cs = λ p q i. record {
+IsZoneOf-prop : (L : ℕ) (b : ColumnBounds) (cs : List Content) → IsProp (IsZoneOf L b cs)
+IsZoneOf-prop L b cs = λ p q i. record {
   low = Coded-set coded_bound _ _ p.low q.low i;
   high = Coded-set coded_bound _ _ p.high q.high i;
   nulls = Coded-set coded_ℕ _ _ p.nulls q.nulls i;
   total = Coded-set (coded_precision coded_ℤ) _ _ p.total q.total i;
-  kind = Coded-set coded_bool _ _ p.kind q.kind i;
   constant = Coded-set (coded_precision coded_bool) _ _ p.constant q.constant i;
+}
+
+pub IsBoundsOf-prop : (L : ℕ) (b : ColumnBounds) (cs : List Content) → IsProp (IsBoundsOf L b cs)
+IsBoundsOf-prop L b cs = λ p q i. record {
+  zone = IsZoneOf-prop L b cs p.zone q.zone i;
+  kind = Coded-set coded_bool _ _ p.kind q.kind i;
 }
 
 pub AreBoundsOf-prop : (lengths : List ℕ) (leaves : List Positions) (bounds : List ColumnBounds)

@@ -93,8 +93,8 @@ between x y (c ∷ cs) p q i d l = absurd (cc (p.0))
 
 pub lie_between : (x y : ℤ) (b : ColumnBounds) (L : ℕ) (cs : List Content) → bound_in b.low ≡ exact (integer x) → bound_in b.high ≡ exact (integer y) → IsBoundsOf L b cs → All (IsBetween x y) cs
 lie_between x y b L cs p q h =
-    let least : least_value (non_null cs) ≡ Some (integer x) = low_is (least_value (non_null cs)) L x (sym h.low ∙ p) in
-    let greatest : greatest_value (non_null cs) ≡ Some (integer y) = high_is (greatest_value (non_null cs)) L y (sym h.high ∙ q) in
+    let least : least_value (non_null cs) ≡ Some (integer x) = low_is (least_value (non_null cs)) L x (sym h.zone.low ∙ p) in
+    let greatest : greatest_value (non_null cs) ≡ Some (integer y) = high_is (greatest_value (non_null cs)) L y (sym h.zone.high ∙ q) in
     between x y cs (picked_end is_at_most (integer x) (non_null cs) least).1 (picked_end is_at_least (integer y) (non_null cs) greatest).1
 
 -- the bounds at an index are those of the leaf there, at some bound length

@@ -23,7 +23,7 @@ use Rattle.vortex_stats_expr.specs.declared.types.Leaf.{Leaf}
 use Rattle.vortex_stats_expr.specs.declared.types.Leaf.TheVariants as leaf
 use Rattle.vortex_stats_expr.specs.declared.types.TypeClass.TheVariants as class
 use Rattle.vortex_table_plan.proofs.BoundValues.{bound_says}
-use Rattle.vortex_table_plan.proofs.FormedLiterals.{scalar_is_formed}
+use Rattle.vortex_stats_rewrite.proofs.FormedLiterals.{scalar_is_formed}
 
 -- ---- leaves
 

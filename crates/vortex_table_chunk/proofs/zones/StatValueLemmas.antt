@@ -28,4 +28,4 @@ module _ (b : ColumnBounds) (rows : ℕ) (z : ZoneMap) (low : bound_in b.low ≡
 -- so do those of a leaf's column
 module _ (b : ColumnBounds) (k : LogicalType) (L rows : ℕ) (cs : List Content) (honest : IsBoundsOf L b cs) (xs : Names) (zones : Names → Option ZoneMap) (is : zones xs ≡ Some (zone_of k L cs)) where
   pub stat_values_are_right : (a : Aggregate) → stat_value b rows a ≡ known zones rows (column xs) a
-  stat_values_are_right = stat_values_alike b rows (zone_of k L cs) honest.low honest.high honest.nulls xs zones is
+  stat_values_are_right = stat_values_alike b rows (zone_of k L cs) honest.zone.low honest.zone.high honest.zone.nulls xs zones is

@@ -200,5 +200,5 @@ pub typed_so : (k part : LogicalType) (L : ℕ) (b : ColumnBounds) (cs : List Co
     IsBoundsOf L b cs → HasKindsOf k b → int_kind_of b.sum_type ≡ sum_kind k → is_typed_as part b ≡ true
 typed_so k part L b cs same leaf typed honest kinds sums =
     typed_as part b (sums ∙ same_sums k part same)
-    (said_fits part b.low (subst (λ p. FormIn part (value_in p)) (sym honest.low) (values_low part L cs leaf typed)) (kinds_as k part same b.low kinds.low))
-    (said_fits part b.high (subst (λ p. FormIn part (value_in p)) (sym honest.high) (values_high part L cs leaf typed)) (kinds_as k part same b.high kinds.high))
+    (said_fits part b.low (subst (λ p. FormIn part (value_in p)) (sym honest.zone.low) (values_low part L cs leaf typed)) (kinds_as k part same b.low kinds.low))
+    (said_fits part b.high (subst (λ p. FormIn part (value_in p)) (sym honest.zone.high) (values_high part L cs leaf typed)) (kinds_as k part same b.high kinds.high))

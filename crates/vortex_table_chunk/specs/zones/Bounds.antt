@@ -18,12 +18,16 @@ abbrev pub bound_in : Option Bound → Precision Content
 bound_in None = absent
 bound_in (Some b) = bound_of b.shortened (bound_content b)
 
--- the bounds, the sum and the constancy are those of the zone map of the values, at this bound
--- length, and the sum is of its own type
-pub record IsBoundsOf (L : ℕ) (b : ColumnBounds) (cs : List Content) : Type 0 where
+-- the bounds, the null count, the sum and the constancy are those of the zone map of the values, at
+-- this bound length
+pub record IsZoneOf (L : ℕ) (b : ColumnBounds) (cs : List Content) : Type 0 where
   pub low : bound_in b.low ≡ low_of_values L cs
   pub high : bound_in b.high ≡ high_of_values L cs
   pub nulls : b.null_count ≡ null_count_of cs
   pub total : known_sum b.sum ≡ sum_in (int_kind_of b.sum_type) (sum_of cs)
-  pub kind : is_sum_of (int_kind_of b.sum_type) b.sum ≡ true
   pub constant : known_constancy b.constant ≡ exact (is_constant cs)
+
+-- so they are, and the sum is of its own type
+pub record IsBoundsOf (L : ℕ) (b : ColumnBounds) (cs : List Content) : Type 0 where
+  pub zone : IsZoneOf L b cs
+  pub kind : is_sum_of (int_kind_of b.sum_type) b.sum ≡ true

@@ -7,9 +7,9 @@ ghost use Rattle.vortex_model_table.specs.Typing.{sum_kind};
 ghost use Rattle.vortex_model_table.specs.ZoneMap.{zone_of};
 ghost use Rattle.vortex_dtype_core.specs.View.{type_of};
 ghost use Rattle.vortex_stats_array.specs.Zones.{zone_in, bound_content as known_bound, IsBoundIn, AreOfType};
-ghost use Rattle.vortex_table_chunk.specs.zones.Bounds.{bound_in, IsBoundsOf};
+ghost use Rattle.vortex_table_chunk.specs.zones.Bounds.{bound_in, IsZoneOf};
 ghost use Rattle.vortex_table_chunk.specs.zones.Alike.{said_by};
-ghost use Rattle.vortex_table_chunk.specs.zones.Sums.{int_kind_of};
+ghost use Rattle.vortex_table_chunk.specs.zones.Sums.{int_kind_of, is_sum_of};
 ghost use Rattle.vortex_table_chunk.specs.zones.Typed.{is_said_of, is_typed_as};
 
 use std::alloc::AllocError;
@@ -67,9 +67,10 @@ fn bound_of(known: Precision<ScalarValue>) -> Option<Bound>
 impl ColumnBounds {
     /// The statistics to keep of a column of the type.
     pub fn of_stats(dtype: &DType, stats: ArrayStats) -> ColumnBounds
-        ensures statistics { (L : ℕ) (values : List Content)
-            → zone_in stats ≡ zone_of (type_of dtype.now) L values
-            → AreOfType (type_of dtype.now) stats → IsBoundsOf L result values }
+        ensures zone { (L : ℕ) (values : List Content)
+            → zone_in stats ≡ zone_of (type_of dtype.now) L values → IsZoneOf L result values }
+        ensures kind { AreOfType (type_of dtype.now) stats
+            → is_sum_of (int_kind_of result.sum_type) result.sum ≡ true }
         ensures types { is_leaf (type_of dtype.now) ≡ true → AreOfType (type_of dtype.now) stats
             → is_typed_as (type_of dtype.now) result ≡ true }
         ensures sum_type { int_kind_of result.sum_type ≡ sum_kind (type_of dtype.now) }

@@ -1,5 +1,5 @@
 //! Statistics of a leaf column whose rows are converted.
-ghost use Rattle.std.specs.Prelude.{◌≡◌, true, ℕ, List, Some, IfOk, IfSome, IsTrue};
+ghost use Rattle.std.specs.Prelude.{◌≡◌, ℕ, List, Some, IfOk, IfSome, IsTrue};
 ghost use Rattle.vortex_model.specs.Content.{Content, content_of};
 ghost use Rattle.vortex_model.specs.LogicalType.{Nullability};
 ghost use Rattle.vortex_model_table.specs.Statistics.{sum_of};
@@ -10,9 +10,9 @@ ghost use Rattle.vortex_dtype_ptype.specs.View.{number_kind_of};
 ghost use Rattle.vortex_dtype_core.specs.View.{type_of};
 ghost use Rattle.vortex_scalar_value.specs.Numbers.{integer_of, raw_of_number};
 ghost use Rattle.vortex_scalar_value.specs.View.{raw_of};
-ghost use Rattle.vortex_table_chunk.specs.zones.Bounds.{bound_in, IsBoundsOf};
+ghost use Rattle.vortex_table_chunk.specs.zones.Bounds.{bound_in, IsZoneOf};
 ghost use Rattle.vortex_table_chunk.specs.zones.Kinds.{IsOfKindOf, HasKindsOf};
-ghost use Rattle.vortex_table_chunk.specs.zones.Sums.{int_kind_of, known_sum, is_sum_of};
+ghost use Rattle.vortex_table_chunk.specs.zones.Sums.{int_kind_of, known_sum};
 
 use crate::zones::bounds::{Bound, ColumnBounds};
 use std::alloc::AllocError;
@@ -121,8 +121,9 @@ impl ColumnBounds {
     /// they are moved as one block.
     #[inline(never)]
     pub(crate) fn in_kind_of(&self, dtype: &DType) -> Option<ColumnBounds>
-        ensures statistics { IfSome result (λ new. (L : ℕ) (values : List Content)
-            → IsBoundsOf L self.now values → IsBoundsOf L new values) }
+        ensures zone { IfSome result (λ new. (L : ℕ) (values : List Content)
+            → IsZoneOf L self.now values → IsZoneOf L new values) }
+        ensures sum { IfSome result (λ new. new.sum ≡ self.now.sum) }
         ensures sum_type { IfSome result (λ new. new.sum_type ≡ self.now.sum_type) }
         ensures kinds { IfSome result (λ new. HasKindsOf (type_of dtype.now) new) }
     {
@@ -154,11 +155,11 @@ impl ColumnBounds {
     /// The statistics of the column as one of the type, whose sum is this. Bounds that are integers
     /// are of its kind. Texts and bytes are shared, and are not shortened again.
     pub fn carried_to(&self, dtype: &DType, sum: Option<PValue>) -> Result<ColumnBounds, AllocError>
-        ensures statistics { IfOk result (λ new. (L : ℕ) (values : List Content)
-            → IsBoundsOf L self.now values
+        ensures zone { IfOk result (λ new. (L : ℕ) (values : List Content)
+            → IsZoneOf L self.now values
             → known_sum sum ≡ sum_in (sum_kind (type_of dtype.now)) (sum_of values)
-            → is_sum_of (sum_kind (type_of dtype.now)) sum ≡ true
-            → IsBoundsOf L new values) }
+            → IsZoneOf L new values) }
+        ensures sum { IfOk result (λ new. new.sum ≡ sum) }
         ensures sum_type { IfOk result
             (λ new. int_kind_of new.sum_type ≡ sum_kind (type_of dtype.now)) }
         ensures kinds { IfOk result (λ new. HasKindsOf (type_of dtype.now) new) }

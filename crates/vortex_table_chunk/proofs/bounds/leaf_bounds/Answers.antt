@@ -11,9 +11,11 @@ use Rattle.vortex_table_chunk.proofs.bounds.leaf_bounds.Goals as goal
 pub returns-clause-statistics : goal.returns-clause-statistics
 returns-clause-statistics c =
     let L = c.args.max_length in let column = c.in_ok-column.column in let rows = rows_of c.args.array.now in
-    c.of_stats.ensures.statistics L (values_at c.args.leaf.now rows)
-    (c.in_ok-stats.ensures.zone ∙ (λ j. zone_of (sym c.dtype.ensures j) L (part_rows c.args.array.now column c.args.leaf.now c.in_ok-column.ensures.part j)))
-    (subst (λ t. AreOfType t c.in_ok-stats.stats) (sym c.dtype.ensures) c.in_ok-stats.ensures.types)
+    record {
+      zone = c.of_stats.ensures.zone L (values_at c.args.leaf.now rows)
+          (c.in_ok-stats.ensures.zone ∙ (λ j. zone_of (sym c.dtype.ensures j) L (part_rows c.args.array.now column c.args.leaf.now c.in_ok-column.ensures.part j)));
+      kind = c.of_stats.ensures.kind (subst (λ t. AreOfType t c.in_ok-stats.stats) (sym c.dtype.ensures) c.in_ok-stats.ensures.types);
+    }
 
 pub returns-clause-types : goal.returns-clause-types
 returns-clause-types c =

@@ -12,9 +12,10 @@ pub returns-then-has_sum_of-clause-statistics : goal.returns-then-has_sum_of-cla
 returns-then-has_sum_of-clause-statistics c =
     let values = values_at c.args.leaf.now (rows_of c.args.array.now) in
     let sums = c.has_sum_of.ensures c.if-has_sum_of.true in
-    c.in_ok-bounds.ensures.statistics c.args.max_length values c.requires.old
-    (c.requires.old.total ∙ ap (λ k. sum_in k (sum_of values)) sums)
-    (subst (λ k. is_sum_of k c.args.old.now.sum ≡ true) sums c.requires.old.kind)
+    record {
+      zone = c.in_ok-bounds.ensures.zone c.args.max_length values c.requires.old.zone (c.requires.old.zone.total ∙ ap (λ k. sum_in k (sum_of values)) sums);
+      kind = (λ j. is_sum_of (c.in_ok-bounds.ensures.sum_type j) (c.in_ok-bounds.ensures.sum j)) ∙ subst (λ k. is_sum_of k c.args.old.now.sum ≡ true) sums c.requires.old.kind;
+    }
 
 pub returns-then-has_sum_of-clause-types : goal.returns-then-has_sum_of-clause-types
 returns-then-has_sum_of-clause-types c = λ typed.

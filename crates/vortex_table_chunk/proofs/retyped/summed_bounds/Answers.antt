@@ -19,9 +19,12 @@ carried_sum-requires-clause-old c =
 pub returns-clause-statistics : goal.returns-clause-statistics
 returns-clause-statistics c =
     let column = c.in_ok-column.column in let leaf = c.args.leaf.now in let rows = rows_of c.args.array.now in
-    c.in_ok-bounds.ensures.statistics c.args.max_length (values_at leaf rows) c.requires.old
-    (c.in_ok-sum.ensures.number ∙ (λ j. sum_in (sum_kind (sym c.dtype.ensures j)) (sum_of (part_rows c.args.array.now column leaf c.in_ok-column.ensures.part j))))
-    (subst (λ k. is_sum_of (sum_kind k) c.in_ok-sum.sum ≡ true) (sym c.dtype.ensures) c.in_ok-sum.ensures.kind)
+    record {
+      zone = c.in_ok-bounds.ensures.zone c.args.max_length (values_at leaf rows) c.requires.old.zone
+          (c.in_ok-sum.ensures.number ∙ (λ j. sum_in (sum_kind (sym c.dtype.ensures j)) (sum_of (part_rows c.args.array.now column leaf c.in_ok-column.ensures.part j))));
+      kind = (λ j. is_sum_of (c.in_ok-bounds.ensures.sum_type j) (c.in_ok-bounds.ensures.sum j))
+          ∙ subst (λ k. is_sum_of (sum_kind k) c.in_ok-sum.sum ≡ true) (sym c.dtype.ensures) c.in_ok-sum.ensures.kind;
+    }
 
 pub returns-clause-types : goal.returns-clause-types
 returns-clause-types c = λ typed.
