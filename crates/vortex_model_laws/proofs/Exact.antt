@@ -22,7 +22,7 @@ use Rattle.vortex_model_table.specs.Table.{Table, IsTable, bound_length}
 use Rattle.vortex_model_table.specs.Scan.{chunk_zone, chunk_zone_at, if_leaf, leaf_at, proves, Outcome, skipped, whole, tested, is_skipped, chunk_outcome, numbers, skipped_chunks}
 use Rattle.vortex_model_table.specs.Command.{expression_fault, column_fault, unless, is_boolean, eq_optional_type, is_utf8_type, is_supported_like}
 use Rattle.vortex_model_table.specs.Pruning.{IsAsked}
-use Rattle.vortex_model_table.specs.Class.{Box, box_of, unknown_zone, IsValueOf, Hopeless, columns_of, all_distinct, is_there, has_both, is_bounded, are_sides, is_column, are_ends, is_text_form, is_wide_tree, is_wide}
+use Rattle.vortex_model_table.specs.Class.{Box, box_of, unknown_zone, IsValueOf, Hopeless, is_there, has_both, is_bounded, are_sides, is_column, are_ends, is_text_form, is_wide_tree, is_wide}
 use Rattle.vortex_model_laws.proofs.Columns.{all_at_type}
 use Rattle.vortex_model_table.proofs.ContentOrder.{le, true_left, true_right}
 use Rattle.vortex_model_laws.proofs.Held.{first_none, second_none}
@@ -32,7 +32,7 @@ use Rattle.vortex_model.proofs.Tests.{kind_so, range_so}
 use Rattle.vortex_model_laws.proofs.Texts.{IsTextual}
 use Rattle.vortex_model_laws.specs.Exact.{SomeChoice}
 use Rattle.vortex_model_laws.proofs.Alone.{zone_ordered, as_each_alone}
-use Rattle.vortex_model_laws.proofs.Complete.{either_way, IsSide, IsTestable, IsLikeable, IsGood, tree_fails, apart_where_distinct, complete}
+use Rattle.vortex_model_laws.proofs.Complete.{either_way, IsSide, IsTestable, IsLikeable, IsGood, tree_fails, wide_parts, reached}
 use Rattle.vortex_model_laws.proofs.Members.{IsMember, member_itself, member_made, member_held, member_bare, member_of_bare, low_is_member, high_is_member}
 use Rattle.vortex_model_laws.proofs.Ruled.{from_made, to_made, there_value, there, exactly}
 use Rattle.vortex_model_laws.proofs.Tighter.{not_true}
@@ -363,14 +363,12 @@ one_of_all P (x ∷ xs) y ys h = one_of_all P xs y ys h.1
 
 pub exactly_hopeless : (t : Table) (e : Expression) (before : List (List Content)) (chunk : List Content) (after : List (List Content)) → IsTable t → IsAsked t e → is_wide e ≡ true →
     t.chunks ≡ before ++ chunk ∷ after → is_bounded (box_of (chunk_zone t chunk)) e ≡ true → Contains (skipped_chunks t e) (length before) ↔ Hopeless t.kind e (box_of (chunk_zone t chunk))
-exactly_hopeless t e before chunk after is asked single place bounded =
-    let tree = true_left (is_wide_tree e) (all_distinct (columns_of e)) single in
-    let distinct = true_right (is_wide_tree e) (all_distinct (columns_of e)) single in
+exactly_hopeless t e before chunk after is asked wide place bounded =
     let rows = one_of_all (λ c. AllByRecursion (IsContent t.kind) c) before chunk after (subst (AllByRecursion (λ c. AllByRecursion (IsContent t.kind) c)) place is.rows) in
     let fault = first_none (expression_fault t.kind e) (unless (is_boolean (expression_type t.kind e)) not_boolean) asked.faultless in
     let some = one_of_all (λ c. 0 < length c) before chunk after (subst (AllByRecursion (λ c. 0 < length c)) place is.not_empty) in
-    let h = good t chunk rows some e tree fault asked.formed bounded in
-    let ways = exactly t.kind (chunk_zone t chunk) (length chunk) (even t chunk) e h distinct in
+    let h = good t chunk rows some e (wide_parts e wide).0 fault asked.formed bounded in
+    let ways = exactly t.kind (chunk_zone t chunk) (length chunk) (even t chunk) e h wide in
     let f = chunk_outcome t e in
     let listed : skipped_chunks t e ≡ numbers is_skipped 0 (map f before ++ f chunk ∷ map f after) =
     (as_each_alone t e is).skipped ∙ ap (λ cs. numbers is_skipped 0 (map f cs)) place ∙ ap (numbers is_skipped 0) (map-append f before (chunk ∷ after)) in
@@ -388,13 +386,11 @@ clashing false e f = cc (e)
 
 pub some_choice : (t : Table) (e : Expression) (chunk : List Content) → IsAsked t e → AllByRecursion (IsContent t.kind) chunk → 0 < length chunk → is_wide e ≡ true →
     is_bounded (box_of (chunk_zone t chunk)) e ≡ true → proves (chunk_zone t chunk) (length chunk) (falsifier t.kind e) ≡ false → SomeChoice t e chunk
-some_choice t e chunk asked rows some single bounded unproved =
-    let tree = true_left (is_wide_tree e) (all_distinct (columns_of e)) single in
-    let distinct = true_right (is_wide_tree e) (all_distinct (columns_of e)) single in
+some_choice t e chunk asked rows some wide bounded unproved =
     let fault = first_none (expression_fault t.kind e) (unless (is_boolean (expression_type t.kind e)) not_boolean) asked.faultless in
-    let h = good t chunk rows some e tree fault asked.formed bounded in
+    let h = good t chunk rows some e (wide_parts e wide).0 fault asked.formed bounded in
     let box = box_of (chunk_zone t chunk) in
     either_way (tree_fails t.kind box e)
     (λ f. let p = there t.kind (chunk_zone t chunk) (length chunk) (even t chunk) e h in
     absurd (clashing (proves (chunk_zone t chunk) (length chunk) (falsifier t.kind e)) (ap (proves (chunk_zone t chunk) (length chunk)) p.1 ∙ ap is_true (p.2 f)) unproved))
-    (λ f. let r = complete t.kind box e h (apart_where_distinct e distinct) f (λ xs. null) in record { choice = r.choice; inside = r.inside; holds = r.holds })
+    (λ f. let r = reached t.kind box e h wide f in record { choice = r.choice; inside = r.inside; holds = r.holds })

@@ -1,7 +1,7 @@
 -- The predicates for which skipping is exact, and the boxes that no choice of values in them
 -- satisfies.
 use Rattle.std.specs.Prelude.{chars, ◌≡◌, ◌≢◌, ℕ, ◌<◌, List, [], ◌∷◌, ◌++◌, Bool, true, false, not, ◌&&◌, ◌||◌, is_some, Option, Some, None, IfSome, ◌==◌}
-use Rattle.std.specs.List.{list_any}
+use Rattle.std.specs.List.{list_any, list_all}
 use Rattle.vortex_model.specs.LogicalType.{LogicalType, non_nullable, with_nullability}
 use Rattle.vortex_model.specs.Content.{Content, null, boolean, text, is_null as is_null_content}
 use Rattle.vortex_model.specs.Valid.{IsContent}
@@ -105,9 +105,39 @@ is_wide_tree (is_not_null x) = is_column x
 is_wide_tree (like x (literal k (text form)) false false) = is_column x && is_text_form form
 is_wide_tree e = false
 
--- in which no column stands twice, those of null tests included
+-- the columns under null tests
+abbrev pub columns_under_tests : Expression → List Names
+columns_under_tests (both x y) = columns_under_tests x ++ columns_under_tests y
+columns_under_tests (either x y) = columns_under_tests x ++ columns_under_tests y
+columns_under_tests (is_null x) = columns_of x
+columns_under_tests (is_not_null x) = columns_of x
+columns_under_tests e = []
+
+-- and those outside them
+abbrev pub columns_outside_tests : Expression → List Names
+columns_outside_tests (both x y) = columns_outside_tests x ++ columns_outside_tests y
+columns_outside_tests (either x y) = columns_outside_tests x ++ columns_outside_tests y
+columns_outside_tests (is_null x) = []
+columns_outside_tests (is_not_null x) = []
+columns_outside_tests e = columns_of e
+
+-- no path stands in both
+abbrev pub are_disjoint : List Names → List Names → Bool
+are_disjoint xss yss = list_all (λ xs. not (list_any (eq_names xs) yss)) xss
+
+-- no column stands on both sides of a comparison or of an AND
+abbrev pub sides_are_disjoint : Expression → Bool
+sides_are_disjoint (compare op x y) = are_disjoint (columns_of x) (columns_of y)
+sides_are_disjoint (both x y) =
+    sides_are_disjoint x && sides_are_disjoint y && are_disjoint (columns_of x) (columns_of y)
+sides_are_disjoint (either x y) = sides_are_disjoint x && sides_are_disjoint y
+sides_are_disjoint e = true
+
+-- in which so it is, and no column stands both under a null test and outside of null tests, where a
+-- value is asked for that is not null
 abbrev pub is_wide : Expression → Bool
-is_wide e = is_wide_tree e && all_distinct (columns_of e)
+is_wide e = is_wide_tree e && sides_are_disjoint e &&
+    are_disjoint (columns_outside_tests e) (columns_under_tests e)
 
 -- ---- boxes
 
