@@ -105,7 +105,7 @@ is_wide_tree (is_not_null x) = is_column x
 is_wide_tree (like x (literal k (text form)) false false) = is_column x && is_text_form form
 is_wide_tree e = false
 
--- the columns under null tests
+-- the columns of such a tree under null tests
 abbrev pub columns_under_tests : Expression → List Names
 columns_under_tests (both x y) = columns_under_tests x ++ columns_under_tests y
 columns_under_tests (either x y) = columns_under_tests x ++ columns_under_tests y
@@ -133,8 +133,8 @@ sides_are_disjoint (both x y) =
 sides_are_disjoint (either x y) = sides_are_disjoint x && sides_are_disjoint y
 sides_are_disjoint e = true
 
--- in which so it is, and no column stands both under a null test and outside of null tests, where a
--- value is asked for that is not null
+-- The wide class: such trees, in which also no column stands both under a null test, where null may
+-- be chosen, and outside, where it may not. A column may stand on both sides of an OR.
 abbrev pub is_wide : Expression → Bool
 is_wide e = is_wide_tree e && sides_are_disjoint e &&
     are_disjoint (columns_outside_tests e) (columns_under_tests e)
@@ -224,10 +224,4 @@ has_both box xs = is_there (box xs).low && is_there (box xs).high
 
 -- each column outside null tests has both bounds
 abbrev pub is_bounded : Box → Expression → Bool
-is_bounded box (column xs) = has_both box xs
-is_bounded box (compare op x y) = is_bounded box x && is_bounded box y
-is_bounded box (both x y) = is_bounded box x && is_bounded box y
-is_bounded box (either x y) = is_bounded box x && is_bounded box y
-is_bounded box (between x lo hi s t) = is_bounded box x
-is_bounded box (like x form n i) = is_bounded box x
-is_bounded box e = true
+is_bounded box e = list_all (has_both box) (columns_outside_tests e)
