@@ -2,6 +2,8 @@
 use Rattle.std.proofs.Common.{◌≡◌, refl, sym, ◌∙◌, ap, subst, ℕ, ◌<◌, ◌≤◌, ◌==◌, arith, List, [], ◌∷◌, ◌++◌, Bool, true, false, not, ◌&&◌, ◌||◌, if◌then◌else◌, Some, ◌⊎◌, inl, inr, IsUtf8, chars, eqb-true}
 use Rattle.std.specs.List.{AllByRecursion, list_any}
 use Rattle.std.specs.Cmp.Lexicographic.{bytes_decides}
+use Rattle.std.specs.Str.{bytes_eq}
+use Rattle.std.proofs.lemmas.List.Folds.{list_any-append}
 use Rattle.std.proofs.lemmas.Bool.{cases_lt, eq-eqb}
 use Rattle.vortex_model.specs.LogicalType.{LogicalType, Nullability, utf8}
 use Rattle.vortex_model.specs.Content.{Content, null, boolean, text, is_null}
@@ -10,11 +12,11 @@ use Rattle.vortex_model_table.specs.Expression.{Expression, literal, column, com
 use Rattle.vortex_model_table.specs.Truth.{evaluate, compared, kleene_and, kleene_or, kleene_not, end_of, liked}
 use Rattle.vortex_model_table.specs.Statistics.{shown}
 use Rattle.vortex_model_table.specs.Rewrite.{comparison_falsifier, falsifier, shape_of}
-use Rattle.vortex_model_table.specs.Class.{Box, IsBetween, IsCounted, IsTested, IsIn, IsValueOf, of_choice, columns_of, eq_names, all_distinct, is_text_form}
+use Rattle.vortex_model_table.specs.Class.{Box, IsBetween, IsCounted, IsIn, IsValueOf, of_choice, columns_of, eq_names, is_text_form, is_wide_tree, columns_under_tests, columns_outside_tests, are_disjoint, sides_are_disjoint, is_wide}
 use Rattle.vortex_model_table.proofs.Chains.{not_above_chain}
 use Rattle.vortex_model_table.proofs.ContentOrder.{le, by_le, true_left, true_right}
-use Rattle.vortex_model_laws.proofs.Groups.{front_of_all, back_of_all, or_false_left, or_false_right}
-use Rattle.vortex_model_laws.proofs.Honesty.{all_among, each_among}
+use Rattle.vortex_model_laws.proofs.Groups.{all_append, front_of_all, back_of_all, or_false_left, or_false_right}
+use Rattle.vortex_model_laws.proofs.Honesty.{Among, each_among}
 use Rattle.vortex_model_laws.proofs.Leasts.{all_mapped, at_most_both}
 use Rattle.vortex_model_laws.proofs.Texts.{IsTextual}
 use Rattle.vortex_model_laws.proofs.Liked.{like_fails, like_chosen}
@@ -117,8 +119,17 @@ begins_itself : (xs : Names) → begins xs xs ≡ true
 begins_itself [] = refl
 begins_itself (x ∷ xs) = ap (λ b. b && begins xs xs) ((bytes_decides x x).1 refl) ∙ begins_itself xs
 
-names_same : (xs : Names) → eq_names xs xs ≡ true
+pub names_same : (xs : Names) → eq_names xs xs ≡ true
 names_same xs = (λ i. begins_itself xs i && begins_itself xs i)
+
+same_names : (xs ys : Names) → begins xs ys ≡ true → begins ys xs ≡ true → xs ≡ ys
+same_names [] [] e f = refl
+same_names [] (y ∷ ys) e f = absurd (cc (f))
+same_names (x ∷ xs) [] e f = absurd (cc (e))
+same_names (x ∷ xs) (y ∷ ys) e f =
+    let first = (bytes_decides x y).0 (true_left (bytes_eq x y) (begins xs ys) e) in
+    let rest = same_names xs ys (true_right (bytes_eq x y) (begins xs ys) e) (true_right (bytes_eq y x) (begins ys xs) f) in
+    λ i. first i ∷ rest i
 
 and_flipped : (b c : Bool) → b && c ≡ c && b
 and_flipped true true = refl
@@ -126,82 +137,84 @@ and_flipped true false = refl
 and_flipped false true = refl
 and_flipped false false = refl
 
-names_flipped : (xs ys : Names) → eq_names xs ys ≡ eq_names ys xs
+pub names_flipped : (xs ys : Names) → eq_names xs ys ≡ eq_names ys xs
 names_flipped xs ys = and_flipped (begins xs ys) (begins ys xs)
 
 -- none of the paths is this one
 abbrev pub NotAmong : Names → List Names → Type 0
-NotAmong j xss = AllByRecursion (λ xs. eq_names xs j ≡ false) xss
+NotAmong j xss = list_any (eq_names j) xss ≡ false
+
+pub not_front : (j : Names) (xss yss : List Names) → NotAmong j (xss ++ yss) → NotAmong j xss
+not_front j xss yss n = or_false_left (list_any (eq_names j) xss) (list_any (eq_names j) yss) (sym (list_any-append (eq_names j) xss yss) ∙ n)
+
+pub not_back : (j : Names) (xss yss : List Names) → NotAmong j (xss ++ yss) → NotAmong j yss
+not_back j xss yss n = or_false_right (list_any (eq_names j) xss) (list_any (eq_names j) yss) (sym (list_any-append (eq_names j) xss yss) ∙ n)
 
 -- no path stands in both lists
 abbrev pub AreApart : List Names → List Names → Type 0
-AreApart xss yss = AllByRecursion (λ ys. NotAmong ys xss) yss × AllByRecursion (λ xs. NotAmong xs yss) xss
+AreApart xss yss = AllByRecursion (λ xs. NotAmong xs yss) xss
 
-none_of : (xs : Names) (zss : List Names) → list_any (eq_names xs) zss ≡ false → AllByRecursion (λ zs. eq_names xs zs ≡ false) zss
-none_of xs [] h = tt
-none_of xs (zs ∷ zss) h = (or_false_left (eq_names xs zs) (list_any (eq_names xs) zss) h, none_of xs zss (or_false_right (eq_names xs zs) (list_any (eq_names xs) zss) h))
+pub apart : (xss yss : List Names) → are_disjoint xss yss ≡ true → AreApart xss yss
+apart [] yss h = tt
+apart (xs ∷ xss) yss h =
+    let here = not (list_any (eq_names xs) yss) in
+    (not_true (list_any (eq_names xs) yss) (true_left here (are_disjoint xss yss) h), apart xss yss (true_right here (are_disjoint xss yss) h))
 
-first_distinct : (xs : Names) (rest : List Names) → all_distinct (xs ∷ rest) ≡ true → AllByRecursion (λ zs. eq_names xs zs ≡ false) rest
-first_distinct xs rest h = none_of xs rest (not_true (list_any (eq_names xs) rest) (true_left (not (list_any (eq_names xs) rest)) (all_distinct rest) h))
+pub one_not : (xs ys : Names) (yss : List Names) → NotAmong xs yss → Among ys yss → eq_names xs ys ≡ false
+one_not xs ys [] n h = absurd h
+one_not xs ys (zs ∷ yss) n (inl e) = subst (λ z. eq_names xs z ≡ false) e (or_false_left (eq_names xs zs) (list_any (eq_names xs) yss) n)
+one_not xs ys (zs ∷ yss) n (inr h) = one_not xs ys yss (or_false_right (eq_names xs zs) (list_any (eq_names xs) yss) n) h
 
-rest_distinct : (xs : Names) (rest : List Names) → all_distinct (xs ∷ rest) ≡ true → all_distinct rest ≡ true
-rest_distinct xs rest h = true_right (not (list_any (eq_names xs) rest)) (all_distinct rest) h
+-- none of the paths is this one, from their side
+abbrev NoneIs : Names → List Names → Type 0
+NoneIs xs yss = AllByRecursion (λ ys. eq_names ys xs ≡ false) yss
 
-any_left : (xs : Names) (yss zss : List Names) → AllByRecursion (λ zs. eq_names xs zs ≡ false) yss → list_any (eq_names xs) yss ≡ false
-any_left xs [] zss h = refl
-any_left xs (ys ∷ yss) zss h = λ i. h.0 i || any_left xs yss zss h.1 i
+none_after : (xss yss : List Names) → AreApart xss yss → AllByRecursion (λ xs. NoneIs xs yss) xss
+none_after xss yss h =
+    all_mapped (λ xs. NotAmong xs yss) (λ xs. NoneIs xs yss) (λ xs n. each_among (λ ys. eq_names ys xs ≡ false) yss (λ ys there. names_flipped ys xs ∙ one_not xs ys yss n there)) xss h
 
-distinct_left : (xss yss : List Names) → all_distinct (xss ++ yss) ≡ true → all_distinct xss ≡ true
-distinct_left [] yss h = refl
-distinct_left (xs ∷ xss) yss h =
-    let none = any_left xs xss yss (front_of_all (λ zs. eq_names xs zs ≡ false) xss yss (first_distinct xs (xss ++ yss) h)) in
-    let more = distinct_left xss yss (rest_distinct xs (xss ++ yss) h) in
-    λ i. not (none i) && more i
+none_before : (xss yss : List Names) → AreApart xss yss → AllByRecursion (λ ys. NoneIs ys xss) yss
+none_before xss yss h =
+    each_among (λ ys. NoneIs ys xss) yss (λ ys there. all_mapped (λ xs. NotAmong xs yss) (λ xs. eq_names xs ys ≡ false) (λ xs n. one_not xs ys yss n there) xss h)
 
-distinct_right : (xss yss : List Names) → all_distinct (xss ++ yss) ≡ true → all_distinct yss ≡ true
-distinct_right [] yss h = h
-distinct_right (xs ∷ xss) yss h = distinct_right xss yss (rest_distinct xs (xss ++ yss) h)
+three_true : (b c d : Bool) → b && c && d ≡ true → (b ≡ true) × (c ≡ true) × (d ≡ true)
+three_true true true true e = (refl, refl, refl)
+three_true true true false e = absurd (cc (e))
+three_true true false d e = absurd (cc (e))
+three_true false c d e = absurd (cc (e))
 
-across : (xss yss : List Names) → all_distinct (xss ++ yss) ≡ true → AllByRecursion (λ xs. AllByRecursion (λ ys. eq_names xs ys ≡ false) yss) xss
-across [] yss h = tt
-across (xs ∷ xss) yss h =
-    (back_of_all (λ zs. eq_names xs zs ≡ false) xss yss (first_distinct xs (xss ++ yss) h), across xss yss (rest_distinct xs (xss ++ yss) h))
-
-apart : (xss yss : List Names) → all_distinct (xss ++ yss) ≡ true → AreApart xss yss
-apart xss yss h =
-    let a = across xss yss h in (
-      each_among (λ ys. NotAmong ys xss) yss (λ ys there. each_among (λ xs. eq_names xs ys ≡ false) xss (λ xs here.
-          all_among (λ zs. eq_names xs zs ≡ false) ys yss (all_among (λ zs. AllByRecursion (λ ws. eq_names zs ws ≡ false) yss) xs xss a here) there)),
-      all_mapped (λ xs. AllByRecursion (λ ys. eq_names xs ys ≡ false) yss) (λ xs. NotAmong xs yss)
-          (λ xs g. all_mapped (λ ys. eq_names xs ys ≡ false) (λ ys. eq_names ys xs ≡ false) (λ ys e. names_flipped ys xs ∙ e) yss g) xss a,
-    )
-
--- the sides of each node have no common column
-abbrev pub IsApart : Expression → Type 0
-IsApart (compare op x y) = AreApart (columns_of x) (columns_of y)
-IsApart (both x y) = IsApart x × IsApart y × AreApart (columns_of x) (columns_of y)
-IsApart (either x y) = IsApart x × IsApart y × AreApart (columns_of x) (columns_of y)
-IsApart e = Unit {0}
-
-pub apart_where_distinct : (e : Expression) → all_distinct (columns_of e) ≡ true → IsApart e
-apart_where_distinct (compare op x y) h = apart (columns_of x) (columns_of y) h
-apart_where_distinct (both x y) h =
-    (apart_where_distinct x (distinct_left (columns_of x) (columns_of y) h), apart_where_distinct y (distinct_right (columns_of x) (columns_of y) h), apart (columns_of x) (columns_of y) h)
-apart_where_distinct (either x y) h =
-    (apart_where_distinct x (distinct_left (columns_of x) (columns_of y) h), apart_where_distinct y (distinct_right (columns_of x) (columns_of y) h), apart (columns_of x) (columns_of y) h)
-apart_where_distinct e h = tt
+pub wide_parts : (e : Expression) → is_wide e ≡ true →
+    (is_wide_tree e ≡ true) × (sides_are_disjoint e ≡ true) × (are_disjoint (columns_outside_tests e) (columns_under_tests e) ≡ true)
+wide_parts e w = three_true (is_wide_tree e) (sides_are_disjoint e) (are_disjoint (columns_outside_tests e) (columns_under_tests e)) w
 
 -- ---- choices
 
 -- with another value in one column
 abbrev put : Names → Content → (Names → Content) → Names → Content
-put xs v f ys = if eq_names xs ys then v else f ys
+put xs v f ys = if eq_names ys xs then v else f ys
 
 put_here : (xs : Names) (v : Content) (f : Names → Content) → put xs v f xs ≡ v
 put_here xs v f = ap (λ b. if b then v else f xs) (names_same xs)
 
 put_elsewhere : (xs : Names) (v : Content) (f : Names → Content) (j : Names) → NotAmong j (xs ∷ []) → put xs v f j ≡ f j
-put_elsewhere xs v f j n = ap (λ b. if b then v else f j) n.0
+put_elsewhere xs v f j n = ap (λ b. if b then v else f j) (or_false_left (eq_names j xs) false n)
+
+-- what holds of each of these paths and its value holds still
+put_kept : (P : Names → Content → Type 0) (xs : Names) (v : Content) (f : Names → Content) (yss : List Names) → P xs v →
+    AllByRecursion (λ ys. P ys (f ys)) yss → AllByRecursion (λ ys. P ys (put xs v f ys)) yss
+put_kept P xs v f [] p h = tt
+put_kept P xs v f (ys ∷ yss) p h =
+    let back = λ (b : Bool) (e : eq_names ys xs ≡ b). sym (ap (λ b. if b then v else f ys) e) in (
+      either_way (eq_names ys xs)
+          (λ e. subst (P ys) (back true e) (subst (λ zs. P zs v) (sym (same_names ys xs (true_left (begins ys xs) (begins xs ys) e) (true_right (begins ys xs) (begins xs ys) e))) p))
+          (λ e. subst (P ys) (back false e) h.0),
+      put_kept P xs v f yss p h.1,
+    )
+
+put_apart : (P : Names → Content → Type 0) (xs : Names) (v : Content) (f : Names → Content) (yss : List Names) → NoneIs xs yss →
+    AllByRecursion (λ ys. P ys (f ys)) yss → AllByRecursion (λ ys. P ys (put xs v f ys)) yss
+put_apart P xs v f [] n h = tt
+put_apart P xs v f (ys ∷ yss) n h = (subst (P ys) (sym (ap (λ b. if b then v else f ys) n.0)) h.0, put_apart P xs v f yss n.1 h.1)
 
 -- where a side is a column, with this value there
 abbrev assign : Expression → Content → (Names → Content) → Names → Content
@@ -264,32 +277,6 @@ agreement row_count f h e = refl
 agreement (statistic x a) f h e = refl
 
 module _ (k : LogicalType) (box : Box) where
-  -- and lies in the box, if the other does
-  tested_moved : (x : Expression) (f h : Names → Content) → Agree f h (columns_of x) → IsTested k box h x → IsTested k box f x
-  tested_moved (column xs) f h e i = subst (IsCounted k box xs) (sym e.0) i
-  tested_moved x f h e i = tt
-
-  moved : (e : Expression) (f h : Names → Content) → Agree f h (columns_of e) → IsIn k box h e → IsIn k box f e
-  moved (literal l c) f h e i = tt
-  moved (column xs) f h e i = subst (IsBetween k box xs) (sym e.0) i
-  moved (compare op x y) f h e i =
-      (moved x f h (agree_front f h (columns_of x) (columns_of y) e) i.0, moved y f h (agree_back f h (columns_of x) (columns_of y) e) i.1)
-  moved (both x y) f h e i = (moved x f h (agree_front f h (columns_of x) (columns_of y) e) i.0, moved y f h (agree_back f h (columns_of x) (columns_of y) e) i.1)
-  moved (either x y) f h e i = (moved x f h (agree_front f h (columns_of x) (columns_of y) e) i.0, moved y f h (agree_back f h (columns_of x) (columns_of y) e) i.1)
-  moved (negation x) f h e i = moved x f h e i
-  moved (is_null_test x) f h e i = tested_moved x f h e i
-  moved (is_not_null_test x) f h e i = tested_moved x f h e i
-  moved (is_nan x) f h e i = moved x f h e i
-  moved (between x lo hi s t) f h e i =
-      let front = agree_front f h (columns_of x ++ columns_of lo) (columns_of hi) e in (
-        moved x f h (agree_front f h (columns_of x) (columns_of lo) front) i.0,
-        moved lo f h (agree_back f h (columns_of x) (columns_of lo) front) i.1,
-        moved hi f h (agree_back f h (columns_of x ++ columns_of lo) (columns_of hi) e) i.2,
-      )
-  moved (like x form n c) f h e i = (moved x f h (agree_front f h (columns_of x) (columns_of form) e) i.0, moved form f h (agree_back f h (columns_of x) (columns_of form) e) i.1)
-  moved row_count f h e i = tt
-  moved (statistic x a) f h e i = tt
-
   abbrev pub lows : Names → Content
   lows xs = shown (box xs).low
 
@@ -351,67 +338,64 @@ module _ (k : LogicalType) (box : Box) where
   tree_fails (like x (literal l (text form)) false false) = like_fails (shape_of (chars form)) (low_at x) (high_at x)
   tree_fails e = false
 
-  -- ---- one side, or two, at chosen values
+  -- ---- a choice in the box
 
-  assign_reads : (u : LogicalType) (x : Expression) (v : Content) (f : Names → Content) → IsSide u x → le (low_at x) v ≡ true → le v (high_at x) ≡ true →
-      evaluate (of_choice (assign x v f)) x ≡ v
-  assign_reads u (column xs) v f s h g = put_here xs v f
-  assign_reads u (literal l c) v f s h g = at_most_both c v h g
-  assign_reads u x v f s h g = absurd (let w = s.single in cc (w))
+  side_in : (x : Expression) (f : Names → Content) → is_side x ≡ true → AllByRecursion (λ xs. IsBetween k box xs (f xs)) (columns_of x) → IsIn k box f x
+  side_in (column xs) f w b = b.0
+  side_in (literal l c) f w b = tt
+  side_in x f w b = absurd (cc (w))
 
-  inside_side : (x : Expression) (v : Content) (f : Names → Content) → is_side x ≡ true → IsIn k box (λ xs. v) x → evaluate (of_choice f) x ≡ v → IsIn k box f x
-  inside_side (column xs) v f w h e = subst (IsBetween k box xs) (sym e) h
-  inside_side (literal l c) v f w h e = tt
-  inside_side x v f w h e = absurd (cc (w))
+  -- it lies there where the value of each column does
+  in_box : (e : Expression) → IsGood e → (f : Names → Content) → AllByRecursion (λ xs. IsBetween k box xs (f xs)) (columns_outside_tests e) →
+      AllByRecursion (λ xs. IsCounted k box xs (f xs)) (columns_under_tests e) → IsIn k box f e
+  in_box (compare op x y) g f b c =
+      let P = λ (xs : Names). IsBetween k box xs (f xs) in
+      (side_in x f g.1.single (front_of_all P (columns_of x) (columns_of y) b), side_in y f g.2.single (back_of_all P (columns_of x) (columns_of y) b))
+  in_box (both x y) g f b c = (
+    in_box x g.0 f (front_of_all (λ xs. IsBetween k box xs (f xs)) (columns_outside_tests x) (columns_outside_tests y) b) (front_of_all (λ xs. IsCounted k box xs (f xs)) (columns_under_tests x) (columns_under_tests y) c),
+    in_box y g.1 f (back_of_all (λ xs. IsBetween k box xs (f xs)) (columns_outside_tests x) (columns_outside_tests y) b) (back_of_all (λ xs. IsCounted k box xs (f xs)) (columns_under_tests x) (columns_under_tests y) c),
+  )
+  in_box (either x y) g f b c = (
+    in_box x g.0 f (front_of_all (λ xs. IsBetween k box xs (f xs)) (columns_outside_tests x) (columns_outside_tests y) b) (front_of_all (λ xs. IsCounted k box xs (f xs)) (columns_under_tests x) (columns_under_tests y) c),
+    in_box y g.1 f (back_of_all (λ xs. IsBetween k box xs (f xs)) (columns_outside_tests x) (columns_outside_tests y) b) (back_of_all (λ xs. IsCounted k box xs (f xs)) (columns_under_tests x) (columns_under_tests y) c),
+  )
+  in_box (literal l (boolean v)) g f b c = tt
+  in_box (between x (literal l v) (literal m d) false false) g f b c =
+      let P = λ (xs : Names). IsBetween k box xs (f xs) in
+      (side_in x f g.1.single (front_of_all P (columns_of x) [] (front_of_all P (columns_of x ++ []) [] b)), tt, tt)
+  in_box (is_null_test (column xs)) g f b c = c.0
+  in_box (is_not_null_test (column xs)) g f b c = c.0
+  in_box (like x (literal l (text form)) false false) g f b c = (side_in x f g.side.single (front_of_all (λ xs. IsBetween k box xs (f xs)) (columns_of x) [] b), tt)
+  in_box e g f b c = absurd g
 
-  -- a choice that gives the side this value, and is as before in all other columns
-  record Placed (x : Expression) (v : Content) (base : Names → Content) : Type 0 where
-    choice : Names → Content
-    reads : evaluate (of_choice choice) x ≡ v
-    inside : IsIn k box choice x
-    others : (j : Names) → NotAmong j (columns_of x) → choice j ≡ base j
+  low_in : (u : LogicalType) (x : Expression) → IsSide u x → AllByRecursion (λ xs. IsBetween k box xs (lows xs)) (columns_of x)
+  low_in u (column xs) s = (s.fits (lows xs) s.low (member_itself u (lows xs) s.low) s.ordered, tt)
+  low_in u (literal l c) s = tt
+  low_in u x s = absurd (let w = s.single in cc (w))
 
-  placed : (u : LogicalType) (x : Expression) (v : Content) (base : Names → Content) → IsSide u x → IsMember u v → le (low_at x) v ≡ true → le v (high_at x) ≡ true → Placed x v base
-  placed u x v base s m from to =
-      let f = assign x v base in let reads = assign_reads u x v base s from to in record {
-        choice = f;
-        reads = reads;
-        inside = inside_side x v f s.single (s.fits v m from to) reads;
-        others = λ j n. assign_others x v base j s.single n;
-      }
+  -- outside null tests the lows do
+  lows_in : (e : Expression) → IsGood e → AllByRecursion (λ xs. IsBetween k box xs (lows xs)) (columns_outside_tests e)
+  lows_in (compare op x y) g = all_append (λ xs. IsBetween k box xs (lows xs)) (columns_of x) (columns_of y) (low_in g.0 x g.1) (low_in g.0 y g.2)
+  lows_in (both x y) g = all_append (λ xs. IsBetween k box xs (lows xs)) (columns_outside_tests x) (columns_outside_tests y) (lows_in x g.0) (lows_in y g.1)
+  lows_in (either x y) g = all_append (λ xs. IsBetween k box xs (lows xs)) (columns_outside_tests x) (columns_outside_tests y) (lows_in x g.0) (lows_in y g.1)
+  lows_in (literal l (boolean b)) g = tt
+  lows_in (between x (literal l c) (literal m d) false false) g =
+      let P = λ (xs : Names). IsBetween k box xs (lows xs) in all_append P (columns_of x ++ []) [] (all_append P (columns_of x) [] (low_in g.0 x g.1) tt) tt
+  lows_in (is_null_test (column xs)) g = tt
+  lows_in (is_not_null_test (column xs)) g = tt
+  lows_in (like x (literal l (text form)) false false) g = all_append (λ xs. IsBetween k box xs (lows xs)) (columns_of x) [] (low_in (utf8 g.nullability) x g.side) tt
+  lows_in e g = absurd g
 
-  record PlacedBoth (x y : Expression) (v w : Content) (base : Names → Content) : Type 0 where
-    choice : Names → Content
-    left : evaluate (of_choice choice) x ≡ v
-    right : evaluate (of_choice choice) y ≡ w
-    inside : IsIn k box choice x × IsIn k box choice y
-    others : (j : Names) → NotAmong j (columns_of x ++ columns_of y) → choice j ≡ base j
-
-  not_front : (j : Names) (xss yss : List Names) → NotAmong j (xss ++ yss) → NotAmong j xss
-  not_front j xss yss n = front_of_all (λ xs. eq_names xs j ≡ false) xss yss n
-
-  not_back : (j : Names) (xss yss : List Names) → NotAmong j (xss ++ yss) → NotAmong j yss
-  not_back j xss yss n = back_of_all (λ xs. eq_names xs j ≡ false) xss yss n
-
-  -- what differs elsewhere alone agrees here
-  others_agree : (f h : Names → Content) (xss yss : List Names) → ((j : Names) → NotAmong j yss → f j ≡ h j) → AllByRecursion (λ xs. NotAmong xs yss) xss → Agree f h xss
-  others_agree f h xss yss others apart = all_mapped (λ xs. NotAmong xs yss) (λ xs. f xs ≡ h xs) others xss apart
-
-  both_placed : (x y : Expression) (v w : Content) (base : Names → Content) → AreApart (columns_of x) (columns_of y) → Placed x v base →
-      ((f : Names → Content) → Placed y w f) → PlacedBoth x y v w base
-  both_placed x y v w base apart p next =
-      let q = next p.choice in let kept = others_agree q.choice p.choice (columns_of x) (columns_of y) q.others apart.1 in record {
-        choice = q.choice;
-        left = agreement x q.choice p.choice kept ∙ p.reads;
-        right = q.reads;
-        inside = (moved x q.choice p.choice kept p.inside, q.inside);
-        others = λ j n. q.others j (not_back j (columns_of x) (columns_of y) n) ∙ p.others j (not_front j (columns_of x) (columns_of y) n);
-      }
-
-  lowest : (u : LogicalType) (x : Expression) (base : Names → Content) → IsSide u x → Placed x (low_at x) base
-  lowest u x base s = placed u x (low_at x) base s s.low (member_itself u (low_at x) s.low) s.ordered
-
-  -- ---- null tests
+  testables : (e : Expression) → IsGood e → AllByRecursion IsTestable (columns_under_tests e)
+  testables (both x y) g = all_append IsTestable (columns_under_tests x) (columns_under_tests y) (testables x g.0) (testables y g.1)
+  testables (either x y) g = all_append IsTestable (columns_under_tests x) (columns_under_tests y) (testables x g.0) (testables y g.1)
+  testables (is_null_test (column xs)) g = (g, tt)
+  testables (is_not_null_test (column xs)) g = (g, tt)
+  testables (compare op x y) g = tt
+  testables (literal l (boolean b)) g = tt
+  testables (between x (literal l c) (literal m d) false false) g = tt
+  testables (like x (literal l (text form)) false false) g = tt
+  testables e g = absurd g
 
   null_counted : (xs : Names) (v : Content) → is_null v ≡ true → ((box xs).nulls == 0) ≡ false → IsCounted k box xs v
   null_counted xs v n some = record {
@@ -434,165 +418,201 @@ module _ (k : LogicalType) (box : Box) where
   no_nulls : (n m : ℕ) → 0 < m → (n == 0) ≡ true → n < m
   no_nulls n m some e = let zero = eqb-true n 0 e in omega (arith, zero, some)
 
-  -- a choice that gives the column this value, and is as before in all other columns
-  record PlacedColumn (xs : Names) (v : Content) (base : Names → Content) : Type 0 where
-    choice : Names → Content
-    reads : choice xs ≡ v
-    inside : IsCounted k box xs (choice xs)
-    others : (j : Names) → NotAmong j (xs ∷ []) → choice j ≡ base j
-
-  placed_column : (xs : Names) (v : Content) (base : Names → Content) → IsCounted k box xs v → PlacedColumn xs v base
-  placed_column xs v base c = record {
-    choice = put xs v base;
-    reads = put_here xs v base;
-    inside = subst (IsCounted k box xs) (sym (put_here xs v base)) c;
-    others = λ j n. put_elsewhere xs v base j n;
-  }
-
-  -- ---- choices in the box
-
-  -- a choice in the box, as before in all other columns
-  record Starts (e : Expression) (base : Names → Content) : Type 0 where
-    choice : Names → Content
-    inside : IsIn k box choice e
-    others : (j : Names) → NotAmong j (columns_of e) → choice j ≡ base j
-
-  tested_start : (xs : Names) (v : Content) (base : Names → Content) → PlacedColumn xs v base → Starts (is_null_test (column xs)) base
-  tested_start xs v base p = record { choice = p.choice; inside = p.inside; others = p.others }
-
-  start_tested : (xs : Names) → IsTestable xs → (base : Names → Content) → Starts (is_null_test (column xs)) base
-  start_tested xs g base =
+  some_counted : (xs : Names) → IsTestable xs → (v : Content) × IsCounted k box xs v
+  some_counted xs g =
       either_way ((box xs).nulls == 0)
-      (λ e. tested_start xs g.value base (placed_column xs g.value base (value_counted xs g.value g.not_null g.held (no_nulls (box xs).nulls (box xs).rows g.some e))))
-      (λ e. tested_start xs null base (placed_column xs null base (null_counted xs null refl e)))
+      (λ e. (g.value, value_counted xs g.value g.not_null g.held (no_nulls (box xs).nulls (box xs).rows g.some e)))
+      (λ e. (null, null_counted xs null refl e))
 
-  both_start : (x y : Expression) → AreApart (columns_of x) (columns_of y) → (base : Names → Content) → Starts x base → ((f : Names → Content) → Starts y f) → Starts (both x y) base
-  both_start x y apart base a next =
-      let b = next a.choice in let kept = others_agree b.choice a.choice (columns_of x) (columns_of y) b.others apart.1 in record {
-        choice = b.choice;
-        inside = (moved x b.choice a.choice kept a.inside, b.inside);
-        others = λ j n. b.others j (not_back j (columns_of x) (columns_of y) n) ∙ a.others j (not_front j (columns_of x) (columns_of y) n);
-      }
+  -- the columns outside null tests, and those under them
+  module _ (outside under : List Names) where
+    -- each has a value in the box
+    record AreIn (f : Names → Content) : Type 0 where
+      between : AllByRecursion (λ xs. IsBetween k box xs (f xs)) outside
+      counted : AllByRecursion (λ xs. IsCounted k box xs (f xs)) under
 
-  start : (e : Expression) → IsGood e → IsApart e → (base : Names → Content) → Starts e base
-  start (compare op x y) g apart base =
-      let p = both_placed x y (low_at x) (low_at y) base apart (lowest g.0 x base g.1) (λ f. lowest g.0 y f g.2) in
-      record { choice = p.choice; inside = p.inside; others = p.others }
-  start (both x y) g apart base = both_start x y apart.2 base (start x g.0 apart.0 base) (λ f. start y g.1 apart.1 f)
-  start (either x y) g apart base =
-      let s = both_start x y apart.2 base (start x g.0 apart.0 base) (λ f. start y g.1 apart.1 f) in
-      record { choice = s.choice; inside = s.inside; others = s.others }
-  start (literal l (boolean b)) g apart base = record { choice = base; inside = tt; others = λ j n. refl }
-  start (between x (literal l c) (literal m d) false false) g apart base =
-      let p = lowest g.0 x base g.1 in
-      record { choice = p.choice; inside = (p.inside, tt, tt); others = λ j n. p.others j (not_front j (columns_of x) [] (not_front j (columns_of x ++ []) [] n)) }
-  start (is_null_test (column xs)) g apart base = start_tested xs g base
-  start (is_not_null_test (column xs)) g apart base =
-      let s = start_tested xs g base in
-      record { choice = s.choice; inside = s.inside; others = s.others }
-  start (like x (literal l (text form)) false false) g apart base =
-      let p = lowest (utf8 g.nullability) x base g.side in
-      record { choice = p.choice; inside = (p.inside, tt); others = λ j n. p.others j (not_front j (columns_of x) [] n) }
-  start e g apart base = absurd g
+    -- from values for those outside
+    filled : (zss : List Names) → AllByRecursion IsTestable zss → AllByRecursion (λ zs. NoneIs zs outside) zss → (f : Names → Content) →
+        AllByRecursion (λ xs. IsBetween k box xs (f xs)) outside →
+        (h : Names → Content) × AllByRecursion (λ xs. IsBetween k box xs (h xs)) outside × AllByRecursion (λ zs. IsCounted k box zs (h zs)) zss
+    filled [] t n f b = (f, b, tt)
+    filled (zs ∷ zss) t n f b =
+        let r = filled zss t.1 n.1 f b in let c = some_counted zs t.0 in (
+          put zs c.0 r.0,
+          put_apart (IsBetween k box) zs c.0 r.0 outside n.0 r.1,
+          (subst (IsCounted k box zs) (sym (put_here zs c.0 r.0)) c.1, put_kept (IsCounted k box) zs c.0 r.0 zss c.1 r.2),
+        )
 
-  -- ---- choices that make the tree true
+    -- ---- one column, or two, at chosen values
 
-  -- a choice in the box that makes the tree true, and is as before in all other columns
-  pub record Reaches (e : Expression) (base : Names → Content) : Type 0 where
+    assign_reads : (u : LogicalType) (x : Expression) (v : Content) (f : Names → Content) → IsSide u x → le (low_at x) v ≡ true → le v (high_at x) ≡ true →
+        evaluate (of_choice (assign x v f)) x ≡ v
+    assign_reads u (column xs) v f s h g = put_here xs v f
+    assign_reads u (literal l c) v f s h g = at_most_both c v h g
+    assign_reads u x v f s h g = absurd (let w = s.single in cc (w))
+
+    assign_in : (x : Expression) (v : Content) (f : Names → Content) → is_side x ≡ true → IsIn k box (λ xs. v) x → AllByRecursion (λ xs. NoneIs xs under) (columns_of x) → AreIn f → AreIn (assign x v f)
+    assign_in (column xs) v f w h n i = record { between = put_kept (IsBetween k box) xs v f outside h i.between; counted = put_apart (IsCounted k box) xs v f under n.0 i.counted }
+    assign_in (literal l c) v f w h n i = i
+    assign_in x v f w h n i = absurd (cc (w))
+
+    -- a choice that gives the side this value, and is as before in all other columns
+    record Placed (x : Expression) (v : Content) (base : Names → Content) : Type 0 where
+      choice : Names → Content
+      reads : evaluate (of_choice choice) x ≡ v
+      inside : AreIn choice
+      others : (j : Names) → NotAmong j (columns_of x) → choice j ≡ base j
+
+    placed : (u : LogicalType) (x : Expression) (v : Content) → IsSide u x → IsMember u v → le (low_at x) v ≡ true → le v (high_at x) ≡ true → AllByRecursion (λ xs. NoneIs xs under) (columns_of x) →
+        (base : Names → Content) → AreIn base → Placed x v base
+    placed u x v s m from to n base i = record {
+      choice = assign x v base;
+      reads = assign_reads u x v base s from to;
+      inside = assign_in x v base s.single (s.fits v m from to) n i;
+      others = λ j h. assign_others x v base j s.single h;
+    }
+
+    -- what differs elsewhere alone agrees here
+    others_agree : (f h : Names → Content) (xss yss : List Names) → ((j : Names) → NotAmong j yss → f j ≡ h j) → AreApart xss yss → Agree f h xss
+    others_agree f h xss yss others apart = all_mapped (λ xs. NotAmong xs yss) (λ xs. f xs ≡ h xs) others xss apart
+
+    placed_column : (xs : Names) (v : Content) → IsCounted k box xs v → NoneIs xs outside → (base : Names → Content) → AreIn base → Placed (column xs) v base
+    placed_column xs v c n base i = record {
+      choice = put xs v base;
+      reads = put_here xs v base;
+      inside = record { between = put_apart (IsBetween k box) xs v base outside n i.between; counted = put_kept (IsCounted k box) xs v base under c i.counted };
+      others = λ j h. put_elsewhere xs v base j h;
+    }
+
+    -- ---- choices that make the tree true
+
+    -- none of the tree's columns stands among those of the other kind
+    abbrev AreTold : Expression → Type 0
+    AreTold e = AllByRecursion (λ xs. NoneIs xs under) (columns_outside_tests e) × AllByRecursion (λ zs. NoneIs zs outside) (columns_under_tests e)
+
+    told_left : (x y : Expression) → AreTold (both x y) → AreTold x
+    told_left x y t = (
+      front_of_all (λ xs. NoneIs xs under) (columns_outside_tests x) (columns_outside_tests y) t.0,
+      front_of_all (λ zs. NoneIs zs outside) (columns_under_tests x) (columns_under_tests y) t.1,
+    )
+
+    told_right : (x y : Expression) → AreTold (both x y) → AreTold y
+    told_right x y t = (
+      back_of_all (λ xs. NoneIs xs under) (columns_outside_tests x) (columns_outside_tests y) t.0,
+      back_of_all (λ zs. NoneIs zs outside) (columns_under_tests x) (columns_under_tests y) t.1,
+    )
+
+    -- a choice in the box that makes the tree true, and is as before in all other columns
+    record Reaches (e : Expression) (base : Names → Content) : Type 0 where
+      choice : Names → Content
+      inside : AreIn choice
+      others : (j : Names) → NotAmong j (columns_of e) → choice j ≡ base j
+      holds : evaluate (of_choice choice) e ≡ boolean true
+
+    compared_at : (op : Comparison) (x y : Expression) (v w : Content) (f : Names → Content) → evaluate (of_choice f) x ≡ v → evaluate (of_choice f) y ≡ w → compared op v w ≡ boolean true →
+        evaluate (of_choice f) (compare op x y) ≡ boolean true
+    compared_at op x y v w f l r h = (λ i. compared op (l i) (r i)) ∙ h
+
+    reach_comparison : (op : Comparison) (x y : Expression) → IsGood (compare op x y) → AreApart (columns_of x) (columns_of y) → AreTold (compare op x y) → tree_fails (compare op x y) ≡ false →
+        (base : Names → Content) → AreIn base → Reaches (compare op x y) base
+    reach_comparison op x y g apart t works base i =
+        let u = g.0 in let s = g.1 in let r = g.2 in let xss = columns_of x in let yss = columns_of y in
+        let w = completed u (low_at x) (high_at x) (low_at y) (high_at y) s.low s.high r.low r.high s.ordered r.ordered op works in
+        let p = placed u x w.left s w.left_member w.left_from w.left_to (front_of_all (λ xs. NoneIs xs under) xss yss t.0) base i in
+        let q = placed u y w.right r w.right_member w.right_from w.right_to (back_of_all (λ xs. NoneIs xs under) xss yss t.0) p.choice p.inside in
+        let kept = others_agree q.choice p.choice xss yss q.others apart in record {
+          choice = q.choice;
+          inside = q.inside;
+          others = λ j n. q.others j (not_back j xss yss n) ∙ p.others j (not_front j xss yss n);
+          holds = compared_at op x y w.left w.right q.choice (agreement x q.choice p.choice kept ∙ p.reads) q.reads (made u op w.left w.right w.left_member w.right_member w.passes);
+        }
+
+    reach_like : (x : Expression) (l : LogicalType) (form : List ℕ) → IsLikeable x form → AreTold (like x (literal l (text form)) false false) →
+        like_fails (shape_of (chars form)) (low_at x) (high_at x) ≡ false → (base : Names → Content) → AreIn base → Reaches (like x (literal l (text form)) false false) base
+    reach_like x l form g t works base i =
+        let n = g.nullability in let s = g.side in
+        let w = like_chosen n form g.valid g.formed (low_at x) (high_at x) s.low s.high s.ordered works in
+        let p = placed (utf8 n) x w.value s w.member w.from w.to (front_of_all (λ xs. NoneIs xs under) (columns_of x) [] t.0) base i in record {
+          choice = p.choice;
+          inside = p.inside;
+          others = λ j h. p.others j (not_front j (columns_of x) [] h);
+          holds = ap (λ v. liked v (text form) false) p.reads ∙ w.holds;
+        }
+
+    -- where the box doesn't rule the tree out, some choice in it makes the tree true
+    complete : (e : Expression) → IsGood e → sides_are_disjoint e ≡ true → AreTold e → tree_fails e ≡ false → (base : Names → Content) → AreIn base → Reaches e base
+    complete (compare op x y) g d t works base i = reach_comparison op x y g (apart (columns_of x) (columns_of y) d) t works base i
+    complete (both x y) g d t works base i =
+        let xss = columns_of x in let yss = columns_of y in
+        let ds = three_true (sides_are_disjoint x) (sides_are_disjoint y) (are_disjoint xss yss) d in
+        let a = complete x g.0 ds.0 (told_left x y t) (or_false_left (tree_fails x) (tree_fails y) works) base i in
+        let b = complete y g.1 ds.1 (told_right x y t) (or_false_right (tree_fails x) (tree_fails y) works) a.choice a.inside in
+        let kept = others_agree b.choice a.choice xss yss b.others (apart xss yss ds.2) in record {
+          choice = b.choice;
+          inside = b.inside;
+          others = λ j n. b.others j (not_back j xss yss n) ∙ a.others j (not_front j xss yss n);
+          holds = and_made (evaluate (of_choice b.choice) x) (evaluate (of_choice b.choice) y) (agreement x b.choice a.choice kept ∙ a.holds) b.holds;
+        }
+    complete (either x y) g d t works base i =
+        let xss = columns_of x in let yss = columns_of y in
+        let dx = true_left (sides_are_disjoint x) (sides_are_disjoint y) d in let dy = true_right (sides_are_disjoint x) (sides_are_disjoint y) d in
+        either_way (tree_fails x)
+        (λ e.
+        let r = complete y g.1 dy (told_right x y t) (ap (λ b. b && tree_fails y) (sym e) ∙ works) base i in record {
+          choice = r.choice;
+          inside = r.inside;
+          others = λ j n. r.others j (not_back j xss yss n);
+          holds = or_made_right (evaluate (of_choice r.choice) x) (evaluate (of_choice r.choice) y) r.holds;
+        })
+        (λ e.
+        let r = complete x g.0 dx (told_left x y t) e base i in record {
+          choice = r.choice;
+          inside = r.inside;
+          others = λ j n. r.others j (not_front j xss yss n);
+          holds = or_made_left (evaluate (of_choice r.choice) x) (evaluate (of_choice r.choice) y) r.holds;
+        })
+    complete (literal l (boolean b)) g d t works base i = record { choice = base; inside = i; others = λ j n. refl; holds = ap (λ x. boolean x) (not_false b works) }
+    complete (between x (literal l c) (literal m d) false false) g a t works base i =
+        let u = g.0 in let s = g.1 in let xss = columns_of x in
+        let w = completed u c d (low_at x) (high_at x) g.2 g.3 s.low s.high g.4 s.ordered equal works in
+        let v = w.right in
+        let p = placed u x v s w.right_member w.right_from w.right_to (front_of_all (λ xs. NoneIs xs under) xss [] (front_of_all (λ xs. NoneIs xs under) (xss ++ []) [] t.0)) base i in
+        let from = not_above_chain c w.left v w.left_from (true_left (le w.left v) (le v w.left) w.passes) in
+        let to = not_above_chain v w.left d (true_right (le w.left v) (le v w.left) w.passes) w.left_to in record {
+          choice = p.choice;
+          inside = p.inside;
+          others = λ j n. p.others j (not_front j xss [] (not_front j (xss ++ []) [] n));
+          holds = (λ i. kleene_and (compared at_most c (p.reads i)) (compared at_most (p.reads i) d))
+              ∙ and_made (compared at_most c v) (compared at_most v d) (made u at_most c v g.2 w.right_member from) (made u at_most v d w.right_member g.3 to);
+        }
+    complete (is_null_test (column xs)) g d t works base i =
+        let p = placed_column xs null (null_counted xs null refl works) t.1.0 base i in record {
+          choice = p.choice;
+          inside = p.inside;
+          others = p.others;
+          holds = ap (λ v. boolean (is_null v)) p.reads;
+        }
+    complete (is_not_null_test (column xs)) g d t works base i =
+        let lt = fewer_nulls (box xs).nulls (box xs).rows g.fewer works in
+        let p = placed_column xs g.value (value_counted xs g.value g.not_null g.held lt) t.1.0 base i in record {
+          choice = p.choice;
+          inside = p.inside;
+          others = p.others;
+          holds = ap (λ v. boolean (not (is_null v))) p.reads ∙ ap (λ b. boolean (not b)) g.not_null;
+        }
+    complete (like x (literal l (text form)) false false) g d t works base i = reach_like x l form g t works base i
+    complete e g d t works base i = absurd g
+
+  -- a choice in the box that makes the tree true
+  pub record Reached (e : Expression) : Type 0 where
     pub choice : Names → Content
     pub inside : IsIn k box choice e
-    pub others : (j : Names) → NotAmong j (columns_of e) → choice j ≡ base j
     pub holds : evaluate (of_choice choice) e ≡ boolean true
 
-  compared_at : (op : Comparison) (x y : Expression) (v w : Content) (f : Names → Content) → evaluate (of_choice f) x ≡ v → evaluate (of_choice f) y ≡ w → compared op v w ≡ boolean true →
-      evaluate (of_choice f) (compare op x y) ≡ boolean true
-  compared_at op x y v w f l r h = (λ i. compared op (l i) (r i)) ∙ h
-
-  reach_comparison : (op : Comparison) (x y : Expression) → IsGood (compare op x y) → AreApart (columns_of x) (columns_of y) → tree_fails (compare op x y) ≡ false → (base : Names → Content) →
-      Reaches (compare op x y) base
-  reach_comparison op x y g apart works base =
-      let u = g.0 in let s = g.1 in let r = g.2 in
-      let w = completed u (low_at x) (high_at x) (low_at y) (high_at y) s.low s.high r.low r.high s.ordered r.ordered op works in
-      let p = both_placed x y w.left w.right base apart (placed u x w.left base s w.left_member w.left_from w.left_to) (λ f. placed u y w.right f r w.right_member w.right_from w.right_to) in record {
-        choice = p.choice;
-        inside = p.inside;
-        others = p.others;
-        holds = compared_at op x y w.left w.right p.choice p.left p.right (made u op w.left w.right w.left_member w.right_member w.passes);
-      }
-
-  reach_like : (x : Expression) (l : LogicalType) (form : List ℕ) → IsLikeable x form → like_fails (shape_of (chars form)) (low_at x) (high_at x) ≡ false → (base : Names → Content) →
-      Reaches (like x (literal l (text form)) false false) base
-  reach_like x l form g works base =
-      let n = g.nullability in let s = g.side in
-      let w = like_chosen n form g.valid g.formed (low_at x) (high_at x) s.low s.high s.ordered works in
-      let p = placed (utf8 n) x w.value base s w.member w.from w.to in record {
-        choice = p.choice;
-        inside = (p.inside, tt);
-        others = λ j h. p.others j (not_front j (columns_of x) [] h);
-        holds = ap (λ v. liked v (text form) false) p.reads ∙ w.holds;
-      }
-
-  -- where the box doesn't rule the tree out, some choice in it makes the tree true
-  pub complete : (e : Expression) → IsGood e → IsApart e → tree_fails e ≡ false → (base : Names → Content) → Reaches e base
-  complete (compare op x y) g apart works base = reach_comparison op x y g apart works base
-  complete (both x y) g apart works base =
-      let xss = columns_of x in let yss = columns_of y in
-      let a = complete x g.0 apart.0 (or_false_left (tree_fails x) (tree_fails y) works) base in
-      let b = complete y g.1 apart.1 (or_false_right (tree_fails x) (tree_fails y) works) a.choice in
-      let kept = others_agree b.choice a.choice xss yss b.others apart.2.1 in record {
-        choice = b.choice;
-        inside = (moved x b.choice a.choice kept a.inside, b.inside);
-        others = λ j n. b.others j (not_back j xss yss n) ∙ a.others j (not_front j xss yss n);
-        holds = and_made (evaluate (of_choice b.choice) x) (evaluate (of_choice b.choice) y) (agreement x b.choice a.choice kept ∙ a.holds) b.holds;
-      }
-  complete (either x y) g apart works base =
-      let xss = columns_of x in let yss = columns_of y in
-      either_way (tree_fails x)
-      (λ e.
-      let s = start x g.0 apart.0 base in
-      let r = complete y g.1 apart.1 (ap (λ b. b && tree_fails y) (sym e) ∙ works) s.choice in
-      let kept = others_agree r.choice s.choice xss yss r.others apart.2.1 in record {
-        choice = r.choice;
-        inside = (moved x r.choice s.choice kept s.inside, r.inside);
-        others = λ j n. r.others j (not_back j xss yss n) ∙ s.others j (not_front j xss yss n);
-        holds = or_made_right (evaluate (of_choice r.choice) x) (evaluate (of_choice r.choice) y) r.holds;
-      })
-      (λ e.
-      let s = start y g.1 apart.1 base in
-      let r = complete x g.0 apart.0 e s.choice in
-      let kept = others_agree r.choice s.choice yss xss r.others apart.2.0 in record {
-        choice = r.choice;
-        inside = (r.inside, moved y r.choice s.choice kept s.inside);
-        others = λ j n. r.others j (not_front j xss yss n) ∙ s.others j (not_back j xss yss n);
-        holds = or_made_left (evaluate (of_choice r.choice) x) (evaluate (of_choice r.choice) y) r.holds;
-      })
-  complete (literal l (boolean b)) g apart works base = record { choice = base; inside = tt; others = λ j n. refl; holds = ap (λ x. boolean x) (not_false b works) }
-  complete (between x (literal l c) (literal m d) false false) g apart works base =
-      let u = g.0 in let s = g.1 in
-      let w = completed u c d (low_at x) (high_at x) g.2 g.3 s.low s.high g.4 s.ordered equal works in
-      let v = w.right in let p = placed u x v base s w.right_member w.right_from w.right_to in
-      let from = not_above_chain c w.left v w.left_from (true_left (le w.left v) (le v w.left) w.passes) in
-      let to = not_above_chain v w.left d (true_right (le w.left v) (le v w.left) w.passes) w.left_to in record {
-        choice = p.choice;
-        inside = (p.inside, tt, tt);
-        others = λ j n. p.others j (not_front j (columns_of x) [] (not_front j (columns_of x ++ []) [] n));
-        holds = (λ i. kleene_and (compared at_most c (p.reads i)) (compared at_most (p.reads i) d))
-            ∙ and_made (compared at_most c v) (compared at_most v d) (made u at_most c v g.2 w.right_member from) (made u at_most v d w.right_member g.3 to);
-      }
-  complete (is_null_test (column xs)) g apart works base =
-      let p = placed_column xs null base (null_counted xs null refl works) in record {
-        choice = p.choice;
-        inside = p.inside;
-        others = p.others;
-        holds = ap (λ v. boolean (is_null v)) p.reads;
-      }
-  complete (is_not_null_test (column xs)) g apart works base =
-      let lt = fewer_nulls (box xs).nulls (box xs).rows g.fewer works in
-      let p = placed_column xs g.value base (value_counted xs g.value g.not_null g.held lt) in record {
-        choice = p.choice;
-        inside = p.inside;
-        others = p.others;
-        holds = ap (λ v. boolean (not (is_null v))) p.reads ∙ ap (λ b. boolean (not b)) g.not_null;
-      }
-  complete (like x (literal l (text form)) false false) g apart works base = reach_like x l form g works base
-  complete e g apart works base = absurd g
+  pub reached : (e : Expression) → IsGood e → is_wide e ≡ true → tree_fails e ≡ false → Reached e
+  reached e g w works =
+      let plain = columns_outside_tests e in let tested = columns_under_tests e in let parts = wide_parts e w in
+      let a = apart plain tested parts.2 in let back = none_before plain tested a in
+      let start = filled plain tested tested (testables e g) back lows (lows_in e g) in
+      let r = complete plain tested e g parts.1 (none_after plain tested a, back) works start.0 (record { between = start.1; counted = start.2 }) in
+      record { choice = r.choice; inside = in_box e g r.choice r.inside.between r.inside.counted; holds = r.holds }

@@ -1,9 +1,10 @@
 -- A chunk with all bounds of a predicate of the wide class is skipped exactly where its box is hopeless.
 use Rattle.std.proofs.Common.{◌≡◌, refl, sym, ◌∙◌, ap, subst, ℕ, pos, suc, ◌+◌, ◌<◌, ◌≤◌, arith, List, [], ◌∷◌, ◌++◌, length, map, Bool, true, false, not, ◌&&◌, ◌||◌, if◌then◌else◌, Option, Some, None, option_map, option_and_then, inl, inr, IfSome, Contains}
 use Rattle.std.specs.Prelude.{◌↔◌}
-use Rattle.std.specs.List.{AllByRecursion}
+use Rattle.std.specs.List.{AllByRecursion, list_all}
 use Rattle.std.specs.Option.{option_map_or}
 use Rattle.std.proofs.lemmas.List.{map-append, length-map}
+use Rattle.std.proofs.lemmas.List.Folds.{list_all-append}
 use Rattle.std.proofs.lemmas.List.Sums.{count_by-le-length}
 use Rattle.vortex_model.specs.LogicalType.{LogicalType, boolean_type, integer_type, utf8, binary, non_nullable, with_nullability, bare, IntKind, u8, u16, u32, u64, i8, i16, i32, i64}
 use Rattle.vortex_model.specs.Content.{Content, null, boolean, integer, text, byte_string, is_null}
@@ -22,7 +23,7 @@ use Rattle.vortex_model_table.specs.Table.{Table, IsTable, bound_length}
 use Rattle.vortex_model_table.specs.Scan.{chunk_zone, chunk_zone_at, if_leaf, leaf_at, proves, Outcome, skipped, whole, tested, is_skipped, chunk_outcome, numbers, skipped_chunks}
 use Rattle.vortex_model_table.specs.Command.{expression_fault, column_fault, unless, is_boolean, eq_optional_type, is_utf8_type, is_supported_like}
 use Rattle.vortex_model_table.specs.Pruning.{IsAsked}
-use Rattle.vortex_model_table.specs.Class.{Box, box_of, unknown_zone, IsValueOf, Hopeless, columns_of, all_distinct, is_there, has_both, is_bounded, are_sides, is_column, are_ends, is_text_form, is_wide_tree, is_wide}
+use Rattle.vortex_model_table.specs.Class.{Box, box_of, unknown_zone, IsValueOf, Hopeless, columns_of, columns_outside_tests, is_there, has_both, is_bounded, are_sides, is_column, are_ends, is_text_form, is_wide_tree, is_wide}
 use Rattle.vortex_model_laws.proofs.Columns.{all_at_type}
 use Rattle.vortex_model_table.proofs.ContentOrder.{le, true_left, true_right}
 use Rattle.vortex_model_laws.proofs.Held.{first_none, second_none}
@@ -32,7 +33,7 @@ use Rattle.vortex_model.proofs.Tests.{kind_so, range_so}
 use Rattle.vortex_model_laws.proofs.Texts.{IsTextual}
 use Rattle.vortex_model_laws.specs.Exact.{SomeChoice}
 use Rattle.vortex_model_laws.proofs.Alone.{zone_ordered, as_each_alone}
-use Rattle.vortex_model_laws.proofs.Complete.{either_way, IsSide, IsTestable, IsLikeable, IsGood, tree_fails, apart_where_distinct, complete}
+use Rattle.vortex_model_laws.proofs.Complete.{either_way, IsSide, IsTestable, IsLikeable, IsGood, tree_fails, wide_parts, reached}
 use Rattle.vortex_model_laws.proofs.Members.{IsMember, member_itself, member_made, member_held, member_bare, member_of_bare, low_is_member, high_is_member}
 use Rattle.vortex_model_laws.proofs.Ruled.{from_made, to_made, there_value, there, exactly}
 use Rattle.vortex_model_laws.proofs.Tighter.{not_true}
@@ -181,22 +182,33 @@ module _ (t : Table) (chunk : List Content) (rows : AllByRecursion (IsContent t.
   column_no_float : (xs : Names) (u : LogicalType) → type_of_column t.kind xs ≡ Some u → is_leaf u ≡ true → is_float_placeholder t.kind (column xs) ≡ false
   column_no_float xs u e w = ap (λ o. option_map_or is_float o false) e ∙ leaf_no_float u w
 
+  abbrev HaveBounds : List Names → Type 0
+  HaveBounds xss = list_all (has_both chunk_box) xss ≡ true
+
+  both_bounded : (xss yss : List Names) → HaveBounds (xss ++ yss) → HaveBounds xss × HaveBounds yss
+  both_bounded xss yss h =
+      let each = sym (list_all-append (has_both chunk_box) xss yss) ∙ h in let l = list_all (has_both chunk_box) xss in let r = list_all (has_both chunk_box) yss in
+      (true_left l r each, true_right l r each)
+
+  one_bounded : (xs : Names) → HaveBounds (xs ∷ []) → has_both chunk_box xs ≡ true
+  one_bounded xs h = true_left (has_both chunk_box xs) true h
+
   sides_good : (op : Comparison) (x y : Expression) → are_sides x y ≡ true → expression_fault t.kind x ≡ None → expression_fault t.kind y ≡ None →
       eq_optional_type (expression_type t.kind x) (expression_type t.kind y) ≡ true → HasFormedLiterals x → HasFormedLiterals y →
-      is_bounded chunk_box x ≡ true → is_bounded chunk_box y ≡ true → IsGood t.kind chunk_box (compare op x y)
+      HaveBounds (columns_of x) → HaveBounds (columns_of y) → IsGood t.kind chunk_box (compare op x y)
   sides_good op (column xs) (column ys) w f h same a b p q =
       let l = leaf_of (type_of_column t.kind xs) f in let r = leaf_of (type_of_column t.kind ys) h in
       let alike = types_alike (type_of_column t.kind xs) (type_of_column t.kind ys) l.0 r.0 l.1 r.1 same in (
         bare l.0,
-        column_side xs l.0 l.1 l.2 p,
-        subst (λ z. IsSide t.kind chunk_box z (column ys)) (sym alike) (column_side ys r.0 r.1 r.2 q),
+        column_side xs l.0 l.1 l.2 (one_bounded xs p),
+        subst (λ z. IsSide t.kind chunk_box z (column ys)) (sym alike) (column_side ys r.0 r.1 r.2 (one_bounded ys q)),
         single_falsifier t.kind op (column xs) (column ys) (column_comparable xs l.0 l.1 l.2) (column_comparable ys r.0 r.1 r.2) (column_no_float xs l.0 l.1 l.2) (column_no_float ys r.0 r.1 r.2),
       )
   sides_good op (column xs) (literal z c) w f h same a b p q =
       let l = leaf_of (type_of_column t.kind xs) f in let leaf = unless_none (is_leaf z) unsupported_predicate h in
       let alike = types_alike (type_of_column t.kind xs) (Some z) l.0 z l.1 refl same in (
         bare l.0,
-        column_side xs l.0 l.1 l.2 p,
+        column_side xs l.0 l.1 l.2 (one_bounded xs p),
         subst (λ v. IsSide t.kind chunk_box v (literal z c)) (sym alike) (literal_side z c leaf (not_true (is_null c) w) b),
         single_falsifier t.kind op (column xs) (literal z c) (column_comparable xs l.0 l.1 l.2) refl (column_no_float xs l.0 l.1 l.2) refl,
       )
@@ -205,7 +217,7 @@ module _ (t : Table) (chunk : List Content) (rows : AllByRecursion (IsContent t.
       let alike = types_alike (Some z) (type_of_column t.kind ys) z r.0 refl r.1 same in (
         bare z,
         literal_side z c leaf (not_true (is_null c) w) a,
-        subst (λ v. IsSide t.kind chunk_box v (column ys)) (sym alike) (column_side ys r.0 r.1 r.2 q),
+        subst (λ v. IsSide t.kind chunk_box v (column ys)) (sym alike) (column_side ys r.0 r.1 r.2 (one_bounded ys q)),
         single_falsifier t.kind op (literal z c) (column ys) refl (column_comparable ys r.0 r.1 r.2) refl (column_no_float ys r.0 r.1 r.2),
       )
   sides_good op x y w f h same a b p q = absurd (cc (w))
@@ -214,7 +226,7 @@ module _ (t : Table) (chunk : List Content) (rows : AllByRecursion (IsContent t.
   two_none p q r e = (first_none p (or_else q r) e, first_none q r (second_none p (or_else q r) e), second_none q r (second_none p (or_else q r) e))
 
   range_good : (x lo hi : Expression) → is_column x ≡ true → are_ends lo hi ≡ true → expression_fault t.kind (between x lo hi false false) ≡ None →
-      HasFormedLiterals (between x lo hi false false) → is_bounded chunk_box x ≡ true → IsGood t.kind chunk_box (between x lo hi false false)
+      HasFormedLiterals (between x lo hi false false) → HaveBounds (columns_of x ++ columns_of lo ++ columns_of hi) → IsGood t.kind chunk_box (between x lo hi false false)
   range_good (column xs) (literal l c) (literal m d) v w f h b =
       let fx = column_fault (type_of_column t.kind xs) in let fl = unless (is_leaf l) unsupported_predicate in let fm = unless (is_leaf m) unsupported_predicate in
       let low_alike = eq_optional_type (type_of_column t.kind xs) (Some l) in let high_alike = eq_optional_type (type_of_column t.kind xs) (Some m) in
@@ -228,7 +240,7 @@ module _ (t : Table) (chunk : List Content) (rows : AllByRecursion (IsContent t.
       let to_m = types_alike (type_of_column t.kind xs) (Some m) u.0 m u.1 refl (true_right low_alike high_alike same) in
       let p = column_comparable xs u.0 u.1 u.2 in let q = column_no_float xs u.0 u.1 u.2 in (
         bare u.0,
-        column_side xs u.0 u.1 u.2 b,
+        column_side xs u.0 u.1 u.2 (one_bounded xs b),
         subst (λ v. IsMember v c) (sym to_l) (member_bare l c leaf_l (member_made l c leaf_l ends.0 h.1)),
         subst (λ v. IsMember v d) (sym to_m) (member_bare m d leaf_m (member_made m d leaf_m ends.1 h.2)),
         ends.2,
@@ -263,14 +275,14 @@ module _ (t : Table) (chunk : List Content) (rows : AllByRecursion (IsContent t.
   likeable_at xs u l form e p q h w b = absurd (cc (p))
 
   likeable : (x : Expression) (l : LogicalType) (form : List ℕ) → is_column x ≡ true → is_text_form form ≡ true → expression_fault t.kind (like x (literal l (text form)) false false) ≡ None →
-      IsContent l (text form) → is_bounded chunk_box x ≡ true → IsLikeable t.kind chunk_box x form
+      IsContent l (text form) → HaveBounds (columns_of x ++ []) → IsLikeable t.kind chunk_box x form
   likeable (column xs) l form v w f h b =
       let kind = type_of_column t.kind xs in let both_texts = is_utf8_type kind && is_utf8_type (Some l) in
       let last = unless (is_supported_like (literal l (text form)) false) unsupported_like in
       let n = two_none (column_fault kind) (unless (is_leaf l) unsupported_predicate) (or_else (unless both_texts unequal_types) last) f in
       let typed = unless_none both_texts unequal_types (first_none (unless both_texts unequal_types) last n.2) in
       let u = leaf_of kind n.0 in
-      likeable_at xs u.0 l form u.1 (ap is_utf8_type (sym u.1) ∙ true_left (is_utf8_type kind) (is_utf8_type (Some l)) typed) (true_right (is_utf8_type kind) (is_utf8_type (Some l)) typed) h w b
+      likeable_at xs u.0 l form u.1 (ap is_utf8_type (sym u.1) ∙ true_left (is_utf8_type kind) (is_utf8_type (Some l)) typed) (true_right (is_utf8_type kind) (is_utf8_type (Some l)) typed) h w (one_bounded xs b)
   likeable x l form v w f h b = absurd (cc (v))
 
   tested_good : (x : Expression) → is_column x ≡ true → expression_fault t.kind x ≡ None → IsGood t.kind chunk_box (is_null_test x) × IsGood t.kind chunk_box (is_not_null_test x)
@@ -280,17 +292,20 @@ module _ (t : Table) (chunk : List Content) (rows : AllByRecursion (IsContent t.
   pub good : (e : Expression) → is_wide_tree e ≡ true → expression_fault t.kind e ≡ None → HasFormedLiterals e → is_bounded chunk_box e ≡ true → IsGood t.kind chunk_box e
   good (compare op x y) w f h b =
       let n = two_none (expression_fault t.kind x) (expression_fault t.kind y) (unless (eq_optional_type (expression_type t.kind x) (expression_type t.kind y)) unequal_types) f in
+      let bounds = both_bounded (columns_of x) (columns_of y) b in
       sides_good op x y w n.0 n.1 (unless_none (eq_optional_type (expression_type t.kind x) (expression_type t.kind y)) unequal_types n.2) h.0 h.1
-      (true_left (is_bounded chunk_box x) (is_bounded chunk_box y) b) (true_right (is_bounded chunk_box x) (is_bounded chunk_box y) b)
+      bounds.0 bounds.1
   good (both x y) w f h b =
-      let n = two_none (expression_fault t.kind x) (expression_fault t.kind y) (unless (is_boolean (expression_type t.kind x) && is_boolean (expression_type t.kind y)) not_boolean) f in (
-        good x (true_left (is_wide_tree x) (is_wide_tree y) w) n.0 h.0 (true_left (is_bounded chunk_box x) (is_bounded chunk_box y) b),
-        good y (true_right (is_wide_tree x) (is_wide_tree y) w) n.1 h.1 (true_right (is_bounded chunk_box x) (is_bounded chunk_box y) b),
+      let n = two_none (expression_fault t.kind x) (expression_fault t.kind y) (unless (is_boolean (expression_type t.kind x) && is_boolean (expression_type t.kind y)) not_boolean) f in
+      let bounds = both_bounded (columns_outside_tests x) (columns_outside_tests y) b in (
+        good x (true_left (is_wide_tree x) (is_wide_tree y) w) n.0 h.0 bounds.0,
+        good y (true_right (is_wide_tree x) (is_wide_tree y) w) n.1 h.1 bounds.1,
       )
   good (either x y) w f h b =
-      let n = two_none (expression_fault t.kind x) (expression_fault t.kind y) (unless (is_boolean (expression_type t.kind x) && is_boolean (expression_type t.kind y)) not_boolean) f in (
-        good x (true_left (is_wide_tree x) (is_wide_tree y) w) n.0 h.0 (true_left (is_bounded chunk_box x) (is_bounded chunk_box y) b),
-        good y (true_right (is_wide_tree x) (is_wide_tree y) w) n.1 h.1 (true_right (is_bounded chunk_box x) (is_bounded chunk_box y) b),
+      let n = two_none (expression_fault t.kind x) (expression_fault t.kind y) (unless (is_boolean (expression_type t.kind x) && is_boolean (expression_type t.kind y)) not_boolean) f in
+      let bounds = both_bounded (columns_outside_tests x) (columns_outside_tests y) b in (
+        good x (true_left (is_wide_tree x) (is_wide_tree y) w) n.0 h.0 bounds.0,
+        good y (true_right (is_wide_tree x) (is_wide_tree y) w) n.1 h.1 bounds.1,
       )
   good (literal l (boolean v)) w f h b = tt
   good (between x lo hi false false) w f h b = range_good x lo hi (true_left (is_column x) (are_ends lo hi) w) (true_right (is_column x) (are_ends lo hi) w) f h b
@@ -363,14 +378,12 @@ one_of_all P (x ∷ xs) y ys h = one_of_all P xs y ys h.1
 
 pub exactly_hopeless : (t : Table) (e : Expression) (before : List (List Content)) (chunk : List Content) (after : List (List Content)) → IsTable t → IsAsked t e → is_wide e ≡ true →
     t.chunks ≡ before ++ chunk ∷ after → is_bounded (box_of (chunk_zone t chunk)) e ≡ true → Contains (skipped_chunks t e) (length before) ↔ Hopeless t.kind e (box_of (chunk_zone t chunk))
-exactly_hopeless t e before chunk after is asked single place bounded =
-    let tree = true_left (is_wide_tree e) (all_distinct (columns_of e)) single in
-    let distinct = true_right (is_wide_tree e) (all_distinct (columns_of e)) single in
+exactly_hopeless t e before chunk after is asked wide place bounded =
     let rows = one_of_all (λ c. AllByRecursion (IsContent t.kind) c) before chunk after (subst (AllByRecursion (λ c. AllByRecursion (IsContent t.kind) c)) place is.rows) in
     let fault = first_none (expression_fault t.kind e) (unless (is_boolean (expression_type t.kind e)) not_boolean) asked.faultless in
     let some = one_of_all (λ c. 0 < length c) before chunk after (subst (AllByRecursion (λ c. 0 < length c)) place is.not_empty) in
-    let h = good t chunk rows some e tree fault asked.formed bounded in
-    let ways = exactly t.kind (chunk_zone t chunk) (length chunk) (even t chunk) e h distinct in
+    let h = good t chunk rows some e (wide_parts e wide).0 fault asked.formed bounded in
+    let ways = exactly t.kind (chunk_zone t chunk) (length chunk) (even t chunk) e h wide in
     let f = chunk_outcome t e in
     let listed : skipped_chunks t e ≡ numbers is_skipped 0 (map f before ++ f chunk ∷ map f after) =
     (as_each_alone t e is).skipped ∙ ap (λ cs. numbers is_skipped 0 (map f cs)) place ∙ ap (numbers is_skipped 0) (map-append f before (chunk ∷ after)) in
@@ -388,13 +401,11 @@ clashing false e f = cc (e)
 
 pub some_choice : (t : Table) (e : Expression) (chunk : List Content) → IsAsked t e → AllByRecursion (IsContent t.kind) chunk → 0 < length chunk → is_wide e ≡ true →
     is_bounded (box_of (chunk_zone t chunk)) e ≡ true → proves (chunk_zone t chunk) (length chunk) (falsifier t.kind e) ≡ false → SomeChoice t e chunk
-some_choice t e chunk asked rows some single bounded unproved =
-    let tree = true_left (is_wide_tree e) (all_distinct (columns_of e)) single in
-    let distinct = true_right (is_wide_tree e) (all_distinct (columns_of e)) single in
+some_choice t e chunk asked rows some wide bounded unproved =
     let fault = first_none (expression_fault t.kind e) (unless (is_boolean (expression_type t.kind e)) not_boolean) asked.faultless in
-    let h = good t chunk rows some e tree fault asked.formed bounded in
+    let h = good t chunk rows some e (wide_parts e wide).0 fault asked.formed bounded in
     let box = box_of (chunk_zone t chunk) in
     either_way (tree_fails t.kind box e)
     (λ f. let p = there t.kind (chunk_zone t chunk) (length chunk) (even t chunk) e h in
     absurd (clashing (proves (chunk_zone t chunk) (length chunk) (falsifier t.kind e)) (ap (proves (chunk_zone t chunk) (length chunk)) p.1 ∙ ap is_true (p.2 f)) unproved))
-    (λ f. let r = complete t.kind box e h (apart_where_distinct e distinct) f (λ xs. null) in record { choice = r.choice; inside = r.inside; holds = r.holds })
+    (λ f. let r = reached t.kind box e h wide f in record { choice = r.choice; inside = r.inside; holds = r.holds })

@@ -90,7 +90,28 @@ single_range = refl
 range_skipped : skipped_chunks table from_10 ≡ 0 ∷ 1 ∷ []
 range_skipped = refl
 
--- no value is below 3 and above 8, and yet the chunk is tested, since the column stands twice
+-- An OR may have a column on both sides. Of these alternatives two lie between no chunk's bounds, and
+-- 7 lies between all.
+abbrev one_of_two : Expression
+one_of_two = either (compare equal a (number 0)) (compare equal a (number 31))
+
+abbrev one_of_three : Expression
+one_of_three = either (compare equal a (number 0)) (either (compare equal a (number 7)) (compare equal a (number 31)))
+
+alternatives_wide : is_wide one_of_three ≡ true
+alternatives_wide = refl
+
+alternatives_bounded : is_bounded (box_of_chunk table high_chunk) one_of_three ≡ true
+alternatives_bounded = refl
+
+none_between : skipped_chunks table one_of_two ≡ 0 ∷ 1 ∷ 2 ∷ []
+none_between = refl
+
+one_between : skipped_chunks table one_of_three ≡ []
+one_between = refl
+
+-- no value is below 3 and above 8, and yet the chunk is tested, since the column stands on both sides
+-- of an AND
 abbrev twice : Expression
 twice = both (compare less a (number 3)) (compare greater a (number 8))
 

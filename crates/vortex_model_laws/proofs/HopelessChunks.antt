@@ -1,13 +1,12 @@
 -- No row of a chunk whose box is hopeless satisfies a predicate of the wide class.
-use Rattle.std.proofs.Common.{◌≡◌, refl, sym, ap, ◌∙◌, subst, ℕ, pos, ◌<◌, ◌≤◌, List, [], ◌∷◌, ◌++◌, map, length, filter, Bool, true, false, not, ◌&&◌, ◌||◌, if◌then◌else◌, Option, Some, None, option_and_then, option_map, ◌⊎◌, inl, inr, arith, IfSome}
+use Rattle.std.proofs.Common.{◌≡◌, refl, sym, ap, ◌∙◌, subst, ℕ, pos, ◌<◌, ◌≤◌, List, [], ◌∷◌, ◌++◌, map, length, filter, Bool, true, false, not, ◌&&◌, if◌then◌else◌, Option, Some, None, option_and_then, option_map, ◌⊎◌, inl, inr, arith, IfSome}
 use Rattle.std.specs.List.{AllByRecursion, list_any}
-use Rattle.std.specs.Cmp.Lexicographic.{bytes_decides}
 use Rattle.std.proofs.lemmas.Bool.{cases_lt}
 use Rattle.std.proofs.lemmas.List.Sums.{count_by-le-length}
 use Rattle.vortex_model.specs.LogicalType.{LogicalType, boolean_type, integer_type, utf8, binary, non_nullable, with_nullability, IntKind, u8, u16, u32, u64, i8, i16, i32, i64}
 use Rattle.vortex_model.specs.Content.{Content, null, boolean, integer, text, byte_string, is_null}
 use Rattle.vortex_model.specs.Valid.{IsContent, InRange}
-use Rattle.vortex_model.specs.Path.{Names, Positions, positions, type_at, type_of_column, at, begins, column as column_value}
+use Rattle.vortex_model.specs.Path.{Names, Positions, positions, type_at, type_of_column, at, column as column_value}
 use Rattle.vortex_model.specs.Kept.{is_leaf}
 use Rattle.vortex_model.specs.Refusal.{Refusal, not_a_leaf, or_else, unequal_types, not_boolean, unsupported_like}
 use Rattle.vortex_model_table.specs.Expression.{Expression, literal, column, compare, both, either, is_null as is_null_test, is_not_null as is_not_null_test, between, like}
@@ -17,15 +16,18 @@ use Rattle.vortex_model_table.specs.Statistics.{Precision, exact, inexact, absen
 use Rattle.vortex_model_table.specs.ZoneMap.{ZoneMap, statistics_of, bound_of}
 use Rattle.vortex_model_table.specs.Table.{Table, bound_length}
 use Rattle.vortex_model_table.specs.Scan.{chunk_zone, chunk_zone_at, if_leaf}
-use Rattle.vortex_model_table.specs.Class.{Box, box_of, unknown_zone, IsFrom, IsUpTo, IsValueOf, IsBetween, IsCounted, Hopeless, columns_of, eq_names, all_distinct, is_wide, is_wide_tree, are_sides, is_column, are_ends, is_text_form}
+use Rattle.vortex_model_table.specs.Class.{Box, box_of, unknown_zone, IsFrom, IsUpTo, IsValueOf, IsBetween, IsCounted, Hopeless, columns_of, eq_names, columns_under_tests, columns_outside_tests, is_wide, is_wide_tree, are_sides, is_column, are_ends, is_text_form}
 use Rattle.vortex_model_table.specs.Command.{expression_fault, predicate_fault, column_fault, unless, is_boolean, eq_optional_type, is_utf8_type, is_supported_like}
 use Rattle.vortex_model_table.specs.Typing.{expression_type}
 use Rattle.vortex_model_laws.proofs.Columns.{all_at_type}
 use Rattle.vortex_model_table.proofs.ContentOrder.{true_left, true_right}
-use Rattle.vortex_model_laws.proofs.Honesty.{Among, among_map, all_among, value_among, no_null_among, all_null_among}
+use Rattle.vortex_model_laws.proofs.Complete.{NotAmong, AreApart, names_same, apart, wide_parts}
+use Rattle.vortex_model_laws.proofs.Groups.{front_of_all, back_of_all}
+use Rattle.vortex_model_laws.proofs.Honesty.{Among, among_map, each_among, all_among, value_among, no_null_among, all_null_among}
 use Rattle.vortex_model_laws.proofs.Hopeless.{MayHold, Fills, none_held}
 use Rattle.vortex_model_laws.proofs.Held.{first_none, second_none}
 use Rattle.vortex_model_laws.proofs.Skipping.{kept_none, never_true}
+use Rattle.vortex_model_laws.proofs.Tighter.{or_left_true, or_right_true}
 use Rattle.vortex_model.proofs.Tests.{range_so}
 use Rattle.vortex_model_laws.proofs.Zones.{honest_zone}
 
@@ -110,80 +112,16 @@ fewer_nulls v cs g e = by_count (cases_lt (null_count_of cs) (length cs))
         let n : ℕ = null_count_of cs in let l : ℕ = length cs in let most : n ≤ l = count_by-le-length is_null cs in
         let all : n ≡ l = omega (arith, h, most) in let f = all_null_among v cs all g in absurd (cc (e, f))
 
--- ---- labels: whether a column stands under a null test
+-- ---- the columns under null tests
 
-abbrev mark : Bool → List Names → List (Names × Bool)
-mark b xss = map (λ xs. (xs, b)) xss
+among_any : (xs : Names) (yss : List Names) → Among xs yss → list_any (eq_names xs) yss ≡ true
+among_any xs [] h = absurd h
+among_any xs (ys ∷ yss) (inl e) = or_left_true (eq_names xs ys) (list_any (eq_names xs) yss) (ap (eq_names xs) e ∙ names_same xs)
+among_any xs (ys ∷ yss) (inr h) = or_right_true (eq_names xs ys) (list_any (eq_names xs) yss) (among_any xs yss h)
 
-abbrev labelled : Expression → List (Names × Bool)
-labelled (both x y) = labelled x ++ labelled y
-labelled (either x y) = labelled x ++ labelled y
-labelled (is_null_test x) = mark true (columns_of x)
-labelled (is_not_null_test x) = mark true (columns_of x)
-labelled e = mark false (columns_of e)
-
-abbrev names_in : List (Names × Bool) → List Names
-names_in ps = map (λ p. p.0) ps
-
-names_marked : (b : Bool) (xss : List Names) → names_in (mark b xss) ≡ xss
-names_marked b [] = refl
-names_marked b (xs ∷ xss) = ap (λ yss. xs ∷ yss) (names_marked b xss)
-
-names_appended : (ps qs : List (Names × Bool)) → names_in (ps ++ qs) ≡ names_in ps ++ names_in qs
-names_appended [] qs = refl
-names_appended (p ∷ ps) qs = ap (λ yss. p.0 ∷ yss) (names_appended ps qs)
-
-names_labelled : (e : Expression) → names_in (labelled e) ≡ columns_of e
-names_labelled (both x y) = names_appended (labelled x) (labelled y) ∙ (λ i. names_labelled x i ++ names_labelled y i)
-names_labelled (either x y) = names_appended (labelled x) (labelled y) ∙ (λ i. names_labelled x i ++ names_labelled y i)
-names_labelled (is_null_test x) = names_marked true (columns_of x)
-names_labelled (is_not_null_test x) = names_marked true (columns_of x)
-names_labelled e = names_marked false (columns_of e)
-
-abbrev label_of : List (Names × Bool) → Names → Bool
-label_of [] xs = false
-label_of (p ∷ ps) xs = if eq_names p.0 xs then p.1 else label_of ps xs
-
-begins_itself : (xs : Names) → begins xs xs ≡ true
-begins_itself [] = refl
-begins_itself (x ∷ xs) = ap (λ b. b && begins xs xs) ((bytes_decides x x).1 refl) ∙ begins_itself xs
-
-names_same : (xs : Names) → eq_names xs xs ≡ true
-names_same xs = (λ i. begins_itself xs i && begins_itself xs i)
-
-not_true : (b : Bool) → not b ≡ true → b ≡ false
-not_true true e = absurd (cc (e))
-not_true false e = refl
-
-one_false : (b c : Bool) → b || c ≡ false → b ≡ false
-one_false true c e = e
-one_false false c e = refl
-
-other_false : (b c : Bool) → b || c ≡ false → c ≡ false
-other_false true c e = absurd (cc (e))
-other_false false c e = e
-
-abbrev HaveOwn : List (Names × Bool) → List (Names × Bool) → Type 0
-HaveOwn ps qs = AllByRecursion (λ q. label_of ps q.0 ≡ q.1) qs
-
-still_own : (p : Names × Bool) (ps qs : List (Names × Bool)) → list_any (eq_names p.0) (names_in qs) ≡ false → HaveOwn ps qs → HaveOwn (p ∷ ps) qs
-still_own p ps [] n h = tt
-still_own p ps (q ∷ qs) n h = (
-  ap (λ b. if b then p.1 else label_of ps q.0) (one_false (eq_names p.0 q.0) (list_any (eq_names p.0) (names_in qs)) n) ∙ h.0,
-  still_own p ps qs (other_false (eq_names p.0 q.0) (list_any (eq_names p.0) (names_in qs)) n) h.1,
-)
-
-own_labels : (ps : List (Names × Bool)) → all_distinct (names_in ps) ≡ true → HaveOwn ps ps
-own_labels [] d = tt
-own_labels (p ∷ ps) d = (
-  ap (λ b. if b then p.1 else label_of ps p.0) (names_same p.0),
-  still_own p ps ps (not_true (list_any (eq_names p.0) (names_in ps)) (true_left (not (list_any (eq_names p.0) (names_in ps))) (all_distinct (names_in ps)) d))
-      (own_labels ps (true_right (not (list_any (eq_names p.0) (names_in ps))) (all_distinct (names_in ps)) d)),
-)
-
-split_own : (ps qs rs : List (Names × Bool)) → HaveOwn ps (qs ++ rs) → HaveOwn ps qs × HaveOwn ps rs
-split_own ps [] rs h = (tt, h)
-split_own ps (q ∷ qs) rs h = let s = split_own ps qs rs h.1 in ((h.0, s.0), s.1)
+-- each path is one of the others
+abbrev AreAmong : List Names → List Names → Type 0
+AreAmong xss yss = AllByRecursion (λ xs. list_any (eq_names xs) yss ≡ true) xss
 
 -- ---- a row of a chunk
 
@@ -271,7 +209,7 @@ module _ (t : Table) (chunk : List Content) (rows : AllByRecursion (IsContent t.
         | inr h ↦ subst (λ v. IsBetween t.kind box xs v) (sym h.1) (default_between xs l.0 l.1 l.2 h.0)
       ])
 
-  module _ (row : Content) (here : Among row chunk) (labels : List (Names × Bool)) where
+  module _ (row : Content) (here : Among row chunk) (tested : List Names) where
     value_here : (xs : Names) → Among (column_value t.kind xs row) (values_in xs)
     value_here xs = among_map (column_value t.kind xs) row chunk here
 
@@ -292,79 +230,80 @@ module _ (t : Table) (chunk : List Content) (rows : AllByRecursion (IsContent t.
         }
 
     abbrev filler : Names → Content
-    filler xs = if label_of labels xs then column_value t.kind xs row else stand_in xs
+    filler xs = if list_any (eq_names xs) tested then column_value t.kind xs row else stand_in xs
 
-    unlabelled : (xs : Names) → column_fault (type_of_column t.kind xs) ≡ None → label_of labels xs ≡ false → IsBetween t.kind box xs (filler xs)
-    unlabelled xs f e =
+    untested : (xs : Names) → column_fault (type_of_column t.kind xs) ≡ None → list_any (eq_names xs) tested ≡ false → IsBetween t.kind box xs (filler xs)
+    untested xs f e =
         subst (λ v. IsBetween t.kind box xs v) (sym (ap (λ b. if b then column_value t.kind xs row else stand_in xs) e)) (stands_between xs f)
 
-    labelled_keeps : (xs : Names) → label_of labels xs ≡ true → filler xs ≡ column_value t.kind xs row
-    labelled_keeps xs e = ap (λ b. if b then column_value t.kind xs row else stand_in xs) e
+    tested_keeps : (xs : Names) → list_any (eq_names xs) tested ≡ true → filler xs ≡ column_value t.kind xs row
+    tested_keeps xs e = ap (λ b. if b then column_value t.kind xs row else stand_in xs) e
 
     -- the row may hold what the box tells, and the filler lies in it
     abbrev Lies : Expression → Type 0
     Lies e = MayHold t.kind box row e × Fills t.kind box filler row e
 
-    column_lies : (x : Expression) → is_column x ≡ true → expression_fault t.kind x ≡ None → HaveOwn labels (mark false (columns_of x)) → Lies x
-    column_lies (column xs) w f h = (column_may xs f, unlabelled xs f h.0)
+    column_lies : (x : Expression) → is_column x ≡ true → expression_fault t.kind x ≡ None → AreApart (columns_of x) tested → Lies x
+    column_lies (column xs) w f h = (column_may xs f, untested xs f h.0)
     column_lies x w f h = absurd (cc (w))
 
     sides_lie : (x y : Expression) → are_sides x y ≡ true → expression_fault t.kind x ≡ None → expression_fault t.kind y ≡ None →
-        HaveOwn labels (mark false (columns_of x ++ columns_of y)) → Lies x × Lies y
-    sides_lie (column xs) (column ys) w f g h = ((column_may xs f, unlabelled xs f h.0), (column_may ys g, unlabelled ys g h.1.0))
-    sides_lie (column xs) (literal l c) w f g h = ((column_may xs f, unlabelled xs f h.0), (tt, tt))
-    sides_lie (literal l c) (column ys) w f g h = ((tt, tt), (column_may ys g, unlabelled ys g h.0))
+        AreApart (columns_of x ++ columns_of y) tested → Lies x × Lies y
+    sides_lie (column xs) (column ys) w f g h = ((column_may xs f, untested xs f h.0), (column_may ys g, untested ys g h.1.0))
+    sides_lie (column xs) (literal l c) w f g h = ((column_may xs f, untested xs f h.0), (tt, tt))
+    sides_lie (literal l c) (column ys) w f g h = ((tt, tt), (column_may ys g, untested ys g h.0))
     sides_lie x y w f g h = absurd (cc (w))
 
     ends_lie : (x lo hi : Expression) → is_column x ≡ true → are_ends lo hi ≡ true → expression_fault t.kind x ≡ None →
-        HaveOwn labels (mark false (columns_of x ++ columns_of lo ++ columns_of hi)) → Lies (between x lo hi false false)
-    ends_lie (column xs) (literal l c) (literal m d) w v f h = ((column_may xs f, tt, tt), (unlabelled xs f h.0, tt, tt))
+        AreApart (columns_of x ++ columns_of lo ++ columns_of hi) tested → Lies (between x lo hi false false)
+    ends_lie (column xs) (literal l c) (literal m d) w v f h = ((column_may xs f, tt, tt), (untested xs f h.0, tt, tt))
     ends_lie (column xs) (literal l c) hi w v f h = absurd (cc (v))
     ends_lie (column xs) lo hi w v f h = absurd (cc (v))
     ends_lie x lo hi w v f h = absurd (cc (w))
 
     like_lies : (x : Expression) (l : LogicalType) (form : List ℕ) → is_column x ≡ true → expression_fault t.kind x ≡ None →
-        HaveOwn labels (mark false (columns_of x ++ [])) → Lies (like x (literal l (text form)) false false)
-    like_lies (column xs) l form w f h = ((column_may xs f, tt), (unlabelled xs f h.0, tt))
+        AreApart (columns_of x ++ []) tested → Lies (like x (literal l (text form)) false false)
+    like_lies (column xs) l form w f h = ((column_may xs f, tt), (untested xs f h.0, tt))
     like_lies x l form w f h = absurd (cc (w))
 
-    lies : (e : Expression) → is_wide_tree e ≡ true → expression_fault t.kind e ≡ None → HaveOwn labels (labelled e) → Lies e
-    lies (compare op x y) w f h =
+    lies : (e : Expression) → is_wide_tree e ≡ true → expression_fault t.kind e ≡ None → AreApart (columns_outside_tests e) tested → AreAmong (columns_under_tests e) tested → Lies e
+    lies (compare op x y) w f h u =
         let g = two_none (expression_fault t.kind x) (expression_fault t.kind y) (unless (eq_optional_type (expression_type t.kind x) (expression_type t.kind y)) unequal_types) f in
         let s = sides_lie x y w g.0 g.1 h in ((s.0.0, s.1.0), (s.0.1, s.1.1))
-    lies (both x y) w f h =
+    lies (both x y) w f h u =
         let g = two_none (expression_fault t.kind x) (expression_fault t.kind y) (unless (is_boolean (expression_type t.kind x) && is_boolean (expression_type t.kind y)) not_boolean) f in
-        let o = split_own labels (labelled x) (labelled y) h in
-        let a = lies x (true_left (is_wide_tree x) (is_wide_tree y) w) g.0 o.0 in let b = lies y (true_right (is_wide_tree x) (is_wide_tree y) w) g.1 o.1 in
+        let P = λ (xs : Names). NotAmong xs tested in let Q = λ (xs : Names). list_any (eq_names xs) tested ≡ true in
+        let a = lies x (true_left (is_wide_tree x) (is_wide_tree y) w) g.0 (front_of_all P (columns_outside_tests x) (columns_outside_tests y) h) (front_of_all Q (columns_under_tests x) (columns_under_tests y) u) in
+        let b = lies y (true_right (is_wide_tree x) (is_wide_tree y) w) g.1 (back_of_all P (columns_outside_tests x) (columns_outside_tests y) h) (back_of_all Q (columns_under_tests x) (columns_under_tests y) u) in
         ((a.0, b.0), (a.1, b.1))
-    lies (either x y) w f h =
+    lies (either x y) w f h u =
         let g = two_none (expression_fault t.kind x) (expression_fault t.kind y) (unless (is_boolean (expression_type t.kind x) && is_boolean (expression_type t.kind y)) not_boolean) f in
-        let o = split_own labels (labelled x) (labelled y) h in
-        let a = lies x (true_left (is_wide_tree x) (is_wide_tree y) w) g.0 o.0 in let b = lies y (true_right (is_wide_tree x) (is_wide_tree y) w) g.1 o.1 in
+        let P = λ (xs : Names). NotAmong xs tested in let Q = λ (xs : Names). list_any (eq_names xs) tested ≡ true in
+        let a = lies x (true_left (is_wide_tree x) (is_wide_tree y) w) g.0 (front_of_all P (columns_outside_tests x) (columns_outside_tests y) h) (front_of_all Q (columns_under_tests x) (columns_under_tests y) u) in
+        let b = lies y (true_right (is_wide_tree x) (is_wide_tree y) w) g.1 (back_of_all P (columns_outside_tests x) (columns_outside_tests y) h) (back_of_all Q (columns_under_tests x) (columns_under_tests y) u) in
         ((a.0, b.0), (a.1, b.1))
-    lies (literal l c) w f h = (tt, tt)
-    lies (is_null_test (column xs)) w f h = (column_counted xs f, labelled_keeps xs h.0)
-    lies (is_not_null_test (column xs)) w f h = (column_counted xs f, labelled_keeps xs h.0)
-    lies (between x lo hi false false) w f h =
+    lies (literal l c) w f h u = (tt, tt)
+    lies (is_null_test (column xs)) w f h u = (column_counted xs f, tested_keeps xs u.0)
+    lies (is_not_null_test (column xs)) w f h u = (column_counted xs f, tested_keeps xs u.0)
+    lies (between x lo hi false false) w f h u =
         ends_lie x lo hi (true_left (is_column x) (are_ends lo hi) w) (true_right (is_column x) (are_ends lo hi) w)
         (first_none (expression_fault t.kind x) (or_else (expression_fault t.kind lo) (or_else (expression_fault t.kind hi)
         (unless (eq_optional_type (expression_type t.kind x) (expression_type t.kind lo) && eq_optional_type (expression_type t.kind x) (expression_type t.kind hi)) unequal_types))) f) h
-    lies (like x (literal l (text form)) false false) w f h =
+    lies (like x (literal l (text form)) false false) w f h u =
         like_lies x l form (true_left (is_column x) (is_text_form form) w)
         (first_none (expression_fault t.kind x) (or_else (expression_fault t.kind (literal l (text form))) (or_else
         (unless (is_utf8_type (expression_type t.kind x) && is_utf8_type (Some l)) unequal_types)
         (unless (is_supported_like (literal l (text form)) false) unsupported_like))) f) h
-    lies e w f h = absurd (cc (w))
+    lies e w f h u = absurd (cc (w))
 
 -- ---- a chunk
 
 pub hopeless_holds_none : (t : Table) (e : Expression) (chunk : List Content) → predicate_fault t.kind e ≡ None → is_wide e ≡ true →
     AllByRecursion (IsContent t.kind) chunk → Hopeless t.kind e (box_of (chunk_zone t chunk)) → filter (selects t.kind e) chunk ≡ []
 hopeless_holds_none t e chunk f w rows hopeless =
-    let tree = true_left (is_wide_tree e) (all_distinct (columns_of e)) w in
-    let distinct = true_right (is_wide_tree e) (all_distinct (columns_of e)) w in
+    let plain = columns_outside_tests e in let tested = columns_under_tests e in let parts = wide_parts e w in
     let fault = first_none (expression_fault t.kind e) (unless (is_boolean (expression_type t.kind e)) not_boolean) f in
-    let own = own_labels (labelled e) (ap all_distinct (names_labelled e) ∙ distinct) in
+    let own = each_among (λ xs. list_any (eq_names xs) tested ≡ true) tested (λ xs there. among_any xs tested there) in
     kept_none (selects t.kind e) chunk (λ row here.
-    let l = lies t chunk rows row here (labelled e) e tree fault own in
-    never_true (value_at t.kind e row) (none_held t.kind e (box_of (chunk_zone t chunk)) (filler t chunk rows row here (labelled e)) row tree hopeless l.0 l.1))
+    let l = lies t chunk rows row here tested e parts.0 fault (apart plain tested parts.2) own in
+    never_true (value_at t.kind e row) (none_held t.kind e (box_of (chunk_zone t chunk)) (filler t chunk rows row here tested) row parts.0 hopeless l.0 l.1))

@@ -10,10 +10,9 @@ use Rattle.vortex_model.specs.Content.{Content, equal_content}
 use Rattle.vortex_model.specs.Valid.{IsContent, in_range}
 use Rattle.vortex_model.specs.Kept.{is_leaf}
 use Rattle.vortex_model_table.specs.Typing.{sum_kind}
-use Rattle.vortex_model_table.specs.Expression.{Expression, compare, both, either}
 use Rattle.vortex_model_table.specs.Statistics.{Precision, exact, inexact, absent, shown, non_null, sum_of, is_constant, is_at_most, IsHonestLeast}
 use Rattle.vortex_model_table.specs.ZoneMap.{ZoneMap, bound_of, is_exactly, bound_among, zone_of, sum_in, total_of, EachRunFits, IsGroupTotal, is_known_constant, has_exact_low, constancy_shows, IsGroupConstancy, joined_total, joined_constant, Joins, alone, together, all_joined, made_by}
-use Rattle.vortex_model_table.specs.Class.{is_there, is_comparison_tree, is_single_use, columns_of, all_distinct, is_wide_tree, is_wide}
+use Rattle.vortex_model_table.specs.Class.{is_there}
 use Rattle.vortex_model_table.proofs.ContentOrder.{le, true_left, true_right}
 use Rattle.vortex_model_table.proofs.Equality.{content_so, content_passes}
 use Rattle.vortex_model_laws.proofs.Groups.{all_append, front_of_all, back_of_all, among_left, among_right, honest_bounds}
@@ -358,15 +357,3 @@ pub joins_constancy : (k : LogicalType) (L : ℕ) (chunks : List (List Content))
 joins_constancy k L chunks joins leaf typed e =
     let made = constancy_made k L leaf joins chunks typed e in
     record { honest = made.honest; exact_where_the_chunks_show_it = made.shows }
-
--- ---- the class
-
-tree_wide : (e : Expression) → is_comparison_tree e ≡ true → is_wide_tree e ≡ true
-tree_wide (compare op x y) h = h
-tree_wide (both x y) h = (λ i. tree_wide x (true_left (is_comparison_tree x) (is_comparison_tree y) h) i && tree_wide y (true_right (is_comparison_tree x) (is_comparison_tree y) h) i)
-tree_wide (either x y) h = (λ i. tree_wide x (true_left (is_comparison_tree x) (is_comparison_tree y) h) i && tree_wide y (true_right (is_comparison_tree x) (is_comparison_tree y) h) i)
-tree_wide e h = absurd (cc (h))
-
-pub single_wide : (e : Expression) → is_single_use e ≡ true → is_wide e ≡ true
-single_wide e h =
-    (λ i. tree_wide e (true_left (is_comparison_tree e) (all_distinct (columns_of e)) h) i && true_right (is_comparison_tree e) (all_distinct (columns_of e)) h i)

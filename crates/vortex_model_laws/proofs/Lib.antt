@@ -8,6 +8,7 @@ mod Binding
 pub mod BoundFunctions
 pub mod Bounded
 pub mod ByteOrder
+mod Classes
 pub mod Columns
 pub mod Complete
 pub mod CountUp

@@ -258,6 +258,22 @@ repeated_column = refl
 in_first : is_single_use (either (compare greater (lit32 5) (col a)) (compare less (col b) (col s))) ≡ true
 in_first = refl
 
+alternatives : is_wide (either (compare equal (col a) (lit32 1)) (either (compare equal (col a) (lit32 5)) (compare equal (col a) (lit32 9)))) ≡ true
+alternatives = refl
+
+both_sides : is_wide (both (compare greater (col a) (lit32 5)) (compare less (col a) (lit32 3))) ≡ false
+both_sides = refl
+
+with_itself : is_wide (compare less (col a) (col a)) ≡ false
+with_itself = refl
+
+-- a value is asked of the column, and none is null
+tested_and_compared : is_wide (either (compare equal (col a) (lit32 9)) (is_null (col a))) ≡ false
+tested_and_compared = refl
+
+tested_twice : is_wide (either (is_null (col a)) (either (is_not_null (col a)) (compare equal (col b) (lit32 9)))) ≡ true
+tested_twice = refl
+
 strict_between : is_wide (between (col a) (lit32 1) (lit32 2) true true) ≡ false
 strict_between = refl
 

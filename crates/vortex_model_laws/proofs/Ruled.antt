@@ -13,7 +13,7 @@ use Rattle.vortex_model_table.specs.Statistics.{Precision, exact, inexact, absen
 use Rattle.vortex_model_table.specs.ZoneMap.{ZoneMap, value_in}
 use Rattle.vortex_model_table.specs.Rewrite.{bound_expression, comparison_falsifier, boolean_literal, count_literal, joined_proofs, as_list, Shape, exact_text, beginning, no_shape, shape_of, outside, shape_falsifier, either_there, both_there, falsifier}
 use Rattle.vortex_model_table.specs.Scan.{told, known, proves}
-use Rattle.vortex_model_table.specs.Class.{Box, box_of, unknown_zone, IsFrom, IsUpTo, IsIn, Hopeless, of_choice, columns_of, all_distinct, is_there}
+use Rattle.vortex_model_table.specs.Class.{Box, box_of, unknown_zone, IsFrom, IsUpTo, IsIn, Hopeless, of_choice, is_there, is_wide}
 use Rattle.vortex_model_laws.proofs.BoundFunctions.{raise_by_function}
 use Rattle.vortex_model_laws.proofs.ByteOrder.{upto_refl}
 use Rattle.vortex_model_table.proofs.ContentOrder.{Bounds, le, by_le, Between, passing, none_equal, none_equal_back, none_not_equal, none_greater, none_at_least, none_less, none_at_most, true_left, true_right}
@@ -21,7 +21,7 @@ use Rattle.vortex_model_laws.proofs.Hopeless.{and_left, and_right, or_one}
 use Rattle.vortex_model_laws.proofs.Likes.{Fits, matched, shape_fits, exact_bytes, beginning_upto, beginning_below}
 use Rattle.vortex_model_laws.proofs.Skipping.{truly}
 use Rattle.vortex_model_laws.proofs.Texts.{IsTextual}
-use Rattle.vortex_model_laws.proofs.Complete.{either_way, proof_value, fails_value, made, or_cases, is_side, lows, highs, IsSide, IsLikeable, IsGood, tree_fails, apart_where_distinct, complete}
+use Rattle.vortex_model_laws.proofs.Complete.{either_way, proof_value, fails_value, made, or_cases, is_side, lows, highs, IsSide, IsLikeable, IsGood, tree_fails, reached}
 use Rattle.vortex_model_laws.proofs.Liked.{IsTextForm, IsPrefixForm, form_cases, like_fails}
 use Rattle.vortex_model_laws.proofs.Tighter.{and_made, or_made_left, or_made_right, not_true, count_so}
 
@@ -347,10 +347,10 @@ module _ (k : LogicalType) (zones : Names → Option ZoneMap) (rows : ℕ) (even
 
   -- ---- both ways
 
-  pub exactly : (e : Expression) → IsGood k box e → all_distinct (columns_of e) ≡ true → (proves zones rows (falsifier k e) ≡ true) ↔ Hopeless k e box
-  exactly e h distinct = (
+  pub exactly : (e : Expression) → IsGood k box e → is_wide e ≡ true → (proves zones rows (falsifier k e) ≡ true) ↔ Hopeless k e box
+  exactly e h wide = (
     (λ proved choice inside. none_true choice (falsifier k e) (evaluate (of_choice choice) e) (rules choice e h inside) proved),
     (λ hopeless. either_way (tree_fails k box e)
         (λ f. let p = there e h in ap (proves zones rows) p.1 ∙ ap is_true (p.2 f))
-        (λ f. let r = complete k box e h (apart_where_distinct e distinct) f (λ xs. null) in absurd (hopeless r.choice r.inside r.holds))),
+        (λ f. let r = reached k box e h wide f in absurd (hopeless r.choice r.inside r.holds))),
   )

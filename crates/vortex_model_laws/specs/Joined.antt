@@ -1,5 +1,5 @@
--- The sum and the constancy of a group, whatever joins made it; and the class of the trees that the
--- wide class widens.
+-- The sum and the constancy of a group, whatever joins made it; and classes of trees that the wide
+-- class widens.
 use Rattle.std.specs.Prelude.{◌≡◌, ℕ, List, map, flat_map, true}
 use Rattle.std.specs.List.{AllByRecursion}
 use Rattle.vortex_model.specs.LogicalType.{LogicalType}
@@ -9,7 +9,7 @@ use Rattle.vortex_model.specs.Kept.{is_leaf}
 use Rattle.vortex_model_table.specs.Expression.{Expression}
 use Rattle.vortex_model_table.specs.Statistics.{sum_of}
 use Rattle.vortex_model_table.specs.ZoneMap.{zone_of, IsGroupTotal, IsGroupConstancy, Joins, all_joined, made_by}
-use Rattle.vortex_model_table.specs.Class.{is_single_use, is_wide}
+use Rattle.vortex_model_table.specs.Class.{columns_of, all_distinct, is_single_use, is_wide_tree, is_wide}
 
 -- The sum that joins make of the zone maps of chunks is that of all their rows, or missing, and is
 -- there where the sum of each run of neighbouring chunks fits.
@@ -30,3 +30,8 @@ JoinsGiveTheConstancy = (k : LogicalType) (L : ℕ) (chunks : List (List Content
 -- comparisons under AND and OR in which no column stands twice are of the wide class
 abbrev pub SingleUseTreesAreWide : Type 0
 SingleUseTreesAreWide = (e : Expression) → is_single_use e ≡ true → is_wide e ≡ true
+
+-- and so are all its trees in which none does, null tests included
+abbrev pub TreesOfDistinctColumnsAreWide : Type 0
+TreesOfDistinctColumnsAreWide = (e : Expression) → is_wide_tree e ≡ true →
+    all_distinct (columns_of e) ≡ true → is_wide e ≡ true

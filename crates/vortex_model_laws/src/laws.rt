@@ -36,6 +36,7 @@ ghost use Rattle.vortex_model_laws.specs.Joined.{
   JoinsGiveTheTotal,
   JoinsGiveTheConstancy,
   SingleUseTreesAreWide,
+  TreesOfDistinctColumnsAreWide,
 };
 ghost use Rattle.vortex_model_laws.specs.Regrouped.{GroupsDoNotShow, JoinsChangeNoScan};
 ghost use Rattle.vortex_model_laws.specs.Runs.{RunsKeepWhatIsHandedIn, RunsAreScannedExactly};
@@ -101,7 +102,8 @@ pub fn bound_satisfiers_are_sound()
 /// A chunk that has both bounds of each column outside null tests is skipped exactly where no
 /// choice of values in its box makes the predicate true. The predicate has comparisons, BETWEEN
 /// with its ends, truth values, null tests and LIKEs of a text or of a beginning, joined by AND and
-/// OR, and no column stands twice.
+/// OR. No column stands on both sides of a comparison or of an AND, and none both under a null test
+/// and outside; on both sides of an OR one may stand.
 pub fn exactly_the_hopeless_are_skipped()
     ensures { ExactlyTheHopelessAreSkipped }
 {}
@@ -115,6 +117,11 @@ pub fn falsifiers_are_complete()
 /// Comparisons under AND and OR in which no column stands twice are of the wide class.
 pub fn single_use_trees_are_wide()
     ensures { SingleUseTreesAreWide }
+{}
+
+/// So are the class's trees of other leaves too, null tests included, in which none does.
+pub fn trees_of_distinct_columns_are_wide()
+    ensures { TreesOfDistinctColumnsAreWide }
 {}
 
 /// Whatever joins make a group of chunks, its sum is that of the rows or missing, and is there

@@ -1,7 +1,7 @@
 -- The predicates for which skipping is exact, and the boxes that no choice of values in them
 -- satisfies.
 use Rattle.std.specs.Prelude.{chars, ◌≡◌, ◌≢◌, ℕ, ◌<◌, List, [], ◌∷◌, ◌++◌, Bool, true, false, not, ◌&&◌, ◌||◌, is_some, Option, Some, None, IfSome, ◌==◌}
-use Rattle.std.specs.List.{list_any}
+use Rattle.std.specs.List.{list_any, list_all}
 use Rattle.vortex_model.specs.LogicalType.{LogicalType, non_nullable, with_nullability}
 use Rattle.vortex_model.specs.Content.{Content, null, boolean, text, is_null as is_null_content}
 use Rattle.vortex_model.specs.Valid.{IsContent}
@@ -105,9 +105,39 @@ is_wide_tree (is_not_null x) = is_column x
 is_wide_tree (like x (literal k (text form)) false false) = is_column x && is_text_form form
 is_wide_tree e = false
 
--- in which no column stands twice, those of null tests included
+-- the columns of such a tree under null tests
+abbrev pub columns_under_tests : Expression → List Names
+columns_under_tests (both x y) = columns_under_tests x ++ columns_under_tests y
+columns_under_tests (either x y) = columns_under_tests x ++ columns_under_tests y
+columns_under_tests (is_null x) = columns_of x
+columns_under_tests (is_not_null x) = columns_of x
+columns_under_tests e = []
+
+-- and those outside them
+abbrev pub columns_outside_tests : Expression → List Names
+columns_outside_tests (both x y) = columns_outside_tests x ++ columns_outside_tests y
+columns_outside_tests (either x y) = columns_outside_tests x ++ columns_outside_tests y
+columns_outside_tests (is_null x) = []
+columns_outside_tests (is_not_null x) = []
+columns_outside_tests e = columns_of e
+
+-- no path stands in both
+abbrev pub are_disjoint : List Names → List Names → Bool
+are_disjoint xss yss = list_all (λ xs. not (list_any (eq_names xs) yss)) xss
+
+-- no column stands on both sides of a comparison or of an AND
+abbrev pub sides_are_disjoint : Expression → Bool
+sides_are_disjoint (compare op x y) = are_disjoint (columns_of x) (columns_of y)
+sides_are_disjoint (both x y) =
+    sides_are_disjoint x && sides_are_disjoint y && are_disjoint (columns_of x) (columns_of y)
+sides_are_disjoint (either x y) = sides_are_disjoint x && sides_are_disjoint y
+sides_are_disjoint e = true
+
+-- The wide class: such trees, in which also no column stands both under a null test, where null may
+-- be chosen, and outside, where it may not. A column may stand on both sides of an OR.
 abbrev pub is_wide : Expression → Bool
-is_wide e = is_wide_tree e && all_distinct (columns_of e)
+is_wide e = is_wide_tree e && sides_are_disjoint e &&
+    are_disjoint (columns_outside_tests e) (columns_under_tests e)
 
 -- ---- boxes
 
@@ -194,10 +224,4 @@ has_both box xs = is_there (box xs).low && is_there (box xs).high
 
 -- each column outside null tests has both bounds
 abbrev pub is_bounded : Box → Expression → Bool
-is_bounded box (column xs) = has_both box xs
-is_bounded box (compare op x y) = is_bounded box x && is_bounded box y
-is_bounded box (both x y) = is_bounded box x && is_bounded box y
-is_bounded box (either x y) = is_bounded box x && is_bounded box y
-is_bounded box (between x lo hi s t) = is_bounded box x
-is_bounded box (like x form n i) = is_bounded box x
-is_bounded box e = true
+is_bounded box e = list_all (has_both box) (columns_outside_tests e)

@@ -16,7 +16,8 @@ use vortex_table_io::{Call, RunError, Sink, Source, run_lines};
 /// and bound lengths, each accepted scan answers exactly the plain converted rows that satisfy its
 /// predicate, in order, cut to what its paths cover; each command is accepted exactly where
 /// defined, else changes nothing; and for single-use comparison trees a chunk with all bounds is
-/// skipped exactly when no values between them satisfy the tree.
+/// skipped exactly when no values between them satisfy the tree. The last holds of more predicates,
+/// in which an OR may have a column on both sides (`is_wide`).
 ///
 /// An LF ends a line, and the last line may lack it. A line is a command as a JSON object:
 /// `create`, `append`, `join`, `retype`, `compact`, `scan` or `describe`. The answers to the lines
