@@ -1,5 +1,5 @@
 -- How the piece of a LIKE pattern before its first % meets a text.
-use Rattle.std.specs.Prelude.{◌≡◌, ◌<◌, ◌≤◌, ℕ, List, length, true, false}
+use Rattle.std.specs.Prelude.{◌≡◌, ◌<◌, ◌≤◌, ℕ, List, ◌∷◌, length, true, false}
 use Rattle.std.specs.Prelude.{Option, Some, None}
 use denote.Ref.{Bor}
 use Rattle.vortex_model_table.specs.Like.{some_end}
@@ -30,3 +30,13 @@ pub record IsPlace (form value left : List ℕ) : Type 0 where
 abbrev pub GoesOn : List ℕ → List ℕ → Option (Bor (List ℕ)) → Type 0
 GoesOn form value None = some_end (byte_matches form) value ≡ false
 GoesOn form value (Some left) = IsPlace form value left.now
+
+-- The ends that match what stands behind a _ are those of what is left, and some end of the text
+-- matches the _ and what stands behind it exactly where one of them does.
+pub record IsTaken (behind value left : List ℕ) : Type 0 where
+  pub ends : some_end (byte_matches (95 ∷ behind)) value ≡ some_end (byte_matches behind) left
+  pub no_longer : length left ≤ length value
+
+abbrev pub TakesOne : List ℕ → List ℕ → Option (Bor (List ℕ)) → Type 0
+TakesOne behind value None = some_end (byte_matches (95 ∷ behind)) value ≡ false
+TakesOne behind value (Some left) = IsTaken behind value left.now

@@ -10,10 +10,10 @@
 ghost use Rattle.std.specs.Prelude.{◌≡◌, option_copied};
 ghost use Rattle.memchr.specs.Find.{IsFirstByte, is_byte};
 ghost use Rattle.vortex_model_table.specs.Like.{some_end};
-ghost use Rattle.vortex_stats_match.specs.Bytes.{goes_on, past_char, left_by, byte_matches};
-ghost use Rattle.vortex_stats_match.specs.Pieces.{Meets, GoesOn};
+ghost use Rattle.vortex_stats_match.specs.Bytes.{goes_on, begins_inside, past_char, left_by, byte_matches};
+ghost use Rattle.vortex_stats_match.specs.Pieces.{Meets, GoesOn, TakesOne};
 
-use memchr::memchr;
+use memchr::{memchr, memchr2, memmem};
 
 /// How a pattern meets a text, up to the first `%` of the pattern.
 enum Piece<'a, 'b> {
@@ -30,6 +30,16 @@ fn goes_on(byte: u8) -> bool
     ensures { result ≡ goes_on byte }
 {
     !(byte < 128) && byte < 192
+}
+
+// Whether the bytes begin within a character.
+fn begins_inside(bytes: &[u8]) -> bool
+    ensures { result ≡ begins_inside bytes.now }
+{
+    match bytes.split_first() {
+        None => false,
+        Some((byte, _)) => goes_on(*byte),
+    }
 }
 
 // The text from the next beginning of a character on.
@@ -118,11 +128,33 @@ fn find(sign: u8, text: &[u8]) -> Option<usize>
     }
 }
 
-// The text from the first place on where the first sign of the pattern stands: no end before it
-// matches.
+// The text from a place on before which the bytes that the pattern begins with, up to its first sign,
+// stand nowhere. A pattern without a sign can only be the end of the text.
+fn far_place<'t>(pattern: &[u8], text: &'t [u8]) -> Option<&'t [u8]>
+    ensures { GoesOn pattern.now text.now result }
+{
+    match memchr2(b'%', b'_', pattern) {
+        None => {
+            if text.len() < pattern.len() {
+                return None;
+            }
+            Some(&text[text.len() - pattern.len()..])
+        }
+        Some(end) => match memmem::find(text, &pattern[..end]) {
+            None => None,
+            Some(place) => Some(&text[place..]),
+        },
+    }
+}
+
+// The text from a place on before which no end of it matches.
 fn next_place<'t>(pattern: &[u8], text: &'t [u8]) -> Option<&'t [u8]>
     ensures { GoesOn pattern.now text.now result }
 {
+    // What a search of linear time makes ready takes longer than to look at so few places.
+    if text.len() >= 128 {
+        return far_place(pattern, text);
+    }
     match pattern.split_first() {
         None => Some(text),
         Some((sign, _)) => {
@@ -140,6 +172,17 @@ fn next_place<'t>(pattern: &[u8], text: &'t [u8]) -> Option<&'t [u8]>
     }
 }
 
+// A `_` behind a `%` takes the first character, wherever else it could stand: what is left of the
+// text then. `None` where no end of the text matches the `_` and what stands behind it.
+fn past_one<'t>(behind: &[u8], text: &'t [u8]) -> Option<&'t [u8]>
+    ensures { TakesOne behind.now text.now result }
+{
+    if begins_inside(behind) {
+        return None;
+    }
+    left_by(b'_', past_char(text))
+}
+
 // Whether some end of the text, the whole and the empty one too, matches the pattern.
 fn has_end_like(pattern: &[u8], text: &[u8]) -> bool
     ensures { result ≡ some_end (byte_matches pattern.now) text.now }
@@ -148,8 +191,16 @@ fn has_end_like(pattern: &[u8], text: &[u8]) -> bool
     let mut text = text;
     loop {
         // A pattern that ends in % takes all that is left.
-        if pattern.is_empty() {
+        let Some((sign, behind)) = pattern.split_first() else {
             return true;
+        };
+        if *sign == b'_' {
+            let Some(left) = past_one(behind, text) else {
+                return false;
+            };
+            pattern = behind;
+            text = left;
+            continue;
         }
         let Some(place) = next_place(pattern, text) else {
             return false;
