@@ -1,6 +1,6 @@
 -- Where a piece of a LIKE pattern can't begin, and what a _ behind a % takes.
 use Rattle.std.proofs.Common.{◌≡◌, refl, sym, ap, ◌∙◌, ℕ, suc, zero, ◌+◌, ◌-◌, ◌<◌, ◌≤◌, List, [], ◌∷◌, length, take, drop, get_or, Bool, true, false, ◌||◌, ◌==◌, cond, if◌then◌else◌, ◌&&◌, not, nat_lt, lt-ltb, Option, Some, None, eqb-true, arith, ◌⊎◌, ⊎_elim, inl, inr}
-use Rattle.std.proofs.lemmas.Bool.{eq-eqb, ne_eqb}
+use Rattle.std.proofs.lemmas.Bool.{cases_lt, eq-eqb, ne_eqb}
 use Rattle.std.proofs.lemmas.List.{drop-drop, length-drop, length-take, take_all, get_or-drop, get_or-take}
 use Rattle.std.proofs.Math.Seq.{drop-length}
 use Rattle.memchr.specs.Find.{OccursAt}
@@ -8,7 +8,7 @@ use Rattle.std.specs.Prelude.{option_copied}
 use denote.Ref.{Bor}
 use Rattle.vortex_model_table.specs.Like.{some_end}
 use Rattle.vortex_stats_match.specs.Bytes.{goes_on, begins_inside, past_char, left_by, is_left, byte_matches}
-use Rattle.vortex_stats_match.specs.Pieces.{IsPlace, IsTaken, TakesOne}
+use Rattle.vortex_stats_match.specs.Pieces.{IsPlace, IsTaken, StandsNowhere, TakesOne, is_sign, may_stand}
 use Rattle.vortex_stats_match.proofs.SignLemmas.{first_end, end_of_drop, found_end, same_truth, plain_sign, width, inners, inners_within, past_is_drop, left_is_drop, no_earlier}
 
 not_true : (b : Bool) → (b ≡ true → ⊥) → b ≡ false
@@ -310,3 +310,90 @@ inside (a ∷ rest) value on = nowhere (95 ∷ a ∷ rest) value (λ j le e. at 
 pub takes_one : (behind value : List ℕ) (o : Option (Bor (List ℕ))) → begins_inside behind ≡ false → option_copied o ≡ left_by 95 (past_char value) → TakesOne behind value o
 takes_one behind value None off q = none_taken behind value q
 takes_one behind value (Some left) off q = taken behind value left.now off q
+
+-- ---- a byte, a _ and another byte
+
+-- where the form matches, they may stand
+spread_first : (a c : ℕ) (rest value : List ℕ) → is_sign a ≡ false → is_sign c ≡ false → byte_matches (a ∷ 95 ∷ c ∷ rest) value ≡ true
+    → (2 < length value) × (may_stand a c value 0 ≡ true)
+spread_first a c rest value p q e = at value e
+  where
+    a_plain : ((a == 37) ≡ false) × ((a == 95) ≡ false)
+    a_plain = neither (a == 37) (a == 95) (λ t. cc (sym p ∙ t))
+
+    c_plain : ((c == 37) ≡ false) × ((c == 95) ≡ false)
+    c_plain = neither (c == 37) (c == 95) (λ t. cc (sym q ∙ t))
+
+    both : (x y z : ℕ) → x ≡ a → (z ≡ c) ⊎ (not (nat_lt z 128) ≡ true) → (x == a) && ((z == c) || not (nat_lt z 128)) ≡ true
+    both x y z is (inl f) = ap (λ t. t && ((z == c) || not (nat_lt z 128))) (eq-eqb x a is) ∙ ap (λ t. t || not (nat_lt z 128)) (eq-eqb z c f)
+    both x y z is (inr f) = ap (λ t. t && ((z == c) || not (nat_lt z 128))) (eq-eqb x a is) ∙ or_later (z == c) (not (nat_lt z 128)) f
+
+    high : (z : ℕ) → goes_on z ≡ true → not (nat_lt z 128) ≡ true
+    high z on = fst (not (nat_lt z 128)) (nat_lt z 192) on
+      where
+        fst : (x y : Bool) → x && y ≡ true → x ≡ true
+        fst true y f = refl
+        fst false y f = f
+
+    third : (z : ℕ) (zs : List ℕ) → byte_matches (c ∷ rest) (past_char (z ∷ zs)) ≡ true → (z ≡ c) ⊎ (not (nat_lt z 128) ≡ true)
+    third z zs f =
+        by_truth (goes_on z)
+        (λ on. inr (high z on))
+        (λ off. inl (takes_itself c z rest zs c_plain.0 c_plain.1 (sym (ap (byte_matches (c ∷ rest)) (past_off z zs off)) ∙ f)).0)
+
+    behind : (y : ℕ) (ys : List ℕ) → byte_matches (95 ∷ c ∷ rest) (y ∷ ys) ≡ true → byte_matches (c ∷ rest) (past_char ys) ≡ true
+    behind y ys f =
+        by_truth (goes_on y)
+        (λ on. absurd (cc (sym (ap (λ t. is_left (byte_matches (c ∷ rest)) (if t then None else Some (past_char ys))) on) ∙ sym (reads_one (c ∷ rest) (y ∷ ys)) ∙ f)))
+        (λ off. sym (ap (λ t. is_left (byte_matches (c ∷ rest)) (if t then None else Some (past_char ys))) off) ∙ sym (reads_one (c ∷ rest) (y ∷ ys)) ∙ f)
+
+    at : (xs : List ℕ) → byte_matches (a ∷ 95 ∷ c ∷ rest) xs ≡ true → (2 < length xs) × (may_stand a c xs 0 ≡ true)
+    at [] f = absurd (takes_some a (95 ∷ c ∷ rest) a_plain.0 f)
+    at (x ∷ []) f = absurd (cc (takes_itself a x (95 ∷ c ∷ rest) [] a_plain.0 a_plain.1 f).1)
+    at (x ∷ y ∷ []) f = absurd (takes_some c rest c_plain.0 (behind y [] (takes_itself a x (95 ∷ c ∷ rest) (y ∷ []) a_plain.0 a_plain.1 f).1))
+    at (x ∷ y ∷ z ∷ zs) f =
+        let on = takes_itself a x (95 ∷ c ∷ rest) (y ∷ z ∷ zs) a_plain.0 a_plain.1 f in
+        (omega arith, both x y z on.0 (third z zs (behind y (z ∷ zs) on.1)))
+
+pub spread : (form value left : List ℕ) (a c k : ℕ) (rest : List ℕ) → form ≡ a ∷ 95 ∷ c ∷ rest → is_sign a ≡ false → is_sign c ≡ false → k ≤ length value
+    → StandsNowhere a c value k → left ≡ take (length value - k) (drop k value) → IsPlace form value left
+spread form value left a c k rest p plain_a plain_c within h e =
+    place form value left k within (λ j lt f. at j lt (spread_first a c rest (drop j value) plain_a plain_c (ap (λ s. byte_matches s (drop j value)) (sym p) ∙ f))) e
+  where
+    at : (j : ℕ) → j < k → (2 < length (drop j value)) × (may_stand a c (drop j value) 0 ≡ true) → ⊥
+    at j lt here =
+        cc (sym (h j lt (omega (arith, here.0, length-drop j value))) 
+        ∙ sym (ap (λ n. may n (get_or (drop j value) 2 0)) (first j) ∙ ap (λ n. may (get_or value j 0) n) (get_or-drop j value 2 0)) ∙ here.1)
+      where
+        may : ℕ → ℕ → Bool
+        may x z = (x == a) && ((z == c) || not (nat_lt z 128))
+
+        first : (i : ℕ) → get_or (drop i value) 0 0 ≡ get_or value i 0
+        first i = get_or-drop i value 0 0 ∙ ap (λ n. get_or value n 0) (omega arith)
+
+-- where they stand nowhere before a block of the text and nowhere in it, they do so nowhere before its end
+pub stands_on : (a c : ℕ) (value : List ℕ) (at m n : ℕ) → StandsNowhere a c value at → StandsNowhere a c (take m (drop at value)) (length (take m (drop at value)))
+    → at + m ≤ length value → ((k : ℕ) → k < n → k + 2 < length value → k + 2 < at + m) → StandsNowhere a c value n
+stands_on a c value at m n earlier block le within k lt room = ⊎_elim (λ low. earlier k low room) (λ high. here high) (cases_lt k at)
+  where
+    may : ℕ → ℕ → Bool
+    may x z = (x == a) && ((z == c) || not (nat_lt z 128))
+
+    in_block : (i j : ℕ) → i < m → at + i ≡ j → get_or value j 0 ≡ get_or (take m (drop at value)) i 0
+    in_block i j less is = sym (get_or-take m (drop at value) i 0 less ∙ get_or-drop at value i 0 ∙ ap (λ n. get_or value n 0) is)
+
+    size : length (take m (drop at value)) ≡ m
+    size = omega (arith, length-take m (drop at value), length-drop at value, le)
+
+    here : at ≤ k → may_stand a c value k ≡ false
+    here high =
+        let end = within k lt room in
+        ap (λ n. may n (get_or value (k + 2) 0)) (in_block (k - at) k (omega (arith, end, high)) (omega (arith, high)))
+        ∙ ap (λ n. may (get_or (take m (drop at value)) (k - at) 0) n) (in_block (k - at + 2) (k + 2) (omega (arith, end, high)) (omega (arith, high)))
+        ∙ block (k - at) (omega (arith, end, high, size)) (omega (arith, end, high, size))
+
+pub three : (form : List ℕ) → 3 ≤ length form → get_or form 1 0 ≡ 95 → form ≡ get_or form 0 0 ∷ 95 ∷ get_or form 2 0 ∷ drop 3 form
+three [] le is = absurd (omega (arith, le))
+three (a ∷ []) le is = absurd (omega (arith, le))
+three (a ∷ b ∷ []) le is = absurd (omega (arith, le))
+three (a ∷ b ∷ c ∷ rest) le is = ap (λ n. a ∷ n ∷ c ∷ rest) is

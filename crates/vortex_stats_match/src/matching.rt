@@ -7,11 +7,11 @@
 //! fits is as good as each later one, and no earlier piece is tried again. So the time is at worst
 //! the length of the text times that of the pattern. The byte that a piece begins with is searched
 //! for, unless it is a sign.
-ghost use Rattle.std.specs.Prelude.{◌≡◌, option_copied};
+ghost use Rattle.std.specs.Prelude.{◌≡◌, ◌≤◌, length, false, option_copied};
 ghost use Rattle.memchr.specs.Find.{IsFirstByte, is_byte};
 ghost use Rattle.vortex_model_table.specs.Like.{some_end};
 ghost use Rattle.vortex_stats_match.specs.Bytes.{goes_on, begins_inside, past_char, left_by, byte_matches};
-ghost use Rattle.vortex_stats_match.specs.Pieces.{Meets, GoesOn, TakesOne};
+ghost use Rattle.vortex_stats_match.specs.Pieces.{IsPlace, Meets, GoesOn, StandsNowhere, TakesOne, is_sign};
 
 use memchr::{memchr, memchr2, memmem};
 
@@ -23,6 +23,13 @@ enum Piece<'a, 'b> {
     IsWhole,
     /// A `%` stands here: the pattern behind it, and what is left of the text.
     Wildcard { pattern: &'a [u8], text: &'b [u8] },
+}
+
+// Whether the byte of a pattern stands for others.
+fn is_sign(byte: u8) -> bool
+    ensures { result ≡ is_sign byte }
+{
+    byte == b'%' || byte == b'_'
 }
 
 // Whether the byte goes on with a character, and begins none.
@@ -183,6 +190,53 @@ fn past_one<'t>(behind: &[u8], text: &'t [u8]) -> Option<&'t [u8]>
     left_by(b'_', past_char(text))
 }
 
+// Whether the first byte may stand in the text with one character and then the third byte behind
+// it. A byte that is no ASCII there may go on with that character. No test ends the loop, so that
+// many bytes are tested at once.
+fn may_stand(first: u8, third: u8, text: &[u8]) -> bool
+    ensures { result ≡ false → StandsNowhere first third text.now (length text.now) }
+{
+    let mut found = false;
+    for i in 2..text.len() {
+        found = found | ((text[i - 2] == first) & ((text[i] == third) | !(text[i] < 128)));
+    }
+    found
+}
+
+// The place of the first 32 bytes where they may.
+fn spread_place(first: u8, third: u8, text: &[u8]) -> usize
+    ensures within { result ≤ length text.now }
+    ensures passed { StandsNowhere first third text.now result }
+{
+    let mut at = 0;
+    while text.len() - at >= 34 {
+        if may_stand(first, third, &text[at..at + 34]) {
+            return at;
+        }
+        at += 32;
+    }
+    if may_stand(first, third, &text[at..]) {
+        at
+    } else {
+        text.len()
+    }
+}
+
+// The text from a place on before which no end of it matches, where a byte, a `_` and another byte
+// begin the pattern: both are looked for at once, which few places pass.
+fn past_spread<'t>(pattern: &[u8], text: &'t [u8]) -> &'t [u8]
+    ensures { IsPlace pattern.now text.now result.now }
+{
+    if pattern.len() < 3 {
+        return text;
+    }
+    let (first, second, third) = (pattern[0], pattern[1], pattern[2]);
+    if second != b'_' || is_sign(first) || is_sign(third) {
+        return text;
+    }
+    &text[spread_place(first, third, text)..]
+}
+
 // Whether some end of the text, the whole and the empty one too, matches the pattern.
 fn has_end_like(pattern: &[u8], text: &[u8]) -> bool
     ensures { result ≡ some_end (byte_matches pattern.now) text.now }
@@ -202,7 +256,7 @@ fn has_end_like(pattern: &[u8], text: &[u8]) -> bool
             text = left;
             continue;
         }
-        let Some(place) = next_place(pattern, text) else {
+        let Some(place) = next_place(pattern, past_spread(pattern, text)) else {
             return false;
         };
         match meet(pattern, place) {

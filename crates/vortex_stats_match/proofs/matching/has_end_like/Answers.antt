@@ -11,17 +11,17 @@ returns-in_default c =
 pub returns-in-IsWhole : goal.returns-in-IsWhole
 returns-in-IsWhole c =
     sym (first_end (byte_matches c.loop-sign.pattern.now) c.in-Some-next_place.place.now c.in-IsWhole.ensures)
-    ∙ sym c.in-Some-next_place.ensures.ends ∙ c.loop-sign.invariant
+    ∙ sym c.in-Some-next_place.ensures.ends ∙ sym c.past_spread.ensures.ends ∙ c.loop-sign.invariant
 
 pub returns-in-None : goal.returns-in-None
 returns-in-None c =
     sym (no_end c.loop-sign.pattern.now c.in-Some-next_place.place.now c.in-None.ensures.cases c.in-Differs.ensures)
-    ∙ sym c.in-Some-next_place.ensures.ends ∙ c.loop-sign.invariant
+    ∙ sym c.in-Some-next_place.ensures.ends ∙ sym c.past_spread.ensures.ends ∙ c.loop-sign.invariant
 
 pub loop-sign-smaller : goal.loop-sign-smaller
-loop-sign-smaller c = omega (arith, c.in-Some-split_first.ensures.cases.1, c.in-Some-next_place.ensures.no_longer)
+loop-sign-smaller c = omega (arith, c.in-Some-split_first.ensures.cases.1, c.in-Some-next_place.ensures.no_longer, c.past_spread.ensures.no_longer)
 
 pub loop-sign-preserved : goal.loop-sign-preserved
 loop-sign-preserved c =
     sym (next_end c.loop-sign.pattern.now c.in-Some-next_place.place.now _ _ c.in-Some-split_first.ensures.cases.0 c.in-Differs.ensures)
-    ∙ sym c.in-Some-next_place.ensures.ends ∙ c.loop-sign.invariant
+    ∙ sym c.in-Some-next_place.ensures.ends ∙ sym c.past_spread.ensures.ends ∙ c.loop-sign.invariant
