@@ -21,6 +21,19 @@ Meets form value Differs = byte_matches form value ≡ false
 Meets form value IsWhole = byte_matches form value ≡ true
 Meets form value (Wildcard behind left) = IsWildcard form value behind.now left.now
 
+-- The same where the piece may begin at any place: some end of the text matches the pattern exactly
+-- where some end of what is left matches what stands behind the %.
+pub record IsLater (form value behind left : List ℕ) : Type 0 where
+  pub ends : some_end (byte_matches form) value ≡ some_end (byte_matches behind) left
+  pub shorter : length behind < length form
+  pub no_longer : length left ≤ length value
+
+-- what it says that a pattern meets a text so at some place
+abbrev pub MeetsLater : List ℕ → List ℕ → Piece → Type 0
+MeetsLater form value Differs = some_end (byte_matches form) value ≡ false
+MeetsLater form value IsWhole = some_end (byte_matches form) value ≡ true
+MeetsLater form value (Wildcard behind left) = IsLater form value behind.now left.now
+
 -- an end of the text matches the form exactly where one of what is left does, and none does where
 -- nothing is left
 pub record IsPlace (form value left : List ℕ) : Type 0 where

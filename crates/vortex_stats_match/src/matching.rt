@@ -11,7 +11,7 @@ ghost use Rattle.std.specs.Prelude.{◌≡◌, ◌≤◌, length, false, option_
 ghost use Rattle.memchr.specs.Find.{IsFirstByte, is_byte};
 ghost use Rattle.vortex_model_table.specs.Like.{some_end};
 ghost use Rattle.vortex_stats_match.specs.Bytes.{goes_on, begins_inside, past_char, left_by, byte_matches};
-ghost use Rattle.vortex_stats_match.specs.Pieces.{IsPlace, Meets, GoesOn, StandsNowhere, TakesOne, is_sign};
+ghost use Rattle.vortex_stats_match.specs.Pieces.{IsPlace, Meets, MeetsLater, GoesOn, StandsNowhere, TakesOne, is_sign};
 
 use memchr::{memchr, memchr2, memmem};
 
@@ -237,6 +237,24 @@ fn past_spread<'t>(pattern: &[u8], text: &'t [u8]) -> &'t [u8]
     &text[spread_place(first, third, text)..]
 }
 
+// How the pattern meets the text at the first place where it does.
+fn meet_later<'a, 'b>(pattern: &'a [u8], text: &'b [u8]) -> Piece<'a, 'b>
+    ensures { MeetsLater pattern.now text.now result }
+{
+    let mut ends = past_spread(pattern, text);
+    while let Some(place) = next_place(pattern, ends) {
+        match meet(pattern, place) {
+            Piece::IsWhole => return Piece::IsWhole,
+            Piece::Wildcard { pattern, text } => return Piece::Wildcard { pattern, text },
+            Piece::Differs => match place.split_first() {
+                None => return Piece::Differs,
+                Some((_, rest)) => ends = rest,
+            },
+        }
+    }
+    Piece::Differs
+}
+
 // Whether some end of the text, the whole and the empty one too, matches the pattern.
 fn has_end_like(pattern: &[u8], text: &[u8]) -> bool
     ensures { result ≡ some_end (byte_matches pattern.now) text.now }
@@ -254,24 +272,18 @@ fn has_end_like(pattern: &[u8], text: &[u8]) -> bool
             };
             pattern = behind;
             text = left;
-            continue;
-        }
-        let Some(place) = next_place(pattern, past_spread(pattern, text)) else {
-            return false;
-        };
-        match meet(pattern, place) {
-            Piece::IsWhole => return true,
-            Piece::Wildcard {
-                pattern: behind,
-                text: left,
-            } => {
-                pattern = behind;
-                text = left;
+        } else {
+            match meet_later(pattern, text) {
+                Piece::Differs => return false,
+                Piece::IsWhole => return true,
+                Piece::Wildcard {
+                    pattern: behind,
+                    text: left,
+                } => {
+                    pattern = behind;
+                    text = left;
+                }
             }
-            Piece::Differs => match place.split_first() {
-                None => return false,
-                Some((_, rest)) => text = rest,
-            },
         }
     }
 }
