@@ -45,11 +45,11 @@ empty_form [] = refl
 empty_form (b ∷ bs) = sym (ne_eqb (length (b ∷ bs)) 0 (omega arith))
 
 -- so many bytes go on with the character that began before
-abbrev inners : List ℕ → ℕ
+abbrev pub inners : List ℕ → ℕ
 inners [] = 0
 inners (b ∷ bs) = cond (goes_on b) (suc (inners bs)) 0
 
-past_is_drop : (bs : List ℕ) → past_char bs ≡ drop (inners bs) bs
+pub past_is_drop : (bs : List ℕ) → past_char bs ≡ drop (inners bs) bs
 past_is_drop [] = refl
 past_is_drop (b ∷ bs) = by (goes_on b) (past_is_drop bs)
   where
@@ -57,7 +57,7 @@ past_is_drop (b ∷ bs) = by (goes_on b) (past_is_drop bs)
     by true h = h
     by false h = refl
 
-inners_within : (e : ℕ) (ys : List ℕ) (b : ℕ) (bs : List ℕ) → drop e ys ≡ b ∷ bs → goes_on b ≡ false → inners ys ≤ e
+pub inners_within : (e : ℕ) (ys : List ℕ) (b : ℕ) (bs : List ℕ) → drop e ys ≡ b ∷ bs → goes_on b ≡ false → inners ys ≤ e
 inners_within zero ys b bs e out = none_fits (ap inners e ∙ ap (λ t. cond t (suc (inners bs)) 0) out)
   where
     none_fits : {n : ℕ} → n ≡ 0 → n ≤ 0

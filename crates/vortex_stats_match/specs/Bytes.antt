@@ -7,6 +7,10 @@ use Rattle.vortex_model_table.specs.Like.{some_end}
 abbrev pub goes_on : ℕ → Bool
 goes_on b = not (nat_lt b 128) && nat_lt b 192
 
+abbrev pub begins_inside : List ℕ → Bool
+begins_inside [] = false
+begins_inside (b ∷ bs) = goes_on b
+
 -- what stands from the next beginning of a character on
 abbrev pub past_char : List ℕ → List ℕ
 past_char [] = []

@@ -1,5 +1,5 @@
 -- How the piece of a LIKE pattern before its first % meets a text.
-use Rattle.std.specs.Prelude.{◌≡◌, ◌<◌, ◌≤◌, ℕ, List, length, true, false}
+use Rattle.std.specs.Prelude.{◌≡◌, ◌<◌, ◌≤◌, ℕ, List, ◌∷◌, length, ◌+◌, ◌==◌, ◌&&◌, ◌||◌, not, nat_lt, slice_index, Bool, true, false}
 use Rattle.std.specs.Prelude.{Option, Some, None}
 use denote.Ref.{Bor}
 use Rattle.vortex_model_table.specs.Like.{some_end}
@@ -21,6 +21,19 @@ Meets form value Differs = byte_matches form value ≡ false
 Meets form value IsWhole = byte_matches form value ≡ true
 Meets form value (Wildcard behind left) = IsWildcard form value behind.now left.now
 
+-- The same where the piece may begin at any place: some end of the text matches the pattern exactly
+-- where some end of what is left matches what stands behind the %.
+pub record IsLater (form value behind left : List ℕ) : Type 0 where
+  pub ends : some_end (byte_matches form) value ≡ some_end (byte_matches behind) left
+  pub shorter : length behind < length form
+  pub no_longer : length left ≤ length value
+
+-- what it says that a pattern meets a text so at some place
+abbrev pub MeetsLater : List ℕ → List ℕ → Piece → Type 0
+MeetsLater form value Differs = some_end (byte_matches form) value ≡ false
+MeetsLater form value IsWhole = some_end (byte_matches form) value ≡ true
+MeetsLater form value (Wildcard behind left) = IsLater form value behind.now left.now
+
 -- an end of the text matches the form exactly where one of what is left does, and none does where
 -- nothing is left
 pub record IsPlace (form value left : List ℕ) : Type 0 where
@@ -30,3 +43,26 @@ pub record IsPlace (form value left : List ℕ) : Type 0 where
 abbrev pub GoesOn : List ℕ → List ℕ → Option (Bor (List ℕ)) → Type 0
 GoesOn form value None = some_end (byte_matches form) value ≡ false
 GoesOn form value (Some left) = IsPlace form value left.now
+
+-- The ends that match what stands behind a _ are those of what is left, and some end of the text
+-- matches the _ and what stands behind it exactly where one of them does.
+pub record IsTaken (behind value left : List ℕ) : Type 0 where
+  pub ends : some_end (byte_matches (95 ∷ behind)) value ≡ some_end (byte_matches behind) left
+  pub no_longer : length left ≤ length value
+
+abbrev pub TakesOne : List ℕ → List ℕ → Option (Bor (List ℕ)) → Type 0
+TakesOne behind value None = some_end (byte_matches (95 ∷ behind)) value ≡ false
+TakesOne behind value (Some left) = IsTaken behind value left.now
+
+-- the byte of a form is % (37) or _ (95)
+abbrev pub is_sign : ℕ → Bool
+is_sign b = (b == 37) || (b == 95)
+
+-- The byte a stands at place k, and two places behind it stands c or a byte that may go on with the
+-- character between.
+abbrev pub may_stand : ℕ → ℕ → List ℕ → ℕ → Bool
+may_stand a c value k = (slice_index value k == a) && ((slice_index value (k + 2) == c) || not (nat_lt (slice_index value (k + 2)) 128))
+
+-- they stand so at no place before n
+abbrev pub StandsNowhere : ℕ → ℕ → List ℕ → ℕ → Type 0
+StandsNowhere a c value n = (k : ℕ) → k < n → k + 2 < length value → may_stand a c value k ≡ false

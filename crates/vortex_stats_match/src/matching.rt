@@ -7,13 +7,13 @@
 //! fits is as good as each later one, and no earlier piece is tried again. So the time is at worst
 //! the length of the text times that of the pattern. The byte that a piece begins with is searched
 //! for, unless it is a sign.
-ghost use Rattle.std.specs.Prelude.{◌≡◌, option_copied};
+ghost use Rattle.std.specs.Prelude.{◌≡◌, ◌≤◌, length, false, option_copied};
 ghost use Rattle.memchr.specs.Find.{IsFirstByte, is_byte};
 ghost use Rattle.vortex_model_table.specs.Like.{some_end};
-ghost use Rattle.vortex_stats_match.specs.Bytes.{goes_on, past_char, left_by, byte_matches};
-ghost use Rattle.vortex_stats_match.specs.Pieces.{Meets, GoesOn};
+ghost use Rattle.vortex_stats_match.specs.Bytes.{goes_on, begins_inside, past_char, left_by, byte_matches};
+ghost use Rattle.vortex_stats_match.specs.Pieces.{IsPlace, Meets, MeetsLater, GoesOn, StandsNowhere, TakesOne, is_sign};
 
-use memchr::memchr;
+use memchr::{memchr, memchr2, memmem};
 
 /// How a pattern meets a text, up to the first `%` of the pattern.
 enum Piece<'a, 'b> {
@@ -25,11 +25,28 @@ enum Piece<'a, 'b> {
     Wildcard { pattern: &'a [u8], text: &'b [u8] },
 }
 
+// Whether the byte of a pattern stands for others.
+fn is_sign(byte: u8) -> bool
+    ensures { result ≡ is_sign byte }
+{
+    byte == b'%' || byte == b'_'
+}
+
 // Whether the byte goes on with a character, and begins none.
 fn goes_on(byte: u8) -> bool
     ensures { result ≡ goes_on byte }
 {
     !(byte < 128) && byte < 192
+}
+
+// Whether the bytes begin within a character.
+fn begins_inside(bytes: &[u8]) -> bool
+    ensures { result ≡ begins_inside bytes.now }
+{
+    match bytes.split_first() {
+        None => false,
+        Some((byte, _)) => goes_on(*byte),
+    }
 }
 
 // The text from the next beginning of a character on.
@@ -118,11 +135,33 @@ fn find(sign: u8, text: &[u8]) -> Option<usize>
     }
 }
 
-// The text from the first place on where the first sign of the pattern stands: no end before it
-// matches.
+// The text from a place on before which the bytes that the pattern begins with, up to its first sign,
+// stand nowhere. A pattern without a sign can only be the end of the text.
+fn far_place<'t>(pattern: &[u8], text: &'t [u8]) -> Option<&'t [u8]>
+    ensures { GoesOn pattern.now text.now result }
+{
+    match memchr2(b'%', b'_', pattern) {
+        None => {
+            if text.len() < pattern.len() {
+                return None;
+            }
+            Some(&text[text.len() - pattern.len()..])
+        }
+        Some(end) => match memmem::find(text, &pattern[..end]) {
+            None => None,
+            Some(place) => Some(&text[place..]),
+        },
+    }
+}
+
+// The text from a place on before which no end of it matches.
 fn next_place<'t>(pattern: &[u8], text: &'t [u8]) -> Option<&'t [u8]>
     ensures { GoesOn pattern.now text.now result }
 {
+    // What a search of linear time makes ready takes longer than to look at so few places.
+    if text.len() >= 128 {
+        return far_place(pattern, text);
+    }
     match pattern.split_first() {
         None => Some(text),
         Some((sign, _)) => {
@@ -140,6 +179,82 @@ fn next_place<'t>(pattern: &[u8], text: &'t [u8]) -> Option<&'t [u8]>
     }
 }
 
+// A `_` behind a `%` takes the first character, wherever else it could stand: what is left of the
+// text then. `None` where no end of the text matches the `_` and what stands behind it.
+fn past_one<'t>(behind: &[u8], text: &'t [u8]) -> Option<&'t [u8]>
+    ensures { TakesOne behind.now text.now result }
+{
+    if begins_inside(behind) {
+        return None;
+    }
+    left_by(b'_', past_char(text))
+}
+
+// Whether the first byte may stand in the text with one character and then the third byte behind
+// it. A byte that is no ASCII there may go on with that character. No test ends the loop, so that
+// many bytes are tested at once.
+fn may_stand(first: u8, third: u8, text: &[u8]) -> bool
+    ensures { result ≡ false → StandsNowhere first third text.now (length text.now) }
+{
+    let mut found = false;
+    for i in 2..text.len() {
+        found = found | ((text[i - 2] == first) & ((text[i] == third) | !(text[i] < 128)));
+    }
+    found
+}
+
+// The place of the first 32 bytes where they may.
+fn spread_place(first: u8, third: u8, text: &[u8]) -> usize
+    ensures within { result ≤ length text.now }
+    ensures passed { StandsNowhere first third text.now result }
+{
+    let mut at = 0;
+    while text.len() - at >= 34 {
+        if may_stand(first, third, &text[at..at + 34]) {
+            return at;
+        }
+        at += 32;
+    }
+    if may_stand(first, third, &text[at..]) {
+        at
+    } else {
+        text.len()
+    }
+}
+
+// The text from a place on before which no end of it matches, where a byte, a `_` and another byte
+// begin the pattern: both are looked for at once, which few places pass.
+fn past_spread<'t>(pattern: &[u8], text: &'t [u8]) -> &'t [u8]
+    ensures { IsPlace pattern.now text.now result.now }
+{
+    if pattern.len() < 3 {
+        return text;
+    }
+    let (first, second, third) = (pattern[0], pattern[1], pattern[2]);
+    if second != b'_' || is_sign(first) || is_sign(third) {
+        return text;
+    }
+    &text[spread_place(first, third, text)..]
+}
+
+// How the pattern meets the text at the first place where it does.
+fn meet_later<'a, 'b>(pattern: &'a [u8], text: &'b [u8]) -> Piece<'a, 'b>
+    ensures { MeetsLater pattern.now text.now result }
+{
+    let mut ends = past_spread(pattern, text);
+    while let Some(place) = next_place(pattern, ends) {
+        match meet(pattern, place) {
+            Piece::IsWhole => return Piece::IsWhole,
+            Piece::Wildcard { pattern, text } => return Piece::Wildcard { pattern, text },
+            Piece::Differs => match place.split_first() {
+                None => return Piece::Differs,
+                Some((_, rest)) => ends = rest,
+            },
+        }
+    }
+    Piece::Differs
+}
+
 // Whether some end of the text, the whole and the empty one too, matches the pattern.
 fn has_end_like(pattern: &[u8], text: &[u8]) -> bool
     ensures { result ≡ some_end (byte_matches pattern.now) text.now }
@@ -148,25 +263,27 @@ fn has_end_like(pattern: &[u8], text: &[u8]) -> bool
     let mut text = text;
     loop {
         // A pattern that ends in % takes all that is left.
-        if pattern.is_empty() {
+        let Some((sign, behind)) = pattern.split_first() else {
             return true;
-        }
-        let Some(place) = next_place(pattern, text) else {
-            return false;
         };
-        match meet(pattern, place) {
-            Piece::IsWhole => return true,
-            Piece::Wildcard {
-                pattern: behind,
-                text: left,
-            } => {
-                pattern = behind;
-                text = left;
+        if *sign == b'_' {
+            let Some(left) = past_one(behind, text) else {
+                return false;
+            };
+            pattern = behind;
+            text = left;
+        } else {
+            match meet_later(pattern, text) {
+                Piece::Differs => return false,
+                Piece::IsWhole => return true,
+                Piece::Wildcard {
+                    pattern: behind,
+                    text: left,
+                } => {
+                    pattern = behind;
+                    text = left;
+                }
             }
-            Piece::Differs => match place.split_first() {
-                None => return false,
-                Some((_, rest)) => text = rest,
-            },
         }
     }
 }

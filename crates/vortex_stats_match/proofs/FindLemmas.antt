@@ -1,0 +1,399 @@
+-- Where a piece of a LIKE pattern can't begin, and what a _ behind a % takes.
+use Rattle.std.proofs.Common.{◌≡◌, refl, sym, ap, ◌∙◌, ℕ, suc, zero, ◌+◌, ◌-◌, ◌<◌, ◌≤◌, List, [], ◌∷◌, length, take, drop, get_or, Bool, true, false, ◌||◌, ◌==◌, cond, if◌then◌else◌, ◌&&◌, not, nat_lt, lt-ltb, Option, Some, None, eqb-true, arith, ◌⊎◌, ⊎_elim, inl, inr}
+use Rattle.std.proofs.lemmas.Bool.{cases_lt, eq-eqb, ne_eqb}
+use Rattle.std.proofs.lemmas.List.{drop-drop, length-drop, length-take, take_all, get_or-drop, get_or-take}
+use Rattle.std.proofs.Math.Seq.{drop-length}
+use Rattle.memchr.specs.Find.{OccursAt}
+use Rattle.std.specs.Prelude.{option_copied}
+use denote.Ref.{Bor}
+use Rattle.vortex_model_table.specs.Like.{some_end}
+use Rattle.vortex_stats_match.specs.Bytes.{goes_on, begins_inside, past_char, left_by, is_left, byte_matches}
+use Rattle.vortex_stats_match.specs.Pieces.{IsPlace, IsTaken, StandsNowhere, TakesOne, is_sign, may_stand}
+use Rattle.vortex_stats_match.proofs.SignLemmas.{first_end, end_of_drop, found_end, same_truth, plain_sign, width, inners, inners_within, past_is_drop, left_is_drop, no_earlier}
+
+not_true : (b : Bool) → (b ≡ true → ⊥) → b ≡ false
+not_true true h = absurd (h refl)
+not_true false h = refl
+
+-- ---- places where nothing begins
+
+pub none_before : (p : List ℕ → Bool) (value : List ℕ) (k : ℕ) → k ≤ length value → ((j : ℕ) → j < k → p (drop j value) ≡ true → ⊥) → some_end p value ≡ some_end p (drop k value)
+none_before p value zero le h = refl
+none_before p [] (suc k) le h = absurd (omega (arith, le))
+none_before p (x ∷ xs) (suc k) le h =
+    ap (λ t. t || some_end p xs) (not_true (p (x ∷ xs)) (h 0 (omega arith)))
+    ∙ none_before p xs k (omega (arith, le)) (λ j lt. h (suc j) (omega (arith, lt)))
+
+pub place : (form value left : List ℕ) (k : ℕ) → k ≤ length value → ((j : ℕ) → j < k → byte_matches form (drop j value) ≡ true → ⊥)
+    → left ≡ take (length value - k) (drop k value) → IsPlace form value left
+place form value left k le h e = record {
+  ends = none_before (byte_matches form) value k le h ∙ ap (some_end (byte_matches form)) (sym here);
+  no_longer = omega (arith, ap length here, length-drop k value);
+}
+  where
+    here : left ≡ drop k value
+    here = e ∙ take_all (length value - k) (drop k value) (omega (arith, length-drop k value))
+
+pub nowhere : (form value : List ℕ) → ((j : ℕ) → j ≤ length value → byte_matches form (drop j value) ≡ true → ⊥) → some_end (byte_matches form) value ≡ false
+nowhere form value h =
+    none_before (byte_matches form) value (length value) (omega arith) (λ j lt. h j (omega (arith, lt)))
+    ∙ ap (some_end (byte_matches form)) (drop-length value)
+    ∙ not_true (byte_matches form []) (λ e. h (length value) (omega arith) (ap (byte_matches form) (drop-length value) ∙ e))
+
+-- ---- bytes that stand for themselves
+
+-- neither sign stands before place n
+abbrev pub Unsigned : List ℕ → ℕ → Type 0
+Unsigned form n = (k : ℕ) → 0 ≤ k → k < n → ¬ ((get_or form k 0 == 37) || (get_or form k 0 == 95) ≡ true)
+
+neither : (x y : Bool) → ¬ (x || y ≡ true) → (x ≡ false) × (y ≡ false)
+neither true y h = absurd (h refl)
+neither false true h = absurd (h refl)
+neither false false h = (refl, refl)
+
+-- a byte that is no sign takes itself
+takes_itself : (a b : ℕ) (form bs : List ℕ) → (a == 37) ≡ false → (a == 95) ≡ false → byte_matches (a ∷ form) (b ∷ bs) ≡ true → (b ≡ a) × (byte_matches form bs ≡ true)
+takes_itself a b form bs plain one e =
+    by (a == b) refl
+    (sym (ap (λ s. is_left (byte_matches form) (if s then (if goes_on b then None else Some (past_char bs)) else (if a == b then Some bs else None))) one)
+    ∙ sym (plain_sign a form (b ∷ bs) plain) ∙ e)
+  where
+    by : (t : Bool) → (a == b) ≡ t → is_left (byte_matches form) (if t then Some bs else None) ≡ true → (b ≡ a) × (byte_matches form bs ≡ true)
+    by true q f = (sym (eqb-true a b q), f)
+    by false q f = absurd (cc f)
+
+takes_some : (a : ℕ) (form : List ℕ) → (a == 37) ≡ false → byte_matches (a ∷ form) [] ≡ true → ⊥
+takes_some a form plain e = cc (sym (plain_sign a form [] plain) ∙ e)
+
+pub stands : (form value : List ℕ) (n : ℕ) → n ≤ length form → Unsigned form n → byte_matches form value ≡ true
+    → (n ≤ length value) × ((j : ℕ) → j < n → get_or value j 0 ≡ get_or form j 0)
+stands form value zero le h e = (omega arith, λ j lt. absurd (omega (arith, lt)))
+stands [] value (suc n) le h e = absurd (omega (arith, le))
+stands (a ∷ form) [] (suc n) le h e = absurd (takes_some a form (neither (a == 37) (a == 95) (h 0 (omega arith) (omega arith))).0 e)
+stands (a ∷ form) (b ∷ bs) (suc n) le h e =
+    let signs = neither (a == 37) (a == 95) (h 0 (omega arith) (omega arith)) in
+    let on = takes_itself a b form bs signs.0 signs.1 e in
+    let more = stands form bs n (omega (arith, le)) (λ k low lt. h (suc k) (omega arith) (omega (arith, lt))) on.1 in
+    (omega (arith, more.0), each on.0 more.1)
+  where
+    each : b ≡ a → ((j : ℕ) → j < n → get_or bs j 0 ≡ get_or form j 0) → (j : ℕ) → j < suc n → get_or (b ∷ bs) j 0 ≡ get_or (a ∷ form) j 0
+    each first later zero lt = first
+    each first later (suc j) lt = later j (omega (arith, lt))
+
+pub as_long : (form value : List ℕ) → Unsigned form (length form) → byte_matches form value ≡ true → length value ≡ length form
+as_long [] [] h e = refl
+as_long [] (b ∷ bs) h e = absurd (cc e)
+as_long (a ∷ form) [] h e = absurd (takes_some a form (neither (a == 37) (a == 95) (h 0 (omega arith) (omega arith))).0 e)
+as_long (a ∷ form) (b ∷ bs) h e =
+    let signs = neither (a == 37) (a == 95) (h 0 (omega arith) (omega arith)) in
+    let on = takes_itself a b form bs signs.0 signs.1 e in
+    omega (arith, as_long form bs (λ k low lt. h (suc k) (omega arith) (omega (arith, lt))) on.1)
+
+-- Where the form matches, the bytes before its first sign stand.
+pub occurs : (form value : List ℕ) (n j : ℕ) → n ≤ length form → j ≤ length value → Unsigned form n → byte_matches form (drop j value) ≡ true → OccursAt value (take n form) j
+occurs form value n j le within h e =
+    let here = stands form (drop j value) n le h e in
+    record {
+      fits = omega (arith, here.0, length-drop j value, length-take n form, within, le);
+      reads = λ i lt.
+          let below : i < n = omega (arith, lt, length-take n form) in
+          sym (get_or-drop j value i 0) ∙ here.1 i below ∙ sym (get_or-take n form i 0 below);
+    }
+
+-- a form without a sign matches an end of its own length alone
+pub short_text : (form value : List ℕ) → Unsigned form (length form) → length value < length form → some_end (byte_matches form) value ≡ false
+short_text form value h lt = nowhere form value (λ j le e. omega (arith, as_long form (drop j value) h e, length-drop j value, lt))
+
+pub last_place : (form value : List ℕ) → Unsigned form (length form) → length form ≤ length value
+    → IsPlace form value (take (length value - (length value - length form)) (drop (length value - length form) value))
+last_place form value h le =
+    place form value _ (length value - length form) (omega arith)
+    (λ j lt e. omega (arith, as_long form (drop j value) h e, length-drop j value, lt, le)) refl
+
+-- ---- a _ behind a %
+
+-- what begins within a character matches nothing there
+abbrev IsClean : (List ℕ → Bool) → Type 0
+IsClean p = (b : ℕ) (bs : List ℕ) → goes_on b ≡ true → p (b ∷ bs) ≡ true → ⊥
+
+either : (x y : Bool) → x || y ≡ true → (x ≡ true) ⊎ (y ≡ true)
+either true y e = inl refl
+either false y e = inr e
+
+or_later : (x y : Bool) → y ≡ true → x || y ≡ true
+or_later true y e = refl
+or_later false y e = e
+
+by_truth : {A : Type 0} (b : Bool) → (b ≡ true → A) → (b ≡ false → A) → A
+by_truth true f g = f refl
+by_truth false f g = g refl
+
+past_on : (b : ℕ) (bs : List ℕ) → goes_on b ≡ true → past_char (b ∷ bs) ≡ past_char bs
+past_on b bs on = ap (λ t. cond t (past_char bs) (b ∷ bs)) on
+
+past_off : (b : ℕ) (bs : List ℕ) → goes_on b ≡ false → past_char (b ∷ bs) ≡ b ∷ bs
+past_off b bs off = ap (λ t. cond t (past_char bs) (b ∷ bs)) off
+
+ends_past : (p : List ℕ → Bool) → IsClean p → (bs : List ℕ) → some_end p bs ≡ true → some_end p (past_char bs) ≡ true
+ends_past p clean [] e = e
+ends_past p clean (b ∷ bs) e =
+    by_truth (goes_on b)
+    (λ on. ap (some_end p) (past_on b bs on)
+    ∙ ⊎_elim (λ here. absurd (clean b bs on here)) (λ later. ends_past p clean bs later) (either (p (b ∷ bs)) (some_end p bs) e))
+    (λ off. ap (some_end p) (past_off b bs off) ∙ e)
+
+one_left : (p : List ℕ → Bool) (b : ℕ) (bs : List ℕ) → goes_on b ≡ false → p (past_char bs) ≡ true → is_left p (left_by 95 (b ∷ bs)) ≡ true
+one_left p b bs off e = ap (λ t. is_left p (if t then None else Some (past_char bs))) off ∙ e
+
+-- an end behind a character has another character before it, or follows that one
+before : (p : List ℕ → Bool) → IsClean p → (bs : List ℕ) → some_end p (past_char bs) ≡ true
+    → (p (past_char bs) ≡ true) ⊎ (some_end (λ v. is_left p (left_by 95 v)) bs ≡ true)
+before p clean [] e = inl e
+before p clean (c ∷ cs) e =
+    by_truth (goes_on c)
+    (λ on. ⊎_elim (λ here. inl (ap p (past_on c cs on) ∙ here)) (λ later. inr (or_later (r (c ∷ cs)) (some_end r cs) later))
+    (before p clean cs (sym (ap (some_end p) (past_on c cs on)) ∙ e)))
+    (λ off. ⊎_elim (λ here. inl (ap p (past_off c cs off) ∙ here))
+    (λ later. inr (⊎_elim (λ here. first_end r (c ∷ cs) (one_left p c cs off here)) (λ more. or_later (r (c ∷ cs)) (some_end r cs) more)
+    (before p clean cs (ends_past p clean cs later))))
+    (either (p (c ∷ cs)) (some_end p cs) (sym (ap (some_end p) (past_off c cs off)) ∙ e)))
+  where
+    r : List ℕ → Bool
+    r v = is_left p (left_by 95 v)
+
+-- where the first end matches whenever another does, or none within a character does, a character before it is found
+abbrev IsBegun : (List ℕ → Bool) → Type 0
+IsBegun p = ((bs : List ℕ) → some_end p bs ≡ true → p bs ≡ true) ⊎ IsClean p
+
+found_before : (p : List ℕ → Bool) → IsBegun p → (value left : List ℕ) → left_by 95 (past_char value) ≡ Some left → some_end p left ≡ true
+    → some_end (λ v. is_left p (left_by 95 v)) (past_char value) ≡ true
+found_before p begun value left q e = at (past_char value) q
+  where
+    r : List ℕ → Bool
+    r v = is_left p (left_by 95 v)
+
+    some_same : {x y : List ℕ} → Some x ≡ Some y → x ≡ y
+    some_same f = cc f
+
+    at : (xs : List ℕ) → left_by 95 xs ≡ Some left → some_end r xs ≡ true
+    at [] f = absurd (cc f)
+    at (b ∷ bs) f =
+        by_truth (goes_on b)
+        (λ on. absurd (cc (sym (ap (λ t. if t then None else Some (past_char bs)) on) ∙ f)))
+        (λ off.
+            let is : past_char bs ≡ left = some_same (sym (ap (λ t. if t then None else Some (past_char bs)) off) ∙ f) in
+            let some : some_end p (past_char bs) ≡ true = ap (some_end p) is ∙ e in
+            ⊎_elim (λ first. first_end r (b ∷ bs) (one_left p b bs off (first (past_char bs) some)))
+            (λ clean. ⊎_elim (λ here. first_end r (b ∷ bs) (one_left p b bs off here)) (λ later. or_later (r (b ∷ bs)) (some_end r bs) later)
+            (before p clean bs some)) begun)
+
+same_ends : (p q : List ℕ → Bool) → ((v : List ℕ) → p v ≡ q v) → (bs : List ℕ) → some_end p bs ≡ some_end q bs
+same_ends p q h [] = h []
+same_ends p q h (b ∷ bs) = ap (λ t. t || some_end p bs) (h (b ∷ bs)) ∙ ap (λ t. q (b ∷ bs) || t) (same_ends p q h bs)
+
+reads_one : (behind bs : List ℕ) → byte_matches (95 ∷ behind) bs ≡ is_left (byte_matches behind) (left_by 95 bs)
+reads_one behind bs = plain_sign 95 behind bs refl
+
+is_some : (b : ℕ) (bs : List ℕ) → goes_on b ≡ false → left_by 95 (b ∷ bs) ≡ Some (past_char bs)
+is_some b bs off = ap (λ t. if t then None else Some (past_char bs)) off
+
+-- a character that is taken begins there
+begun_at : (b : ℕ) (bs l : List ℕ) → left_by 95 (b ∷ bs) ≡ Some l → goes_on b ≡ false
+begun_at b bs l f = by_truth (goes_on b) (λ on. absurd (cc (sym (ap (λ t. if t then None else Some (past_char bs)) on) ∙ f))) (λ off. off)
+
+past_begun : (bs : List ℕ) → begins_inside (past_char bs) ≡ false
+past_begun [] = refl
+past_begun (b ∷ bs) =
+    by_truth (goes_on b)
+    (λ on. ap begins_inside (past_on b bs on) ∙ past_begun bs)
+    (λ off. ap begins_inside (past_off b bs off) ∙ off)
+
+-- further on nothing else is taken that matches
+in_turn : (behind xs l left : List ℕ) (d : ℕ) → left_by 95 xs ≡ Some left → left_by 95 (drop d xs) ≡ Some l → byte_matches behind l ≡ true
+    → some_end (byte_matches behind) left ≡ true
+in_turn behind xs l left d q f g =
+    end_of_drop (byte_matches behind) (d + width 95 (drop d xs) - width 95 xs) left
+    (ap (some_end (byte_matches behind)) is ∙ first_end (byte_matches behind) l g)
+  where
+    is : drop (d + width 95 (drop d xs) - width 95 xs) left ≡ l
+    is = ap (drop (d + width 95 (drop d xs) - width 95 xs)) (left_is_drop 95 xs left q)
+        ∙ drop-drop (d + width 95 (drop d xs) - width 95 xs) (width 95 xs) xs
+        ∙ ap (λ n. drop n xs) (omega (arith, no_earlier 95 d xs l f))
+        ∙ sym (left_is_drop 95 (drop d xs) l f ∙ drop-drop (width 95 (drop d xs)) d xs)
+
+-- a _ takes the first character that it could
+found_after : (behind value : List ℕ) → some_end (byte_matches (95 ∷ behind)) value ≡ true
+    → (left : List ℕ) × (left_by 95 (past_char value) ≡ Some left) × (some_end (byte_matches behind) left ≡ true)
+found_after behind value e =
+    let k = found_end (byte_matches (95 ∷ behind)) value e in
+    at k.0 (left_by 95 (drop k.0 value)) refl (sym (reads_one behind (drop k.0 value)) ∙ k.1)
+  where
+    first : (k : ℕ) (l xs : List ℕ) → left_by 95 (drop k xs) ≡ Some l → byte_matches behind l ≡ true → begins_inside xs ≡ false
+        → (left : List ℕ) × (left_by 95 xs ≡ Some left) × (some_end (byte_matches behind) left ≡ true)
+    first zero l xs f g off = (l, f, first_end (byte_matches behind) l g)
+    first (suc k) l [] f g off = absurd (cc f)
+    first (suc k) l (c ∷ cs) f g off = (past_char cs, is_some c cs off, in_turn behind (c ∷ cs) l (past_char cs) (suc k) (is_some c cs off) f g)
+
+    within : (k : ℕ) (l ys : List ℕ) → drop k value ≡ ys → left_by 95 ys ≡ Some l → inners value ≤ k
+    within k l [] p f = absurd (cc f)
+    within k l (b ∷ bs) p f = inners_within k value b bs p (begun_at b bs l f)
+
+    at : (k : ℕ) (o : Option (List ℕ)) → left_by 95 (drop k value) ≡ o → is_left (byte_matches behind) o ≡ true
+        → (left : List ℕ) × (left_by 95 (past_char value) ≡ Some left) × (some_end (byte_matches behind) left ≡ true)
+    at k None f g = absurd (cc g)
+    at k (Some l) f g =
+        first (k - inners value) l (past_char value) (ap (left_by 95) moved ∙ f) g (past_begun value)
+      where
+        moved : drop (k - inners value) (past_char value) ≡ drop k value
+        moved = ap (drop (k - inners value)) (past_is_drop value) ∙ drop-drop (k - inners value) (inners value) value
+            ∙ ap (λ n. drop n value) (omega (arith, within k l (drop k value) refl f))
+
+begun : (behind : List ℕ) → begins_inside behind ≡ false → IsBegun (byte_matches behind)
+begun [] off = inr (λ b bs on e. cc e)
+begun (a ∷ rest) off =
+    by_truth (a == 37)
+    (λ any. inl (λ bs e.
+        let k = found_end (byte_matches (a ∷ rest)) bs e in
+        reads any bs ∙ end_of_drop (byte_matches rest) k.0 bs (sym (reads any (drop k.0 bs)) ∙ k.1)))
+    (λ plain. by_truth (a == 95)
+    (λ one. inr (λ b bs on e. cc (sym (misses b bs plain one on) ∙ e)))
+    (λ other. inr (λ b bs on e. cc (sym on ∙ ap goes_on (takes_itself a b rest bs plain other e).0 ∙ off))))
+  where
+    reads : (a == 37) ≡ true → (bs : List ℕ) → byte_matches (a ∷ rest) bs ≡ some_end (byte_matches rest) bs
+    reads any bs = ap (λ t. if t then some_end (byte_matches rest) bs else is_left (byte_matches rest) (left_by a bs)) any
+
+    misses : (b : ℕ) (bs : List ℕ) → (a == 37) ≡ false → (a == 95) ≡ true → goes_on b ≡ true → byte_matches (a ∷ rest) (b ∷ bs) ≡ false
+    misses b bs plain one on =
+        plain_sign a rest (b ∷ bs) plain
+        ∙ ap (λ s. is_left (byte_matches rest) (if s then (if goes_on b then None else Some (past_char bs)) else (if a == b then Some bs else None))) one
+        ∙ ap (λ t. is_left (byte_matches rest) (if t then None else Some (past_char bs))) on
+
+pub taken : (behind value left : List ℕ) → begins_inside behind ≡ false → Some left ≡ left_by 95 (past_char value) → IsTaken behind value left
+taken behind value left off q = record {
+  ends = same_truth _ _
+      (λ e. let r = found_after behind value e in ap (some_end (byte_matches behind)) (some_same (q ∙ r.1)) ∙ r.2)
+      (λ e. end_of_drop (byte_matches (95 ∷ behind)) (inners value) value
+      (ap (some_end (byte_matches (95 ∷ behind))) (sym (past_is_drop value))
+      ∙ same_ends (byte_matches (95 ∷ behind)) (λ v. is_left (byte_matches behind) (left_by 95 v)) (reads_one behind) (past_char value)
+      ∙ found_before (byte_matches behind) (begun behind off) value left (sym q) e));
+  no_longer = omega (arith, ap length (left_is_drop 95 (past_char value) left (sym q)), length-drop (width 95 (past_char value)) (past_char value), ap length (past_is_drop value), length-drop (inners value) value);
+}
+  where
+    some_same : {x y : List ℕ} → Some x ≡ Some y → x ≡ y
+    some_same f = cc f
+
+pub none_taken : (behind value : List ℕ) → None ≡ left_by 95 (past_char value) → some_end (byte_matches (95 ∷ behind)) value ≡ false
+none_taken behind value q = not_true (some_end (byte_matches (95 ∷ behind)) value) (λ e. let r = found_after behind value e in absurd (cc (q ∙ r.1)))
+
+-- no character begins with what stands within one
+pub inside : (behind value : List ℕ) → begins_inside behind ≡ true → some_end (byte_matches (95 ∷ behind)) value ≡ false
+inside [] value on = absurd (cc on)
+inside (a ∷ rest) value on = nowhere (95 ∷ a ∷ rest) value (λ j le e. at (drop j value) (sym (reads_one (a ∷ rest) (drop j value)) ∙ e))
+  where
+    high : (n : ℕ) → n < 128 → (a == n) ≡ false
+    high n lt = ne_eqb a n (λ is. cc (sym on ∙ ap goes_on is ∙ low n lt))
+      where
+        low : (m : ℕ) → m < 128 → goes_on m ≡ false
+        low m less = ap (λ t. not t && nat_lt m 192) (lt-ltb m 128 less)
+
+    behind_char : (xs : List ℕ) → begins_inside xs ≡ false → byte_matches (a ∷ rest) xs ≡ true → ⊥
+    behind_char [] off e = takes_some a rest (high 37 (omega arith)) e
+    behind_char (c ∷ cs) off e = cc (sym off ∙ ap goes_on (takes_itself a c rest cs (high 37 (omega arith)) (high 95 (omega arith)) e).0 ∙ on)
+
+    at : (xs : List ℕ) → is_left (byte_matches (a ∷ rest)) (left_by 95 xs) ≡ true → ⊥
+    at [] e = cc e
+    at (b ∷ bs) e =
+        by_truth (goes_on b)
+        (λ in_it. cc (sym (ap (λ t. is_left (byte_matches (a ∷ rest)) (if t then None else Some (past_char bs))) in_it) ∙ e))
+        (λ off. behind_char (past_char bs) (past_begun bs) (sym (ap (λ t. is_left (byte_matches (a ∷ rest)) (if t then None else Some (past_char bs))) off) ∙ e))
+
+pub takes_one : (behind value : List ℕ) (o : Option (Bor (List ℕ))) → begins_inside behind ≡ false → option_copied o ≡ left_by 95 (past_char value) → TakesOne behind value o
+takes_one behind value None off q = none_taken behind value q
+takes_one behind value (Some left) off q = taken behind value left.now off q
+
+-- ---- a byte, a _ and another byte
+
+-- where the form matches, they may stand
+spread_first : (a c : ℕ) (rest value : List ℕ) → is_sign a ≡ false → is_sign c ≡ false → byte_matches (a ∷ 95 ∷ c ∷ rest) value ≡ true
+    → (2 < length value) × (may_stand a c value 0 ≡ true)
+spread_first a c rest value p q e = at value e
+  where
+    a_plain : ((a == 37) ≡ false) × ((a == 95) ≡ false)
+    a_plain = neither (a == 37) (a == 95) (λ t. cc (sym p ∙ t))
+
+    c_plain : ((c == 37) ≡ false) × ((c == 95) ≡ false)
+    c_plain = neither (c == 37) (c == 95) (λ t. cc (sym q ∙ t))
+
+    both : (x y z : ℕ) → x ≡ a → (z ≡ c) ⊎ (not (nat_lt z 128) ≡ true) → (x == a) && ((z == c) || not (nat_lt z 128)) ≡ true
+    both x y z is (inl f) = ap (λ t. t && ((z == c) || not (nat_lt z 128))) (eq-eqb x a is) ∙ ap (λ t. t || not (nat_lt z 128)) (eq-eqb z c f)
+    both x y z is (inr f) = ap (λ t. t && ((z == c) || not (nat_lt z 128))) (eq-eqb x a is) ∙ or_later (z == c) (not (nat_lt z 128)) f
+
+    high : (z : ℕ) → goes_on z ≡ true → not (nat_lt z 128) ≡ true
+    high z on = fst (not (nat_lt z 128)) (nat_lt z 192) on
+      where
+        fst : (x y : Bool) → x && y ≡ true → x ≡ true
+        fst true y f = refl
+        fst false y f = f
+
+    third : (z : ℕ) (zs : List ℕ) → byte_matches (c ∷ rest) (past_char (z ∷ zs)) ≡ true → (z ≡ c) ⊎ (not (nat_lt z 128) ≡ true)
+    third z zs f =
+        by_truth (goes_on z)
+        (λ on. inr (high z on))
+        (λ off. inl (takes_itself c z rest zs c_plain.0 c_plain.1 (sym (ap (byte_matches (c ∷ rest)) (past_off z zs off)) ∙ f)).0)
+
+    behind : (y : ℕ) (ys : List ℕ) → byte_matches (95 ∷ c ∷ rest) (y ∷ ys) ≡ true → byte_matches (c ∷ rest) (past_char ys) ≡ true
+    behind y ys f =
+        by_truth (goes_on y)
+        (λ on. absurd (cc (sym (ap (λ t. is_left (byte_matches (c ∷ rest)) (if t then None else Some (past_char ys))) on) ∙ sym (reads_one (c ∷ rest) (y ∷ ys)) ∙ f)))
+        (λ off. sym (ap (λ t. is_left (byte_matches (c ∷ rest)) (if t then None else Some (past_char ys))) off) ∙ sym (reads_one (c ∷ rest) (y ∷ ys)) ∙ f)
+
+    at : (xs : List ℕ) → byte_matches (a ∷ 95 ∷ c ∷ rest) xs ≡ true → (2 < length xs) × (may_stand a c xs 0 ≡ true)
+    at [] f = absurd (takes_some a (95 ∷ c ∷ rest) a_plain.0 f)
+    at (x ∷ []) f = absurd (cc (takes_itself a x (95 ∷ c ∷ rest) [] a_plain.0 a_plain.1 f).1)
+    at (x ∷ y ∷ []) f = absurd (takes_some c rest c_plain.0 (behind y [] (takes_itself a x (95 ∷ c ∷ rest) (y ∷ []) a_plain.0 a_plain.1 f).1))
+    at (x ∷ y ∷ z ∷ zs) f =
+        let on = takes_itself a x (95 ∷ c ∷ rest) (y ∷ z ∷ zs) a_plain.0 a_plain.1 f in
+        (omega arith, both x y z on.0 (third z zs (behind y (z ∷ zs) on.1)))
+
+pub spread : (form value left : List ℕ) (a c k : ℕ) (rest : List ℕ) → form ≡ a ∷ 95 ∷ c ∷ rest → is_sign a ≡ false → is_sign c ≡ false → k ≤ length value
+    → StandsNowhere a c value k → left ≡ take (length value - k) (drop k value) → IsPlace form value left
+spread form value left a c k rest p plain_a plain_c within h e =
+    place form value left k within (λ j lt f. at j lt (spread_first a c rest (drop j value) plain_a plain_c (ap (λ s. byte_matches s (drop j value)) (sym p) ∙ f))) e
+  where
+    at : (j : ℕ) → j < k → (2 < length (drop j value)) × (may_stand a c (drop j value) 0 ≡ true) → ⊥
+    at j lt here =
+        cc (sym (h j lt (omega (arith, here.0, length-drop j value))) 
+        ∙ sym (ap (λ n. may n (get_or (drop j value) 2 0)) (first j) ∙ ap (λ n. may (get_or value j 0) n) (get_or-drop j value 2 0)) ∙ here.1)
+      where
+        may : ℕ → ℕ → Bool
+        may x z = (x == a) && ((z == c) || not (nat_lt z 128))
+
+        first : (i : ℕ) → get_or (drop i value) 0 0 ≡ get_or value i 0
+        first i = get_or-drop i value 0 0 ∙ ap (λ n. get_or value n 0) (omega arith)
+
+-- where they stand nowhere before a block of the text and nowhere in it, they do so nowhere before its end
+pub stands_on : (a c : ℕ) (value : List ℕ) (at m n : ℕ) → StandsNowhere a c value at → StandsNowhere a c (take m (drop at value)) (length (take m (drop at value)))
+    → at + m ≤ length value → ((k : ℕ) → k < n → k + 2 < length value → k + 2 < at + m) → StandsNowhere a c value n
+stands_on a c value at m n earlier block le within k lt room = ⊎_elim (λ low. earlier k low room) (λ high. here high) (cases_lt k at)
+  where
+    may : ℕ → ℕ → Bool
+    may x z = (x == a) && ((z == c) || not (nat_lt z 128))
+
+    in_block : (i j : ℕ) → i < m → at + i ≡ j → get_or value j 0 ≡ get_or (take m (drop at value)) i 0
+    in_block i j less is = sym (get_or-take m (drop at value) i 0 less ∙ get_or-drop at value i 0 ∙ ap (λ n. get_or value n 0) is)
+
+    size : length (take m (drop at value)) ≡ m
+    size = omega (arith, length-take m (drop at value), length-drop at value, le)
+
+    here : at ≤ k → may_stand a c value k ≡ false
+    here high =
+        let end = within k lt room in
+        ap (λ n. may n (get_or value (k + 2) 0)) (in_block (k - at) k (omega (arith, end, high)) (omega (arith, high)))
+        ∙ ap (λ n. may (get_or (take m (drop at value)) (k - at) 0) n) (in_block (k - at + 2) (k + 2) (omega (arith, end, high)) (omega (arith, high)))
+        ∙ block (k - at) (omega (arith, end, high, size)) (omega (arith, end, high, size))
+
+pub three : (form : List ℕ) → 3 ≤ length form → get_or form 1 0 ≡ 95 → form ≡ get_or form 0 0 ∷ 95 ∷ get_or form 2 0 ∷ drop 3 form
+three [] le is = absurd (omega (arith, le))
+three (a ∷ []) le is = absurd (omega (arith, le))
+three (a ∷ b ∷ []) le is = absurd (omega (arith, le))
+three (a ∷ b ∷ c ∷ rest) le is = ap (λ n. a ∷ n ∷ c ∷ rest) is

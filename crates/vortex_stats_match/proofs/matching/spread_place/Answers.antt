@@ -1,0 +1,16 @@
+use Rattle.std.proofs.Common.{◌∙◌, sym, length, ◌+◌, ◌-◌, arith}
+use Rattle.vortex_stats_match.proofs.FindLemmas.{stands_on}
+use Rattle.vortex_stats_match.proofs.matching.spread_place.Goals as goal
+
+pub loop-at-preserved : goal.loop-at-preserved
+loop-at-preserved c = record {
+  within = omega (arith, c.loop-at-test.true);
+  passed =
+      stands_on c.args.first c.args.third c.args.text.now c.loop-at.at (c.loop-at.at + 34 - c.loop-at.at) _ c.loop-at.invariant.passed (c.may_stand.ensures c.if-may_stand.false)
+      (omega (arith, c.loop-at-test.true)) (λ k lt room. omega (arith, lt));
+}
+
+pub returns-else-may_stand-2-clause-passed : goal.returns-else-may_stand-2-clause-passed
+returns-else-may_stand-2-clause-passed c =
+    stands_on c.args.first c.args.third c.args.text.now c.loop-at.at (length c.args.text.now - c.loop-at.at) _ c.loop-at.invariant.passed (c.may_stand-2.ensures c.if-may_stand-2.false)
+    (omega (arith, c.loop-at.invariant.within)) (λ k lt room. omega (arith, room, c.loop-at.invariant.within))
