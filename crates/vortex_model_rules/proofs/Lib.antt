@@ -2,10 +2,12 @@ mod Believed
 mod Examples
 mod FaultsOfAnswers
 mod NoRules
+pub mod NullComparison
 pub mod PushedIn
 pub mod PushNot
 mod ReadsNone
 mod ScanExamples
 mod Scans
+mod TwoRules
 pub mod Usable
 mod WithRules

@@ -1,13 +1,13 @@
 -- The rule that pushes NOTs inward: its law, the proofs that are made with it, and its scans.
-use Rattle.std.proofs.Common.{◌≡◌, refl, sym, ◌∙◌, ap, subst, List, [], ◌∷◌, ◌++◌, length, map, flat_map, Bool, true, false, ◌&&◌, if◌then◌else◌, Option, Some, None, IfSome, Contains}
+use Rattle.std.proofs.Common.{◌≡◌, refl, sym, ◌∙◌, ap, subst, List, [], ◌∷◌, ◌++◌, length, map, flat_map, Bool, true, false, if◌then◌else◌, Option, Some, None, IfSome, Contains}
 use Rattle.std.specs.Prelude.{◌↔◌, zip}
 use Rattle.std.specs.List.{AllByRecursion, list_any}
 use Rattle.vortex_model.specs.LogicalType.{LogicalType}
 use Rattle.vortex_model.specs.Content.{Content, boolean}
 use Rattle.vortex_model.specs.Path.{Names}
-use Rattle.vortex_model.specs.Refusal.{Refusal, or_else, not_boolean as no_truth}
-use Rattle.vortex_model_table.specs.Expression.{Expression, literal, column, compare, both, either, negation, is_null, is_not_null, is_nan, between, like, row_count, statistic, HasFormedLiterals}
-use Rattle.vortex_model_table.specs.Truth.{evaluate, value_at, of_row, is_true, selects, end_of, HasTruth, Satisfies}
+use Rattle.vortex_model.specs.Refusal.{or_else, not_boolean as no_truth}
+use Rattle.vortex_model_table.specs.Expression.{Expression, literal, column, compare, both, either, negation, is_null, is_not_null, is_nan, between, like, row_count, statistic}
+use Rattle.vortex_model_table.specs.Truth.{of_row, end_of, Satisfies}
 use Rattle.vortex_model_table.specs.Rewrite.{falsifiers, satisfiers, joined_proofs, falsifier, satisfier, either_there, both_there}
 use Rattle.vortex_model_table.specs.Sound.{IsSoundFalsifier, IsSoundSatisfier}
 use Rattle.vortex_model_table.specs.Command.{expression_fault, predicate_fault, unless as refused_unless}
@@ -21,7 +21,7 @@ use Rattle.vortex_model_laws.specs.Exact.{ExactlyTheHopelessAreSkipped, box_of_c
 use Rattle.vortex_model_laws.proofs.Held.{first_none, second_none}
 use Rattle.vortex_model_laws.proofs.Honesty.{sound_falsifier, sound_satisfier}
 use Rattle.vortex_model_rules.specs.Faults.{ProofFault, is_truth, proof_fault}
-use Rattle.vortex_model_rules.specs.Rules.{Answer, no_proof, proof, fault, is_fault, proofs_in, answer_of, judged, asked, Rule, of_not, joined_answers, either_answer, both_answers, falsify_answers, satisfy_answers, fals, sat}
+use Rattle.vortex_model_rules.specs.Rules.{Answer, no_proof, proof, fault, is_fault, proofs_in, answer_of, judged, Rule, joined_answers, either_answer, both_answers, fals, sat}
 use Rattle.vortex_model_rules.specs.PushNot.{pushed_in, negated, push_not}
 use Rattle.vortex_model_rules.specs.Laws.{KeepsItsLaw}
 use Rattle.vortex_model_rules.specs.Scanned.{outcomes_by, taken, scanned_by, by_answers, scanned_with}
@@ -33,7 +33,7 @@ use Rattle.vortex_model_rules.proofs.Usable.{passed, IsUsable, usable_faultless,
 -- ---- the law of the rule
 
 module _ (P Q : Content → Type 0) (so : (row : Content) → P row → Q row) where
-  each_so : (rows : List Content) → AllByRecursion P rows → AllByRecursion Q rows
+  pub each_so : (rows : List Content) → AllByRecursion P rows → AllByRecursion Q rows
   each_so [] h = tt
   each_so (row ∷ rows) h = (so row h.0, each_so rows h.1)
 
@@ -53,7 +53,7 @@ of_judged k (Some q) p e = by_fault (proof_fault k q) e
     by_fault None e = let same : q ≡ p = cc (e) in ap (λ x. Some x) same
     by_fault (Some r) e = absurd (cc (e))
 
-of_asked : (b : Bool) (k : LogicalType) (o : Option Expression) (p : Expression) → (if b then judged k (answer_of o) else no_proof) ≡ proof p → o ≡ Some p
+pub of_asked : (b : Bool) (k : LogicalType) (o : Option Expression) (p : Expression) → (if b then judged k (answer_of o) else no_proof) ≡ proof p → o ≡ Some p
 of_asked true k o p e = of_judged k o p e
 of_asked false k o p e = absurd (cc (e))
 
@@ -123,14 +123,34 @@ module _ (k : LogicalType) where
   sat_pushed (either x y) a = refl
   sat_pushed e a = joined_behind (satisfiers k e)
 
+-- ---- of predicates that a scan accepts
+
+accepted_so : (k : LogicalType) (e : Expression) → predicate_fault k e ≡ None → IsAccepted k e
+accepted_so k e n = (
+  first_none (expression_fault k e) (refused_unless (is_truth k e) no_truth) n,
+  passed (is_truth k e) no_truth (second_none (expression_fault k e) (refused_unless (is_truth k e) no_truth) n),
+)
+
+no_fault : (k : LogicalType) (o : Option Expression) → IfSome o (IsUsable k) → IfSome o (λ p. proof_fault k p ≡ None)
+no_fault k None h = tt
+no_fault k (Some p) h = usable_faultless k p h
+
+pub faultless : (k : LogicalType) (e : Expression) → predicate_fault k e ≡ None →
+    IfSome (falsifier k e) (λ p. proof_fault k p ≡ None) × IfSome (satisfier k e) (λ p. proof_fault k p ≡ None)
+faultless k e n = (
+  no_fault k (falsifier k e) (falsifier_usable k e (accepted_so k e n).0),
+  no_fault k (satisfier k e) (satisfier_usable k e (accepted_so k e n).0),
+)
+
+pub as_pushed_in : (k : LogicalType) (e : Expression) → predicate_fault k e ≡ None →
+    (fals k alone e ≡ answer_of (falsifier k (pushed_in e))) × (sat k alone e ≡ answer_of (satisfier k (pushed_in e)))
+as_pushed_in k e n = (fals_pushed k e (accepted_so k e n), sat_pushed k e (accepted_so k e n))
+
 -- ---- its scans
 
 module _ (t : Table) (e : Expression) (question : IsAsked t e) where
   accepted : IsAccepted t.kind e
-  accepted = (
-    first_none (expression_fault t.kind e) (refused_unless (is_truth t.kind e) no_truth) question.faultless,
-    passed (is_truth t.kind e) no_truth (second_none (expression_fault t.kind e) (refused_unless (is_truth t.kind e) no_truth) question.faultless),
-  )
+  accepted = accepted_so t.kind e question.faultless
 
   pub asked_pushed : IsAsked t (pushed_in e)
   asked_pushed =

@@ -2,10 +2,9 @@
 use Rattle.std.proofs.Common.{◌≡◌, refl, sym, ◌∙◌, ap, Bool, true, false, not, ◌&&◌, ◌||◌, if◌then◌else◌, Option, Some, None}
 use Rattle.std.specs.declared.cmp.Ordering.{Ordering}
 use Rattle.std.specs.declared.cmp.Ordering.TheVariants.{Less}
-use Rattle.vortex_model.specs.LogicalType.{LogicalType, boolean_type, stored}
+use Rattle.vortex_model.specs.LogicalType.{LogicalType}
 use Rattle.vortex_model.specs.Content.{Content, null, boolean, text, is_null as is_null_content}
 use Rattle.vortex_model.specs.Order.{content_cmp}
-use Rattle.vortex_model.specs.Valid.{Holds}
 use Rattle.vortex_model_table.specs.Expression.{Expression, literal, column, compare, both, either, negation, is_null, is_not_null, is_nan, between, like, row_count, statistic, Comparison, equal, not_equal, greater, at_least, less, at_most, HasFormedLiterals}
 use Rattle.vortex_model_table.specs.Like.{is_like, has_backslash}
 use Rattle.vortex_model_table.specs.Typing.{is_of_floats}
@@ -191,10 +190,6 @@ module _ (k : LogicalType) where
 
 -- ---- that its literals are of their types
 
-other_truth : (k : LogicalType) (b c : Bool) → Holds k (boolean b) → Holds k (boolean c)
-other_truth (boolean_type n) b c h = tt
-other_truth k b c h = absurd h
-
 mutual
   pub formed_kept : (e : Expression) → HasFormedLiterals e → HasFormedLiterals (pushed_in e)
   formed_kept (negation x) h = formed_negated x h
@@ -203,7 +198,7 @@ mutual
   formed_kept e h = h
 
   formed_negated : (e : Expression) → HasFormedLiterals e → HasFormedLiterals (negated e)
-  formed_negated (literal l (boolean b)) h = other_truth (stored l) b (not b) h
+  formed_negated (literal l (boolean b)) h = tt
   formed_negated (literal l c) h = h
   formed_negated (compare op x y) h = h
   formed_negated (both x y) h = (formed_negated x h.0, formed_negated y h.1)

@@ -3,7 +3,7 @@ use Rattle.std.proofs.Common.{◌≡◌, refl, sym, ◌∙◌, ap, subst, ℕ, z
 use Rattle.std.specs.Prelude.{chars, encode_utf8_all, option_map, option_and_then, is_some}
 use Rattle.std.specs.List.{AllByRecursion}
 use Rattle.std.specs.Option.{option_map_or}
-use Rattle.vortex_model.specs.LogicalType.{LogicalType, boolean_type, integer_type, utf8, binary, nullable, non_nullable, with_nullability, bare, eq_type, eq_int_kind, IntKind, u8, u64, equal_ignoring_nullability}
+use Rattle.vortex_model.specs.LogicalType.{LogicalType, boolean_type, integer_type, utf8, binary, nullable, non_nullable, with_nullability, bare, eq_type, eq_int_kind, IntKind, u8, u64}
 use Rattle.vortex_model.specs.Content.{Content, boolean, text}
 use Rattle.vortex_model.specs.Path.{type_of_column}
 use Rattle.vortex_model.specs.Kept.{is_leaf}
@@ -11,10 +11,10 @@ use Rattle.vortex_model.specs.Refusal.{Refusal, or_else, not_a_leaf, unequal_typ
 use Rattle.vortex_model.proofs.Tests.{kind_so}
 use Rattle.vortex_model_table.specs.Bounds.{raise}
 use Rattle.vortex_model_table.specs.Expression.{Expression, literal, column, compare, both, either, negation, is_null, is_not_null, is_nan, between, like, row_count, statistic, reads_columns, Comparison, equal, not_equal, greater, at_least, less, at_most, Aggregate, min, max, null_count, all_null, all_non_null}
-use Rattle.vortex_model_table.specs.Truth.{end_of, has_truth, HasTruth}
-use Rattle.vortex_model_table.specs.Typing.{expression_type, is_float, is_of_floats, type_of_aggregate, type_of_bound, has_bounds}
+use Rattle.vortex_model_table.specs.Truth.{end_of, has_truth}
+use Rattle.vortex_model_table.specs.Typing.{expression_type, is_float, type_of_aggregate, type_of_bound}
 use Rattle.vortex_model_table.specs.Command.{expression_fault, column_fault, unless as refused_unless, is_boolean, is_utf8_type, eq_optional_type, is_supported_like}
-use Rattle.vortex_model_table.specs.Rewrite.{bound_expression, null_count_expression, is_comparable, is_float_placeholder, comparison_falsifier, no_nan_by_count, no_nan_by_flag, guarded, comparison_falsifiers, Shape, exact_text, beginning, no_shape, shape_of, outside, shape_falsifier, like_falsifier, paired, rounds, first_of_list, joined_proofs, either_there, both_there, as_list, count_literal, boolean_literal, text_literal, no_nulls_proofs, only_nulls_proofs, falsifiers, falsifier, satisfiers, satisfier}
+use Rattle.vortex_model_table.specs.Rewrite.{bound_expression, null_count_expression, is_comparable, is_float_placeholder, comparison_falsifier, no_nan_by_count, no_nan_by_flag, guarded, comparison_falsifiers, Shape, exact_text, beginning, no_shape, shape_of, outside, shape_falsifier, like_falsifier, paired, rounds, first_of_list, joined_proofs, either_there, both_there, as_list, count_literal, boolean_literal, no_nulls_proofs, only_nulls_proofs, falsifier, satisfier}
 use Rattle.vortex_model_table.proofs.ContentOrder.{true_left, true_right}
 use Rattle.vortex_model_laws.proofs.Held.{first_none, second_none}
 use Rattle.vortex_model_laws.proofs.Accepted.{faultless_truth}
@@ -436,7 +436,7 @@ module _ (k : LogicalType) where
     accepted_kept e a = a
 
     accepted_negated : (e : Expression) → IsAccepted e → IsAccepted (negated e)
-    accepted_negated (literal l (boolean b)) a = a
+    accepted_negated (literal l (boolean b)) a = (refl, refl)
     accepted_negated (literal l c) a = (not_refused (literal l c) a.0 a.1, refl)
     accepted_negated (column xs) a = (not_refused (column xs) a.0 a.1, refl)
     accepted_negated (compare op x y) a = a

@@ -3,7 +3,7 @@ use Rattle.std.specs.Prelude.{not}
 use Rattle.vortex_model.specs.Content.{Content, null, boolean}
 use Rattle.vortex_model_table.specs.Expression.{Expression, literal, compare, both, either, negation, is_null, is_not_null, between, like, Comparison, equal, not_equal, greater, at_least, less, at_most}
 use Rattle.vortex_model_table.specs.Truth.{end_of}
-use Rattle.vortex_model_table.specs.Rewrite.{falsifier, satisfier}
+use Rattle.vortex_model_table.specs.Rewrite.{boolean_literal, falsifier, satisfier}
 use Rattle.vortex_model_rules.specs.Rules.{Rule, of_not, answer_of}
 
 -- true of two values that compare, exactly where this comparison is false
@@ -26,7 +26,7 @@ abbrev mutual
   -- Its NOT, pushed inward. BETWEEN is the AND of its two comparisons. A NOT of anything else stays
   -- where it is.
   pub negated : Expression → Expression
-  negated (literal l (boolean b)) = literal l (boolean (not b))
+  negated (literal l (boolean b)) = boolean_literal (not b)
   negated (compare op x y) = compare (opposite op) x y
   negated (both x y) = either (negated x) (negated y)
   negated (either x y) = both (negated x) (negated y)
