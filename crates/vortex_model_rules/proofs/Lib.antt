@@ -1,6 +1,7 @@
 mod Believed
 mod Examples
 mod FaultsOfAnswers
+mod NoFault
 mod NoRules
 pub mod NullComparison
 pub mod PushedIn

@@ -125,7 +125,7 @@ module _ (k : LogicalType) where
 
 -- ---- of predicates that a scan accepts
 
-accepted_so : (k : LogicalType) (e : Expression) → predicate_fault k e ≡ None → IsAccepted k e
+pub accepted_so : (k : LogicalType) (e : Expression) → predicate_fault k e ≡ None → IsAccepted k e
 accepted_so k e n = (
   first_none (expression_fault k e) (refused_unless (is_truth k e) no_truth) n,
   passed (is_truth k e) no_truth (second_none (expression_fault k e) (refused_unless (is_truth k e) no_truth) n),

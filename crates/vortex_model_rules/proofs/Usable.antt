@@ -332,7 +332,7 @@ module _ (k : LogicalType) where
   joined_usable : (es : List Expression) → AllByRecursion (IsUsable k) es → IfSome (joined_proofs es) (IsUsable k)
   joined_usable es h = first_usable (rounds (length es) es) (rounds_usable (length es) es h)
 
-  either_there_usable : (o p : Option Expression) → IfSome o (IsUsable k) → IfSome p (IsUsable k) → IfSome (either_there o p) (IsUsable k)
+  pub either_there_usable : (o p : Option Expression) → IfSome o (IsUsable k) → IfSome p (IsUsable k) → IfSome (either_there o p) (IsUsable k)
   either_there_usable (Some x) (Some y) h g = either_usable x y h g
   either_there_usable (Some x) None h g = h
   either_there_usable None (Some y) h g = g
@@ -346,7 +346,7 @@ module _ (k : LogicalType) where
 
   -- ---- the two proofs
 
-  truth_usable : (b : Bool) → AllByRecursion (IsUsable k) (boolean_literal b ∷ [])
+  pub truth_usable : (b : Bool) → AllByRecursion (IsUsable k) (boolean_literal b ∷ [])
   truth_usable b = (record { bound = refl; truth = refl; boolean = refl; unread = refl }, tt)
 
   pub falsifier_usable : (e : Expression) → expression_fault k e ≡ None → IfSome (falsifier k e) (IsUsable k)
@@ -416,7 +416,7 @@ module _ (k : LogicalType) where
     passed (is_truth k x) no_truth (second_none (expression_fault k x) (refused_unless (is_truth k x) no_truth) n),
   )
 
-  ends_accepted : (op other : Comparison) (x lo hi : Expression) (s t : Bool) → expression_fault k (between x lo hi s t) ≡ None →
+  pub ends_accepted : (op other : Comparison) (x lo hi : Expression) (s t : Bool) → expression_fault k (between x lo hi s t) ≡ None →
       expression_fault k (either (compare op lo x) (compare other x hi)) ≡ None
   ends_accepted op other x lo hi s t n =
       let test : Bool = are_alike k x lo && are_alike k x hi in

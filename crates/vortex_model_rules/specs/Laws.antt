@@ -1,5 +1,5 @@
 -- Laws of the proofs that are made with callers' rules.
-use Rattle.std.specs.Prelude.{◌≡◌, ◌↔◌, List, [], ◌∷◌, ◌++◌, length, Some, None, IfSome, true, Contains}
+use Rattle.std.specs.Prelude.{◌≡◌, ◌↔◌, List, [], ◌∷◌, ◌++◌, length, Some, None, IfSome, true, false, Contains}
 use Rattle.std.specs.List.{AllByRecursion, list_any}
 use Rattle.vortex_model.specs.LogicalType.{LogicalType}
 use Rattle.vortex_model.specs.Content.{Content}
@@ -106,3 +106,9 @@ PushNotSkipsExactlyTheHopeless = (t : Table) (paths : List Names) (e : Expressio
     is_bounded (box_of_chunk t chunk) (pushed_in e) ≡ true →
     scanned_with t (push_not ∷ []) paths e ≡ Some a →
     Contains a.skipped (length before) ↔ Hopeless t.kind e (box_of_chunk t chunk)
+
+-- With both rules no scan of a predicate that is accepted is refused for a rule's fault.
+abbrev pub TheTwoRulesMakeNoFault : Type 0
+TheTwoRulesMakeNoFault = (k : LogicalType) (e : Expression) → predicate_fault k e ≡ None →
+    (is_fault (fals k (push_not ∷ null_comparison ∷ []) e) ≡ false)
+    × (is_fault (sat k (push_not ∷ null_comparison ∷ []) e) ≡ false)

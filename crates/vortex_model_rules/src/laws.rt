@@ -13,6 +13,7 @@ ghost use Rattle.vortex_model_rules.specs.Laws.{
   PushNotProvesAsPushedIn,
   ScansWithPushNotAreScansPushedIn,
   PushNotSkipsExactlyTheHopeless,
+  TheTwoRulesMakeNoFault,
 };
 
 use vortex_model_laws::laws::{built_in_proofs_read_no_columns, exactly_the_hopeless_are_skipped};
@@ -98,3 +99,8 @@ pub fn push_not_skips_exactly_the_hopeless()
     built_in_proofs_read_no_columns();
     exactly_the_hopeless_are_skipped();
 }
+
+/// With both rules no scan of a predicate that is accepted is refused for a rule's fault.
+pub fn the_two_rules_make_no_fault()
+    ensures { TheTwoRulesMakeNoFault }
+{}

@@ -21,11 +21,11 @@ use vortex_stats_expr::options::{BetweenOptions, LikeOptions};
 use vortex_stats_expr::scalar_fn::ScalarFnId;
 use vortex_stats_rewrite::rewrite::{falsify, satisfy};
 
-/// Answers at each NOT the built-in proofs of the predicate with its NOTs pushed inward: `NOT x > 5`
-/// has those of `x <= 5`. AND and OR go over into each other, as do IS NULL and IS NOT NULL, LIKE
-/// and NOT LIKE, and the two truth literals; `NOT x BETWEEN a AND b` is `a > x OR x > b`, where a
-/// strict end is compared by `>=`; and NOT of NOT is nothing. NOT of anything else has no proof.
-/// Handed in alone, it makes a scan skip the chunks that the predicate so rewritten would.
+/// Answers at each NOT the built-in proofs of the predicate with its NOTs pushed inward: those of
+/// `NOT x > 5` are those of `x <= 5`. AND and OR go over into each other, as do IS NULL and IS NOT
+/// NULL, LIKE and NOT LIKE, and the two truth literals; `NOT x BETWEEN a AND b` is `a > x` OR
+/// `x > b`, where a strict end is compared by `>=`; and NOT of NOT is nothing. NOT of anything else
+/// has no proof. Handed in alone, it makes a scan do what one of the predicate so rewritten does.
 #[derive(Drop)]
 pub struct PushNot;
 
