@@ -235,8 +235,7 @@ pub exactly : ExactlyTheHopelessAreSkipped → BuiltInProofsReadNoColumns → (t
 exactly exact built_in t paths e a before chunk after table question wide chunks bounded is =
     let given : Some (scanned t paths (pushed_in e)) ≡ Some a = sym (scans t e question built_in paths table) ∙ is in
     let same : scanned t paths (pushed_in e) ≡ a = cc (given) in
-    let both_ways = exact t (pushed_in e) before chunk after table (asked_pushed t e question) wide chunks bounded in
-    (
+    let both_ways = exact t (pushed_in e) before chunk after table (asked_pushed t e question) wide chunks bounded in (
       (λ here. hopeless_before t.kind e (box_of_chunk t chunk) (both_ways.0 (subst (λ b. Contains b.skipped (length before)) (sym same) here))),
       (λ none. subst (λ b. Contains b.skipped (length before)) same (both_ways.1 (hopeless_behind t.kind e (box_of_chunk t chunk) none))),
     )

@@ -58,11 +58,7 @@ impl StatsRewriteRule for NullComparison {
 }
 
 // At a comparison, that one of its sides is null at each row.
-fn null_side(
-    alloc: Global,
-    dtype: &DType,
-    e: &Expression,
-) -> Result<Option<Expression>, AllocError>
+fn null_side(alloc: Global, dtype: &DType, e: &Expression) -> Result<Option<Expression>, AllocError>
     ensures { IfOk result (λ proof. answer_of proof ≡ null_side (type_of dtype.now) e.now) }
 {
     match &e.node {
