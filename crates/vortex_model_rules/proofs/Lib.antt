@@ -6,6 +6,7 @@ mod NoRules
 pub mod NullComparison
 pub mod PushedIn
 pub mod PushNot
+mod NullSides
 mod ReadsNone
 mod ScanExamples
 mod Scans

@@ -39,7 +39,7 @@ module _ (k : LogicalType) where
   of_literal l null = (truth_usable k true).0
   of_literal l c = tt
 
-  side : (x : Expression) → expression_fault k x ≡ None → IfSome (only_nulls k x) (IsUsable k)
+  pub side : (x : Expression) → expression_fault k x ≡ None → IfSome (only_nulls k x) (IsUsable k)
   side (literal l c) n = of_literal l c
   side x n = falsifier_usable k (is_not_null x) n
 

@@ -1,12 +1,12 @@
 -- Laws of the proofs that are made with callers' rules.
-use Rattle.std.specs.Prelude.{◌≡◌, ◌↔◌, List, [], ◌∷◌, ◌++◌, length, Some, None, IfSome, true, false, Contains}
+use Rattle.std.specs.Prelude.{◌≡◌, ◌↔◌, ◌⊎◌, List, [], ◌∷◌, ◌++◌, length, Some, None, IfSome, true, false, Contains}
 use Rattle.std.specs.List.{AllByRecursion, list_any}
 use Rattle.vortex_model.specs.LogicalType.{LogicalType}
-use Rattle.vortex_model.specs.Content.{Content}
-use Rattle.vortex_model_table.specs.Expression.{Expression, HasFormedLiterals}
+use Rattle.vortex_model.specs.Content.{Content, boolean}
+use Rattle.vortex_model_table.specs.Expression.{Expression, compare, Comparison, HasFormedLiterals}
 use Rattle.vortex_model_table.specs.Truth.{Given, evaluate, HasTruth}
 use Rattle.vortex_model_table.specs.Rewrite.{falsifier, satisfier}
-use Rattle.vortex_model_table.specs.Sound.{IsSoundFalsifier, IsSoundSatisfier}
+use Rattle.vortex_model_table.specs.Sound.{Placeholders, of_proof, IsSoundFalsifier, IsSoundSatisfier}
 use Rattle.vortex_model.specs.Path.{Names}
 use Rattle.vortex_model_table.specs.Table.{Table, IsTable}
 use Rattle.vortex_model_table.specs.Scan.{ScanAnswer, scanned}
@@ -18,7 +18,7 @@ use Rattle.vortex_model_rules.specs.Faults.{proof_fault}
 use Rattle.vortex_model_rules.specs.Scanned.{scanned_with}
 use Rattle.vortex_model_rules.specs.Rules.{proof, is_fault, answer_of, Rule, asked, falsify_answers, satisfy_answers, fals, sat, handed_over}
 use Rattle.vortex_model_rules.specs.PushNot.{as_truth, pushed_in, push_not}
-use Rattle.vortex_model_rules.specs.NullComparison.{null_comparison}
+use Rattle.vortex_model_rules.specs.NullComparison.{null_comparison, IsCountedNull}
 
 -- without rules the proofs are the built-in ones
 abbrev pub NoRulesAddNothing : Type 0
@@ -106,6 +106,15 @@ PushNotSkipsExactlyTheHopeless = (t : Table) (paths : List Names) (e : Expressio
     is_bounded (box_of_chunk t chunk) (pushed_in e) ≡ true →
     scanned_with t (push_not ∷ []) paths e ≡ Some a →
     Contains a.skipped (length before) ↔ Hopeless t.kind e (box_of_chunk t chunk)
+
+-- Where a side of a comparison is null at each row by its count, `null_comparison` makes a proof
+-- that no row satisfies it, and this is true.
+abbrev pub NullSidesAreProved : Type 0
+NullSidesAreProved = (k : LogicalType) (op : Comparison) (x y : Expression) (given : Placeholders)
+    (rows : List Content) → predicate_fault k (compare op x y) ≡ None →
+    IsCountedNull given rows x ⊎ IsCountedNull given rows y →
+    (p : Expression) × (fals k (null_comparison ∷ []) (compare op x y) ≡ proof p)
+    × (evaluate (of_proof given rows) p ≡ boolean true)
 
 -- With both rules no scan of a predicate that is accepted is refused for a rule's fault.
 abbrev pub TheTwoRulesMakeNoFault : Type 0

@@ -1,9 +1,10 @@
 -- The rule that a comparison with a side of nulls alone selects nothing.
-use Rattle.std.specs.Prelude.{Option, Some, None, true, if◌then◌else◌}
+use Rattle.std.specs.Prelude.{◌≡◌, pos, List, length, Option, Some, None, true, if◌then◌else◌}
 use Rattle.vortex_model.specs.LogicalType.{LogicalType}
-use Rattle.vortex_model.specs.Content.{is_null as is_null_content}
-use Rattle.vortex_model_table.specs.Expression.{Expression, literal, compare, is_not_null}
+use Rattle.vortex_model.specs.Content.{Content, integer, is_null as is_null_content}
+use Rattle.vortex_model_table.specs.Expression.{Expression, literal, compare, is_not_null, null_count}
 use Rattle.vortex_model_table.specs.Rewrite.{boolean_literal, falsifier, either_there}
+use Rattle.vortex_model_table.specs.Sound.{Placeholders}
 use Rattle.vortex_model_rules.specs.Rules.{Meaning, Rule, of_binary, no_proof, answer_of}
 
 -- A proof that the expression is null at each row, which is that no row satisfies IS NOT NULL of
@@ -23,3 +24,9 @@ null_comparison = record {
   falsify = null_side;
   satisfy = λ k e. no_proof;
 }
+
+-- The expression is null at each of these rows, by the count of its nulls. Of a literal that is
+-- known.
+abbrev pub IsCountedNull : Placeholders → List Content → Expression → Type 0
+IsCountedNull given rows (literal l c) = is_null_content c ≡ true
+IsCountedNull given rows x = given x null_count ≡ integer (pos (length rows))

@@ -13,6 +13,7 @@ ghost use Rattle.vortex_model_rules.specs.Laws.{
   PushNotProvesAsPushedIn,
   ScansWithPushNotAreScansPushedIn,
   PushNotSkipsExactlyTheHopeless,
+  NullSidesAreProved,
   TheTwoRulesMakeNoFault,
 };
 
@@ -99,6 +100,12 @@ pub fn push_not_skips_exactly_the_hopeless()
     built_in_proofs_read_no_columns();
     exactly_the_hopeless_are_skipped();
 }
+
+/// Where a side of a comparison is null at each row by its count of nulls, the falsifier that is
+/// made with the second rule is there, and is true.
+pub fn null_sides_are_proved()
+    ensures { NullSidesAreProved }
+{}
 
 /// With both rules no scan of a predicate that is accepted is refused for a rule's fault.
 pub fn the_two_rules_make_no_fault()
