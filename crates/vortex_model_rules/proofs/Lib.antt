@@ -8,6 +8,7 @@ pub mod PushedIn
 pub mod PushNot
 mod NullSides
 mod ReadsNone
+mod SameValue
 mod ScanExamples
 mod Scans
 mod TwoRules

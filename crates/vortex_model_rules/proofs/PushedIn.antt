@@ -14,7 +14,7 @@ use Rattle.vortex_model_rules.specs.PushNot.{opposite, pushed_in, negated, as_tr
 
 -- ---- Kleene's connectives see truth values alone
 
-not_truth : (c : Content) → as_truth (kleene_not c) ≡ kleene_not c
+pub not_truth : (c : Content) → as_truth (kleene_not c) ≡ kleene_not c
 not_truth (boolean b) = refl
 not_truth c = refl
 
@@ -156,7 +156,7 @@ ends : (f g h t u v : Bool) → not (f || g || h) && (t && (u && v)) ≡ true �
 ends false false false true true true e = refl
 ends f g h t u v e = absurd (cc (e))
 
-two_true : (b c : Bool) → b ≡ true → c ≡ true → b && c ≡ true
+pub two_true : (b c : Bool) → b ≡ true → c ≡ true → b && c ≡ true
 two_true true c e f = f
 two_true false c e f = e
 

@@ -20,6 +20,7 @@ use Rattle.vortex_model_laws.proofs.Held.{first_none, second_none}
 use Rattle.vortex_model_laws.proofs.Accepted.{faultless_truth}
 use Rattle.vortex_model_rules.specs.PushNot.{opposite, pushed_in, negated}
 use Rattle.vortex_model_rules.specs.Faults.{ProofFault, unequal_types, not_boolean, unsupported_aggregate, not_evaluable, reads_a_column, unknown_column, or_fault, unless, are_alike, is_truth, is_text, binding_fault, proof_fault}
+use Rattle.vortex_model_rules.proofs.PushedIn.{two_true}
 
 -- ---- tests
 
@@ -27,11 +28,7 @@ pub passed : (b : Bool) (r : Refusal) → refused_unless b r ≡ None → b ≡ 
 passed true r e = refl
 passed false r e = absurd (cc (e))
 
-pub two_true : (b c : Bool) → b ≡ true → c ≡ true → b && c ≡ true
-two_true true c e f = f
-two_true false c e f = e
-
-both_false : (b c : Bool) → b ≡ false → c ≡ false → b || c ≡ false
+pub both_false : (b c : Bool) → b ≡ false → c ≡ false → b || c ≡ false
 both_false true c e f = e
 both_false false c e f = f
 

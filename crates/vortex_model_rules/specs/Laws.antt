@@ -3,8 +3,9 @@ use Rattle.std.specs.Prelude.{◌≡◌, ◌↔◌, ◌⊎◌, List, [], ◌∷�
 use Rattle.std.specs.List.{AllByRecursion, list_any}
 use Rattle.vortex_model.specs.LogicalType.{LogicalType}
 use Rattle.vortex_model.specs.Content.{Content, boolean}
+use Rattle.vortex_model.specs.Valid.{IsContent}
 use Rattle.vortex_model_table.specs.Expression.{Expression, compare, Comparison, HasFormedLiterals}
-use Rattle.vortex_model_table.specs.Truth.{Given, evaluate, HasTruth}
+use Rattle.vortex_model_table.specs.Truth.{Given, evaluate, value_at, HasTruth}
 use Rattle.vortex_model_table.specs.Rewrite.{falsifier, satisfier}
 use Rattle.vortex_model_table.specs.Sound.{Placeholders, of_proof, IsSoundFalsifier, IsSoundSatisfier}
 use Rattle.vortex_model.specs.Path.{Names}
@@ -71,6 +72,12 @@ FaultsAreThoseOfAnswers = (k : LogicalType) (rules : List Rule) (e : Expression)
 abbrev pub PushingInKeepsTheTruth : Type 0
 PushingInKeepsTheTruth = (g : Given) (e : Expression) →
     as_truth (evaluate g (pushed_in e)) ≡ as_truth (evaluate g e)
+
+-- so at each row of its type a predicate that a scan accepts has the value that it then has
+abbrev pub PushingInKeepsTheValue : Type 0
+PushingInKeepsTheValue = (k : LogicalType) (e : Expression) (row : Content) →
+    predicate_fault k e ≡ None → HasFormedLiterals e → IsContent k row →
+    value_at k (pushed_in e) row ≡ value_at k e row
 
 abbrev pub PushNotKeepsItsLaw : Type 0
 PushNotKeepsItsLaw = (k : LogicalType) → KeepsItsLaw k push_not

@@ -7,6 +7,7 @@ ghost use Rattle.vortex_model_rules.specs.Laws.{
   ScansWithRulesLoseNone,
   ScansWithNoRulesAreScans,
   PushingInKeepsTheTruth,
+  PushingInKeepsTheValue,
   PushNotKeepsItsLaw,
   NullComparisonKeepsItsLaw,
   BuiltInProofsAreFaultless,
@@ -57,9 +58,15 @@ pub fn scans_with_no_rules_are_scans()
     built_in_proofs_read_no_columns();
 }
 
-/// A predicate is true, false or null exactly where it is with its NOTs pushed inward.
+/// A predicate is true, false or null exactly where it is with its NOTs pushed inward. What is no
+/// truth value counts as null.
 pub fn pushing_in_keeps_the_truth()
     ensures { PushingInKeepsTheTruth }
+{}
+
+/// So a predicate that a scan accepts has the same value at each row with its NOTs pushed inward.
+pub fn pushing_in_keeps_the_value()
+    ensures { PushingInKeepsTheValue }
 {}
 
 /// The rule that pushes NOTs inward keeps its law.
