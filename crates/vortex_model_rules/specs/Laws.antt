@@ -73,7 +73,7 @@ abbrev pub PushingInKeepsTheTruth : Type 0
 PushingInKeepsTheTruth = (g : Given) (e : Expression) →
     as_truth (evaluate g (pushed_in e)) ≡ as_truth (evaluate g e)
 
--- so at each row of its type a predicate that a scan accepts has the value that it then has
+-- so one that a scan accepts has one value at each row of the type
 abbrev pub PushingInKeepsTheValue : Type 0
 PushingInKeepsTheValue = (k : LogicalType) (e : Expression) (row : Content) →
     predicate_fault k e ≡ None → HasFormedLiterals e → IsContent k row →
