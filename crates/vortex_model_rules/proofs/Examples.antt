@@ -9,28 +9,28 @@ use Rattle.vortex_model_rules.specs.Faults.{proof_fault, unknown_column, unequal
 use Rattle.vortex_model_rules.specs.Rules.{no_proof, proof, fault, of_binary, of_between, of_not, of_is_null, Meaning, Rule, falsify_answers, joined_answers, fals, sat}
 
 -- a record of a number, a truth value, a text and a float
-abbrev K : LogicalType
+abbrev pub K : LogicalType
 K = struct (field (codes "a") (integer_type i32 nullable) (field (codes "b") (boolean_type non_nullable) (field (codes "s") (utf8 non_nullable) (field (codes "f") (float f32 nullable) no_fields)))) non_nullable
 
-abbrev a : Expression
+abbrev pub a : Expression
 a = column (codes "a" ∷ [])
 
-abbrev b : Expression
+abbrev pub b : Expression
 b = column (codes "b" ∷ [])
 
-abbrev s : Expression
+abbrev pub s : Expression
 s = column (codes "s" ∷ [])
 
 abbrev f : Expression
 f = column (codes "f" ∷ [])
 
-abbrev number : ℕ → Expression
+abbrev pub number : ℕ → Expression
 number n = literal (integer_type i32 non_nullable) (integer (pos n))
 
-abbrev above : ℕ → Expression
+abbrev pub above : ℕ → Expression
 above n = compare greater a (number n)
 
-abbrev at_most_max : ℕ → Expression
+abbrev pub at_most_max : ℕ → Expression
 at_most_max n = compare at_most (statistic a max) (number n)
 
 -- ---- no rules

@@ -1,8 +1,16 @@
 mod Believed
 mod Examples
 mod FaultsOfAnswers
+mod NoFault
 mod NoRules
+pub mod NullComparison
+pub mod PushedIn
+pub mod PushNot
+mod NullSides
 mod ReadsNone
+mod SameValue
 mod ScanExamples
 mod Scans
+mod TwoRules
+pub mod Usable
 mod WithRules

@@ -23,13 +23,13 @@ pub joined_one : (o : Option Expression) → joined_answers (answer_of o ∷ [])
 joined_one None = refl
 joined_one (Some p) = refl
 
-either_so : (o p : Option Expression) → either_answer (answer_of o) (answer_of p) ≡ answer_of (either_there o p)
+pub either_so : (o p : Option Expression) → either_answer (answer_of o) (answer_of p) ≡ answer_of (either_there o p)
 either_so (Some x) (Some y) = refl
 either_so (Some x) None = refl
 either_so None (Some y) = refl
 either_so None None = refl
 
-both_so : (o p : Option Expression) → both_answers (answer_of o) (answer_of p) ≡ answer_of (both_there o p)
+pub both_so : (o p : Option Expression) → both_answers (answer_of o) (answer_of p) ≡ answer_of (both_there o p)
 both_so (Some x) (Some y) = refl
 both_so (Some x) None = refl
 both_so None (Some y) = refl

@@ -1,14 +1,16 @@
 -- Worked scans with callers' rules. The rules keep their law, so its premise can be met.
 use Rattle.std.proofs.Common.{◌≡◌, refl, ℕ, pos, List, [], ◌∷◌, Some, None, Bool, true, false, if◌then◌else◌, subst}
 use Rattle.std.specs.Prelude.{codes}
-use Rattle.vortex_model.specs.LogicalType.{LogicalType, integer_type, struct, field, no_fields, non_nullable, i32}
-use Rattle.vortex_model.specs.Content.{Content, integer, tuple, nothing, first}
-use Rattle.vortex_model_table.specs.Expression.{Expression, negation}
+use Rattle.vortex_model.specs.LogicalType.{LogicalType, integer_type, struct, field, no_fields, non_nullable, nullable, i32}
+use Rattle.vortex_model.specs.Content.{Content, null, integer, tuple, nothing, first}
+use Rattle.vortex_model_table.specs.Expression.{Expression, literal, column, compare, negation, equal, at_most}
 use Rattle.vortex_model_table.specs.Rewrite.{boolean_literal}
 use Rattle.vortex_model_table.specs.Sound.{IsSoundFalsifier, IsSoundSatisfier}
 use Rattle.vortex_model_table.specs.Table.{Table}
 use Rattle.vortex_model_table.specs.Scan.{ScanAnswer, scanned}
 use Rattle.vortex_model_rules.specs.Rules.{no_proof, proof, fault, eq_root, root_of, of_not, Rule}
+use Rattle.vortex_model_rules.specs.PushNot.{push_not}
+use Rattle.vortex_model_rules.specs.NullComparison.{null_comparison}
 use Rattle.vortex_model_rules.specs.Laws.{KeepsItsLaw}
 use Rattle.vortex_model_rules.specs.Scanned.{scanned_with}
 use Rattle.vortex_model_rules.proofs.Examples.{never, not_literal}
@@ -91,3 +93,31 @@ never_keeps k = record {
   falsifies = λ e p has formed is. where_passed (IsSoundFalsifier k e) (eq_root of_not (root_of e)) (boolean_literal false) p (false_falsifies k e) is;
   satisfies = λ e p has formed is. where_passed (IsSoundSatisfier k e) (eq_root of_not (root_of e)) (boolean_literal false) p (false_satisfies k e) is;
 }
+
+-- ---- the two rules of the model
+
+abbrev a : Expression
+a = column (codes "a" ∷ [])
+
+abbrev number : ℕ → Expression
+number n = literal (integer_type i32 non_nullable) (integer (pos n))
+
+-- NOT (a <= 2) is a > 2, and true of neither 1 nor 2
+above_two : scanned_with table (push_not ∷ []) paths (negation (compare at_most a (number 2))) ≡ Some (found [] (0 ∷ []) [] 0 1)
+above_two = refl
+
+-- a chunk of nulls alone has no bounds, and is tested row by row without the rule
+abbrev nulls : Table
+nulls = record {
+  kind = struct (field (codes "a") (integer_type i32 nullable) no_fields) non_nullable;
+  default = 16;
+  lengths = [];
+  chunks = (tuple (first null nothing) ∷ tuple (first null nothing) ∷ []) ∷ [];
+  groups = 1 ∷ [];
+}
+
+nulls_tested : scanned nulls paths (compare equal a (number 8)) ≡ record (found [] [] [] 2 1) { kind = nulls.kind }
+nulls_tested = refl
+
+nulls_skipped : scanned_with nulls (null_comparison ∷ []) paths (compare equal a (number 8)) ≡ Some (record (found [] (0 ∷ []) [] 0 1) { kind = nulls.kind })
+nulls_skipped = refl

@@ -193,7 +193,7 @@ module _ (built_in : BuiltInProofsReadNoColumns) (t : Table) (rules : List Rule)
 
 -- ---- without rules
 
-as_proofs : (t : Table) (paths : List Names) (e : Expression) (o q : Option Expression) → by_answers t paths e (answer_of o) (answer_of q) ≡ Some (scanned_by t paths e o q)
+pub as_proofs : (t : Table) (paths : List Names) (e : Expression) (o q : Option Expression) → by_answers t paths e (answer_of o) (answer_of q) ≡ Some (scanned_by t paths e o q)
 as_proofs t paths e None None = refl
 as_proofs t paths e None (Some q) = refl
 as_proofs t paths e (Some p) None = refl

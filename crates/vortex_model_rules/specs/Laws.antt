@@ -1,17 +1,25 @@
 -- Laws of the proofs that are made with callers' rules.
-use Rattle.std.specs.Prelude.{◌≡◌, List, [], Some}
+use Rattle.std.specs.Prelude.{◌≡◌, ◌↔◌, ◌⊎◌, List, [], ◌∷◌, ◌++◌, length, Some, None, IfSome, true, false, Contains}
 use Rattle.std.specs.List.{AllByRecursion, list_any}
 use Rattle.vortex_model.specs.LogicalType.{LogicalType}
-use Rattle.vortex_model_table.specs.Expression.{Expression, HasFormedLiterals}
-use Rattle.vortex_model_table.specs.Truth.{HasTruth}
+use Rattle.vortex_model.specs.Content.{Content, boolean}
+use Rattle.vortex_model.specs.Valid.{IsContent}
+use Rattle.vortex_model_table.specs.Expression.{Expression, compare, Comparison, HasFormedLiterals}
+use Rattle.vortex_model_table.specs.Truth.{Given, evaluate, value_at, HasTruth}
 use Rattle.vortex_model_table.specs.Rewrite.{falsifier, satisfier}
-use Rattle.vortex_model_table.specs.Sound.{IsSoundFalsifier, IsSoundSatisfier}
+use Rattle.vortex_model_table.specs.Sound.{Placeholders, of_proof, IsSoundFalsifier, IsSoundSatisfier}
 use Rattle.vortex_model.specs.Path.{Names}
 use Rattle.vortex_model_table.specs.Table.{Table, IsTable}
 use Rattle.vortex_model_table.specs.Scan.{ScanAnswer, scanned}
 use Rattle.vortex_model_table.specs.Pruning.{IsAsked}
+use Rattle.vortex_model_table.specs.Command.{predicate_fault}
+use Rattle.vortex_model_table.specs.Class.{Hopeless, is_wide, is_bounded}
+use Rattle.vortex_model_laws.specs.Exact.{box_of_chunk}
+use Rattle.vortex_model_rules.specs.Faults.{proof_fault}
 use Rattle.vortex_model_rules.specs.Scanned.{scanned_with}
 use Rattle.vortex_model_rules.specs.Rules.{proof, is_fault, answer_of, Rule, asked, falsify_answers, satisfy_answers, fals, sat, handed_over}
+use Rattle.vortex_model_rules.specs.PushNot.{as_truth, pushed_in, push_not}
+use Rattle.vortex_model_rules.specs.NullComparison.{null_comparison, IsCountedNull}
 
 -- without rules the proofs are the built-in ones
 abbrev pub NoRulesAddNothing : Type 0
@@ -56,3 +64,67 @@ FaultsAreThoseOfAnswers = (k : LogicalType) (rules : List Rule) (e : Expression)
     (is_fault (fals k rules e) ≡
     list_any (λ node. list_any is_fault (falsify_answers k rules node)) (handed_over e))
     × (is_fault (sat k rules e) ≡ list_any is_fault (satisfy_answers k rules e))
+
+-- ---- two rules
+
+-- whatever the columns are, a predicate and the same with its NOTs pushed inward have one truth
+-- value
+abbrev pub PushingInKeepsTheTruth : Type 0
+PushingInKeepsTheTruth = (g : Given) (e : Expression) →
+    as_truth (evaluate g (pushed_in e)) ≡ as_truth (evaluate g e)
+
+-- so one that a scan accepts has one value at each row of the type
+abbrev pub PushingInKeepsTheValue : Type 0
+PushingInKeepsTheValue = (k : LogicalType) (e : Expression) (row : Content) →
+    predicate_fault k e ≡ None → HasFormedLiterals e → IsContent k row →
+    value_at k (pushed_in e) row ≡ value_at k e row
+
+abbrev pub PushNotKeepsItsLaw : Type 0
+PushNotKeepsItsLaw = (k : LogicalType) → KeepsItsLaw k push_not
+
+abbrev pub NullComparisonKeepsItsLaw : Type 0
+NullComparisonKeepsItsLaw = (k : LogicalType) → KeepsItsLaw k null_comparison
+
+-- the built-in proofs of a predicate that a scan accepts have no fault
+abbrev pub BuiltInProofsAreFaultless : Type 0
+BuiltInProofsAreFaultless = (k : LogicalType) (e : Expression) → predicate_fault k e ≡ None →
+    IfSome (falsifier k e) (λ p. proof_fault k p ≡ None)
+    × IfSome (satisfier k e) (λ p. proof_fault k p ≡ None)
+
+-- so the proofs that are made with `push_not` are the built-in ones of the predicate with its NOTs
+-- pushed inward
+abbrev pub PushNotProvesAsPushedIn : Type 0
+PushNotProvesAsPushedIn = (k : LogicalType) (e : Expression) → predicate_fault k e ≡ None →
+    (fals k (push_not ∷ []) e ≡ answer_of (falsifier k (pushed_in e)))
+    × (sat k (push_not ∷ []) e ≡ answer_of (satisfier k (pushed_in e)))
+
+-- and a scan with it has the whole answer of one of that predicate without rules
+abbrev pub ScansWithPushNotAreScansPushedIn : Type 0
+ScansWithPushNotAreScansPushedIn = (t : Table) (paths : List Names) (e : Expression) →
+    IsAsked t e → IsTable t →
+    scanned_with t (push_not ∷ []) paths e ≡ Some (scanned t paths (pushed_in e))
+
+-- So where that predicate is of the wide class, such a scan skips a chunk that has all its bounds
+-- exactly where no choice of values in the chunk's box makes the predicate true.
+abbrev pub PushNotSkipsExactlyTheHopeless : Type 0
+PushNotSkipsExactlyTheHopeless = (t : Table) (paths : List Names) (e : Expression) (a : ScanAnswer)
+    (before : List (List Content)) (chunk : List Content) (after : List (List Content)) →
+    IsTable t → IsAsked t e → is_wide (pushed_in e) ≡ true → t.chunks ≡ before ++ chunk ∷ after →
+    is_bounded (box_of_chunk t chunk) (pushed_in e) ≡ true →
+    scanned_with t (push_not ∷ []) paths e ≡ Some a →
+    Contains a.skipped (length before) ↔ Hopeless t.kind e (box_of_chunk t chunk)
+
+-- Where a side of a comparison is null at each row by its count, `null_comparison` makes a proof
+-- that no row satisfies it, and this is true.
+abbrev pub NullSidesAreProved : Type 0
+NullSidesAreProved = (k : LogicalType) (op : Comparison) (x y : Expression) (given : Placeholders)
+    (rows : List Content) → predicate_fault k (compare op x y) ≡ None →
+    IsCountedNull given rows x ⊎ IsCountedNull given rows y →
+    (p : Expression) × (fals k (null_comparison ∷ []) (compare op x y) ≡ proof p)
+    × (evaluate (of_proof given rows) p ≡ boolean true)
+
+-- With both rules no scan of a predicate that is accepted is refused for a rule's fault.
+abbrev pub TheTwoRulesMakeNoFault : Type 0
+TheTwoRulesMakeNoFault = (k : LogicalType) (e : Expression) → predicate_fault k e ≡ None →
+    (is_fault (fals k (push_not ∷ null_comparison ∷ []) e) ≡ false)
+    × (is_fault (sat k (push_not ∷ null_comparison ∷ []) e) ≡ false)

@@ -107,6 +107,8 @@ pub use vortex_stats_rules::laws::satisfiers_are_sound;
 pub use vortex_stats_rules::meter::Meter;
 pub use vortex_stats_rules::negation::Never;
 pub use vortex_stats_rules::negation::NotLiteral;
+pub use vortex_stats_rules::null_comparison::NullComparison;
+pub use vortex_stats_rules::push_not::PushNot;
 pub use vortex_stats_rules::rewrite::falsify;
 pub use vortex_stats_rules::rewrite::satisfy;
 pub use vortex_stats_rules::rule::StatsRewriteRule;

@@ -6,3 +6,4 @@ pub mod Keeping
 pub mod Nodes
 pub mod NotLiterals
 pub mod Roots
+pub mod Said

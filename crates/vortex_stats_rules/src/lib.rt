@@ -5,5 +5,7 @@ mod answers;
 pub mod laws;
 pub mod meter;
 pub mod negation;
+pub mod null_comparison;
+pub mod push_not;
 pub mod rewrite;
 pub mod rule;

@@ -89,7 +89,7 @@ impl StatsRewriteRule for NotLiteral {
 
 // A literal truth value, of the type without null.
 #[tactic(auto, using(crate::proofs::NotLiterals::one_level))]
-fn truth(value: bool) -> Expression
+pub(crate) fn truth(value: bool) -> Expression
     ensures { result ≡ boolean_literal value }
 {
     lit(Scalar::new_unchecked(
@@ -140,8 +140,9 @@ fn literal_truth(e: &Expression) -> Option<bool>
     }
 }
 
+// The truth value, where it is one.
 #[tactic(auto, using(crate::proofs::NotLiterals::truth_said))]
-fn truth_in(value: &Scalar) -> Option<bool>
+pub(crate) fn truth_in(value: &Scalar) -> Option<bool>
     ensures { result ≡ truth_in (scalar_content value.now) }
 {
     let value = value.value()?;
