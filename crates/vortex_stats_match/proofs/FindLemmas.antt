@@ -65,6 +65,29 @@ takes_itself a b form bs plain one e =
 takes_some : (a : ℕ) (form : List ℕ) → (a == 37) ≡ false → byte_matches (a ∷ form) [] ≡ true → ⊥
 takes_some a form plain e = cc (sym (plain_sign a form [] plain) ∙ e)
 
+first_of_drop : (value : List ℕ) (j : ℕ) → get_or (drop j value) 0 0 ≡ get_or value j 0
+first_of_drop value j = get_or-drop j value 0 0 ∙ ap (λ n. get_or value n 0) (omega arith)
+
+module _ (form value : List ℕ) (a : ℕ) (behind : List ℕ) (is : form ≡ a ∷ behind) (plain : (a == 37) ≡ false) (one : (a == 95) ≡ false) where
+  begins : (j : ℕ) → byte_matches form (drop j value) ≡ true → (j < length value) × ((get_or value j 0 == a) ≡ true)
+  begins j e = at (drop j value) refl (ap (λ s. byte_matches s (drop j value)) (sym is) ∙ e)
+    where
+      at : (xs : List ℕ) → drop j value ≡ xs → byte_matches (a ∷ behind) xs ≡ true → (j < length value) × ((get_or value j 0 == a) ≡ true)
+      at [] q f = absurd (takes_some a behind plain f)
+      at (x ∷ xs) q f = (
+        omega (arith, ap length q, length-drop j value),
+        eq-eqb (get_or value j 0) a (sym (first_of_drop value j) ∙ ap (λ s. get_or s 0 0) q ∙ (takes_itself a x behind xs plain one f).0),
+      )
+
+  pub found_place : (left : List ℕ) (k : ℕ) → k ≤ length value → ((j : ℕ) → 0 ≤ j → j < k → ¬ ((get_or value j 0 == a) ≡ true)) → left ≡ take (length value - k) (drop k value) → IsPlace form value left
+  found_place left k within others e = place form value left k within (λ j lt f. others j (omega arith) lt (begins j f).1) e
+
+  pub no_place : ((j : ℕ) → 0 ≤ j → j < length value → ¬ ((get_or value j 0 == a) ≡ true)) → some_end (byte_matches form) value ≡ false
+  no_place others = nowhere form value (λ j le f. let here = begins j f in others j (omega arith) here.0 here.1)
+
+pub stays : (form value : List ℕ) → IsPlace form value value
+stays form value = record { ends = refl; no_longer = omega arith }
+
 pub stands : (form value : List ℕ) (n : ℕ) → n ≤ length form → Unsigned form n → byte_matches form value ≡ true
     → (n ≤ length value) × ((j : ℕ) → j < n → get_or value j 0 ≡ get_or form j 0)
 stands form value zero le h e = (omega arith, λ j lt. absurd (omega (arith, lt)))
@@ -363,13 +386,10 @@ spread form value left a c k rest p plain_a plain_c within h e =
     at : (j : ℕ) → j < k → (2 < length (drop j value)) × (may_stand a c (drop j value) 0 ≡ true) → ⊥
     at j lt here =
         cc (sym (h j lt (omega (arith, here.0, length-drop j value)))
-        ∙ sym (ap (λ n. may n (get_or (drop j value) 2 0)) (first j) ∙ ap (λ n. may (get_or value j 0) n) (get_or-drop j value 2 0)) ∙ here.1)
+        ∙ sym (ap (λ n. may n (get_or (drop j value) 2 0)) (first_of_drop value j) ∙ ap (λ n. may (get_or value j 0) n) (get_or-drop j value 2 0)) ∙ here.1)
       where
         may : ℕ → ℕ → Bool
         may x z = (x == a) && ((z == c) || not (nat_lt z 128))
-
-        first : (i : ℕ) → get_or (drop i value) 0 0 ≡ get_or value i 0
-        first i = get_or-drop i value 0 0 ∙ ap (λ n. get_or value n 0) (omega arith)
 
 -- where they stand nowhere before a block of the text and nowhere in it, they do so nowhere before its end
 pub stands_on : (a c : ℕ) (value : List ℕ) (at m n : ℕ) → StandsNowhere a c value at → StandsNowhere a c (take m (drop at value)) (length (take m (drop at value)))

@@ -135,8 +135,8 @@ fn find(sign: u8, text: &[u8]) -> Option<usize>
     }
 }
 
-// The text from a place on before which the bytes that the pattern begins with, up to its first sign,
-// stand nowhere. A pattern without a sign can only be the end of the text.
+// The text from a place on before which the bytes that the pattern begins with, up to its first
+// sign, stand nowhere. A pattern without a sign can only be the end of the text.
 fn far_place<'t>(pattern: &[u8], text: &'t [u8]) -> Option<&'t [u8]>
     ensures { GoesOn pattern.now text.now result }
 {

@@ -1,6 +1,6 @@
 use Rattle.std.proofs.Common.{refl, arith}
 use Rattle.std.proofs.lemmas.Bool.{ne_eqb}
-use Rattle.vortex_stats_match.proofs.PieceLemmas.{stays, found_place, no_place}
+use Rattle.vortex_stats_match.proofs.FindLemmas.{stays, found_place, no_place}
 use Rattle.vortex_stats_match.proofs.matching.next_place.Goals as goal
 
 pub returns-in-None : goal.returns-in-None
@@ -18,5 +18,5 @@ returns-in-None-find c =
 
 pub returns-in-Some-find : goal.returns-in-Some-find
 returns-in-Some-find c =
-    found_place _ _ _ _ _ c.in-Some-find.place c.in-Some.ensures.cases.0 (ne_eqb _ _ c.if-sign-eq37.false) (ne_eqb _ _ c.if-sign-eq95.false)
+    found_place _ _ _ _ c.in-Some.ensures.cases.0 (ne_eqb _ _ c.if-sign-eq37.false) (ne_eqb _ _ c.if-sign-eq95.false) _ c.in-Some-find.place
     (omega (arith, c.in-Some-find.ensures.0.high)) c.in-Some-find.ensures.0.before refl
