@@ -6,9 +6,10 @@ boxes.py [--boxes N] [--seed S] [PROGRAM]    PROGRAM is crates/colscan/out/colsc
 The box of a chunk has a low and a high for each column of a predicate, and under a null test the
 null count and the number of rows. It is hopeless where no choice of one value a column, from its
 low to its high, makes the predicate true. A chunk that has all bounds has to be skipped exactly
-where its box is hopeless, if no column stands twice in the predicate and its tests are
-comparisons, BETWEENs with their ends, null tests, LIKEs of a text or of a beginning and truth
-values, joined by AND and OR. So each session makes a table of small types in many small chunks,
+where its box is hopeless, if the tests of the predicate are comparisons of a column with another or
+with a literal, BETWEENs with their ends, null tests, LIKEs of a text or of a beginning and truth
+values, joined by AND and OR, and no column stands on both sides of an AND, or both under a null
+test and outside. On both sides of an OR one may stand. So each session makes a table of small types in many small chunks,
 joins some groups and retypes now and then, and asks for many predicates, in lines of every
 spelling; what a box admits is tried value by value here.
 
@@ -174,55 +175,64 @@ def truth_leaf(draw):
     return Leaf(["lit", {"kind": "bool"}, truth], [], [], lambda at: truth)
 
 
-def random_leaf(draw, free):
-    """A leaf over one or two of the free columns, which it takes away."""
+def random_leaf(draw, free, tested):
+    """A leaf over one or two of the free columns: over one of the tested ones a null test."""
     if not free or draw.random() < 0.08:
         return truth_leaf(draw)
-    column = free.pop()
-    kind = draw.random()
-    if kind < 0.15:
+    column = draw.choice(free)
+    if column in tested:
         return null_leaf(draw, column)
-    if kind < 0.3 and column.kind == "utf8":
+    kind = draw.random()
+    if kind < 0.2 and column.kind == "utf8":
         return like_leaf(draw, column)
-    if kind < 0.4:
+    if kind < 0.3:
         return between_leaf(draw, column)
-    leaf = compare_leaf(draw, column, free)
-    free[:] = [it for it in free if it not in leaf.columns]
-    return leaf
+    return compare_leaf(draw, column, [it for it in free if it is not column and it not in tested])
 
 
 class Tree:
-    """Leaves under AND and OR, in which no column stands twice."""
+    """Leaves under AND and OR. No column stands on both sides of an AND, and none both under a null
+    test and outside; on both sides of an OR one may."""
 
     def __init__(self, draw, columns):
+        self.leaves = []
+        tested = [it for it in columns if draw.random() < 0.15]
         free = draw.sample(columns, len(columns))
-        parts = [random_leaf(draw, free) for _ in range(draw.randint(1, 3))]
-        self.leaves = parts
-        made = [(it.form, it.holds) for it in parts]
-        while len(made) > 1:
-            left, right, name = made.pop(), made.pop(), draw.choice(("and", "or"))
-            pair = (left[1], right[1])
-            if name == "and":
-                holds = lambda at, pair=pair: pair[0](at) and pair[1](at)
-            else:
-                holds = lambda at, pair=pair: pair[0](at) or pair[1](at)
-            made.append(([name, left[0], right[0]], holds))
-        self.form, self.holds = made[0]
+        self.form, self.holds = self.part(draw, free, tested, draw.randint(1, 4))
+
+    def part(self, draw, free, tested, size):
+        """A tree of so many leaves over the free columns: its JSON, and what it says."""
+        if size == 1:
+            leaf = random_leaf(draw, free, tested)
+            self.leaves.append(leaf)
+            return leaf.form, leaf.holds
+        name, cut = draw.choice(("and", "or")), draw.randint(0, len(free))
+        sides = (free[:cut], free[cut:]) if name == "and" else (free, free)
+        first = draw.randint(1, size - 1)
+        left = self.part(draw, sides[0], tested, first)
+        right = self.part(draw, sides[1], tested, size - first)
+        if name == "and":
+            holds = lambda at: left[1](at) and right[1](at)
+        else:
+            holds = lambda at: left[1](at) or right[1](at)
+        return [name, left[0], right[0]], holds
 
     def box(self, rows, columns):
         """The values to choose from, by column, or None where a bound is missing."""
-        found = {}
+        cells = {it: [row[columns.index(it)] for row in rows] for it in columns}
+        found, near = {}, {}
         for leaf in self.leaves:
-            cells = {it: [row[columns.index(it)] for row in rows] for it in leaf.columns}
             if leaf.null_test:
                 found.update((it.name, null_choices(cells[it])) for it in leaf.columns)
                 continue
-            bounds = {it: it.bounds(cells[it]) for it in leaf.columns}
-            if None in bounds.values():
+            bounds = [it.bounds(cells[it]) for it in leaf.columns]
+            if None in bounds:
                 return None
             # Two columns that are compared can be equal at a bound of the other one.
-            near = [*leaf.literals, *itertools.chain(*bounds.values())]
-            found.update((it.name, it.choices(bounds[it], near)) for it in leaf.columns)
+            for column in leaf.columns:
+                near.setdefault(column, []).extend([*leaf.literals, *itertools.chain(*bounds)])
+        for column, values in near.items():
+            found[column.name] = column.choices(column.bounds(cells[column]), values)
         return found
 
     def is_hopeless(self, box):
