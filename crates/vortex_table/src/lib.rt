@@ -208,6 +208,8 @@ pub mod expr {
     pub use vortex_stats_rules::meter::Meter;
     pub use vortex_stats_rules::negation::Never;
     pub use vortex_stats_rules::negation::NotLiteral;
+    pub use vortex_stats_rules::null_comparison::NullComparison;
+    pub use vortex_stats_rules::push_not::PushNot;
     pub use vortex_stats_rules::rewrite::falsify;
     pub use vortex_stats_rules::rewrite::satisfy;
     pub use vortex_stats_rules::rule::StatsRewriteRule;

@@ -58,6 +58,7 @@ fn run_all(alloc: Global, checks: &mut Checks<'_>) -> Result<(), TableError> {
     laws::changes_keep_their_laws(alloc, checks)?;
     checks.end_part("laws hold of the calls");
     rules::rules_add_proofs(alloc, checks)?;
+    rules::ready_rules_skip(alloc, checks)?;
     checks.end_part("rules add proofs");
     rules::rules_may_be_at_fault(alloc, checks)?;
     rules::proofs_may_be_at_fault(alloc, checks)?;

@@ -8,9 +8,12 @@ use vortex_dtype::{
 };
 use vortex_scalar::ScalarValue;
 use vortex_stats::{
-    Never, NotLiteral, ScalarFnId, StatsError, StatsRewriteRule, StatsRewriteRuleRef,
+    Never, NotLiteral, NullComparison, PushNot, ScalarFnId, StatsError, StatsRewriteRule,
+    StatsRewriteRuleRef,
 };
-use vortex_table::expr::{Expression, LikeOptions, and, eq, gt, like, not};
+use vortex_table::expr::{
+    BetweenOptions, Expression, LikeOptions, StrictComparison, and, between, eq, gt, like, not,
+};
 use vortex_table::table::{ScanAnswer, Table, TableError};
 
 /// What a rule for NOT answers.
@@ -124,23 +127,44 @@ fn faulty_rules(
     Ok(rules)
 }
 
-/// A table of {a=i32}.
-fn one_column(alloc: Global, rows: &[i32]) -> Result<Table, TableError> {
+/// A table of a column `a` of the type, with a row for each cell.
+fn table_along(
+    alloc: Global,
+    dtype: DType,
+    cells: Vec<Option<ScalarValue>>,
+) -> Result<Table, TableError> {
     let mut fields = Vec::new(alloc);
     fields.push(StructField {
         name: FieldName::new(alloc, "a")?,
-        dtype: integers(),
+        dtype,
     })?;
     let dtype = DType::Struct(StructFields::from_vec(fields)?, Nullability::NonNullable);
     let mut table = Table::create(alloc, dtype.clone()?, 16, &[])?;
     let mut values = Vec::new(alloc);
-    for n in rows {
-        let mut cells = Vec::new(alloc);
-        cells.push(cell(*n))?;
-        values.push(Some(ScalarValue::Tuple(cells)))?;
+    for cell in cells {
+        let mut row = Vec::new(alloc);
+        row.push(cell)?;
+        values.push(Some(ScalarValue::Tuple(row)))?;
     }
     table.append_owned(&dtype, values, &[])?;
     Ok(table)
+}
+
+/// A table of {a=i32}.
+fn one_column(alloc: Global, rows: &[i32]) -> Result<Table, TableError> {
+    let mut cells = Vec::new(alloc);
+    for n in rows {
+        cells.push(cell(*n))?;
+    }
+    table_along(alloc, integers(), cells)
+}
+
+/// A table of {a=i32?} with two nulls.
+fn two_nulls(alloc: Global) -> Result<Table, TableError> {
+    let mut cells = Vec::new(alloc);
+    cells.push(None)?;
+    cells.push(None)?;
+    table_along(alloc, integers().as_nullable()?, cells)
 }
 
 /// Scans along `a` by NOT of the truth value, with these rules.
@@ -153,6 +177,55 @@ fn scan_not(
     let mut paths = Vec::new(alloc);
     paths.push(FieldPath::from_names(alloc, &["a"])?)?;
     table.scan_with(alloc, &paths, &not(alloc, truth(value)?)?, rules)
+}
+
+/// Scans along `a` by the predicate, with the two rules that planners need first.
+fn scan_by(
+    alloc: Global,
+    table: &Table,
+    predicate: &Expression,
+) -> Result<ScanAnswer, TableError> {
+    let mut rules: Vec<StatsRewriteRuleRef> = Vec::new(alloc);
+    rules.push(Box::new(alloc, PushNot)?)?;
+    rules.push(Box::new(alloc, NullComparison)?)?;
+    let mut paths = Vec::new(alloc);
+    paths.push(FieldPath::from_names(alloc, &["a"])?)?;
+    table.scan_with(alloc, &paths, predicate, &rules)
+}
+
+/// NOT pushed inward skips what its predicate does, and a column of nulls is equal to nothing.
+pub fn ready_rules_skip(alloc: Global, checks: &mut Checks<'_>) -> Result<(), TableError> {
+    let table = one_column(alloc, &[1, 2])?;
+    let none = not(alloc, gt(alloc, column(alloc, "a")?, number(0)?)?)?;
+    let skipped = scan_by(alloc, &table, &none)?;
+    checks.holds(
+        "NOT of a comparison: skipped",
+        skipped.rows.is_empty() && skipped.skipped.as_slice() == [0].as_slice(),
+    );
+    let some = not(alloc, gt(alloc, column(alloc, "a")?, number(1)?)?)?;
+    let tested = scan_by(alloc, &table, &some)?;
+    checks.holds(
+        "NOT of a comparison: tested",
+        begin_with(&tested, &[1]) && tested.rows_tested == 2,
+    );
+    let options = BetweenOptions {
+        lower_strict: StrictComparison::NonStrict,
+        upper_strict: StrictComparison::NonStrict,
+    };
+    let ends = between(alloc, column(alloc, "a")?, number(1)?, number(2)?, options)?;
+    let outside = scan_by(alloc, &table, &not(alloc, ends)?)?;
+    checks.holds(
+        "NOT of a BETWEEN: skipped",
+        outside.rows.is_empty() && outside.skipped.as_slice() == [0].as_slice(),
+    );
+    let nulls = two_nulls(alloc)?;
+    let eight = eq(alloc, column(alloc, "a")?, number(8)?)?;
+    let equal = scan_by(alloc, &nulls, &eight)?;
+    checks.holds(
+        "a column of nulls: skipped",
+        equal.rows.is_empty() && equal.skipped.as_slice() == [0].as_slice(),
+    );
+    Ok(())
 }
 
 /// NOT has no built-in proofs, and those of two rules decide it.
