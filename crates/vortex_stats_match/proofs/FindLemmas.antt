@@ -204,11 +204,11 @@ found_before p begun value left q e = at (past_char value) q
         by_truth (goes_on b)
         (λ on. absurd (cc (sym (ap (λ t. if t then None else Some (past_char bs)) on) ∙ f)))
         (λ off.
-            let is : past_char bs ≡ left = some_same (sym (ap (λ t. if t then None else Some (past_char bs)) off) ∙ f) in
-            let some : some_end p (past_char bs) ≡ true = ap (some_end p) is ∙ e in
-            ⊎_elim (λ first. first_end r (b ∷ bs) (one_left p b bs off (first (past_char bs) some)))
-            (λ clean. ⊎_elim (λ here. first_end r (b ∷ bs) (one_left p b bs off here)) (λ later. or_later (r (b ∷ bs)) (some_end r bs) later)
-            (before p clean bs some)) begun)
+        let is : past_char bs ≡ left = some_same (sym (ap (λ t. if t then None else Some (past_char bs)) off) ∙ f) in
+        let some : some_end p (past_char bs) ≡ true = ap (some_end p) is ∙ e in
+        ⊎_elim (λ first. first_end r (b ∷ bs) (one_left p b bs off (first (past_char bs) some)))
+        (λ clean. ⊎_elim (λ here. first_end r (b ∷ bs) (one_left p b bs off here)) (λ later. or_later (r (b ∷ bs)) (some_end r bs) later)
+        (before p clean bs some)) begun)
 
 same_ends : (p q : List ℕ → Bool) → ((v : List ℕ) → p v ≡ q v) → (bs : List ℕ) → some_end p bs ≡ some_end q bs
 same_ends p q h [] = h []
@@ -276,8 +276,8 @@ begun [] off = inr (λ b bs on e. cc e)
 begun (a ∷ rest) off =
     by_truth (a == 37)
     (λ any. inl (λ bs e.
-        let k = found_end (byte_matches (a ∷ rest)) bs e in
-        reads any bs ∙ end_of_drop (byte_matches rest) k.0 bs (sym (reads any (drop k.0 bs)) ∙ k.1)))
+    let k = found_end (byte_matches (a ∷ rest)) bs e in
+    reads any bs ∙ end_of_drop (byte_matches rest) k.0 bs (sym (reads any (drop k.0 bs)) ∙ k.1)))
     (λ plain. by_truth (a == 95)
     (λ one. inr (λ b bs on e. cc (sym (misses b bs plain one on) ∙ e)))
     (λ other. inr (λ b bs on e. cc (sym on ∙ ap goes_on (takes_itself a b rest bs plain other e).0 ∙ off))))
@@ -385,12 +385,11 @@ spread form value left a c k rest p plain_a plain_c within h e =
   where
     at : (j : ℕ) → j < k → (2 < length (drop j value)) × (may_stand a c (drop j value) 0 ≡ true) → ⊥
     at j lt here =
-        cc (sym (h j lt (omega (arith, here.0, length-drop j value))) 
+        cc (sym (h j lt (omega (arith, here.0, length-drop j value)))
         ∙ sym (ap (λ n. may n (get_or (drop j value) 2 0)) (first_of_drop value j) ∙ ap (λ n. may (get_or value j 0) n) (get_or-drop j value 2 0)) ∙ here.1)
       where
         may : ℕ → ℕ → Bool
         may x z = (x == a) && ((z == c) || not (nat_lt z 128))
-
 
 -- where they stand nowhere before a block of the text and nowhere in it, they do so nowhere before its end
 pub stands_on : (a c : ℕ) (value : List ℕ) (at m n : ℕ) → StandsNowhere a c value at → StandsNowhere a c (take m (drop at value)) (length (take m (drop at value)))

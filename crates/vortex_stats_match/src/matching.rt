@@ -4,9 +4,11 @@
 //! other character for itself, so letters keep their case. Nothing is allocated or decoded: a
 //! character is a byte and those that go on with it. A pattern is met piece by piece, where a piece
 //! ends at a `%`: since the next piece may stand anywhere further on, the first place where a piece
-//! fits is as good as each later one, and no earlier piece is tried again. So the time is at worst
-//! the length of the text times that of the pattern. The byte that a piece begins with is searched
-//! for, unless it is a sign.
+//! fits is as good as each later one, and no earlier piece is tried again. A `_` right behind a `%`
+//! takes the first character there, for the same reason. In a long text the bytes that a piece
+//! begins with, up to its first `_`, are found by a search of linear time, and if they are all that
+//! stands behind the last `%`, only the end of the text is tried. So the time is at worst the length
+//! of the text times that of one piece, which has a `_` behind other bytes.
 ghost use Rattle.std.specs.Prelude.{◌≡◌, ◌≤◌, length, false, option_copied};
 ghost use Rattle.memchr.specs.Find.{IsFirstByte, is_byte};
 ghost use Rattle.vortex_model_table.specs.Like.{some_end};
@@ -135,8 +137,8 @@ fn find(sign: u8, text: &[u8]) -> Option<usize>
     }
 }
 
-// The text from a place on before which the bytes that the pattern begins with, up to its first sign,
-// stand nowhere. A pattern without a sign can only be the end of the text.
+// The text from a place on before which the bytes that the pattern begins with, up to its first
+// sign, stand nowhere. A pattern without a sign can only be the end of the text.
 fn far_place<'t>(pattern: &[u8], text: &'t [u8]) -> Option<&'t [u8]>
     ensures { GoesOn pattern.now text.now result }
 {

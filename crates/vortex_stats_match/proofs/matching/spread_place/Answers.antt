@@ -1,4 +1,4 @@
-use Rattle.std.proofs.Common.{◌∙◌, sym, length, ◌+◌, ◌-◌, arith}
+use Rattle.std.proofs.Common.{length, ◌+◌, ◌-◌, arith}
 use Rattle.vortex_stats_match.proofs.FindLemmas.{stands_on}
 use Rattle.vortex_stats_match.proofs.matching.spread_place.Goals as goal
 
