@@ -54,10 +54,6 @@ abbrev pub TakesOne : List ℕ → List ℕ → Option (Bor (List ℕ)) → Type
 TakesOne behind value None = some_end (byte_matches (95 ∷ behind)) value ≡ false
 TakesOne behind value (Some left) = IsTaken behind value left.now
 
--- the byte of a form is % (37) or _ (95)
-abbrev pub is_sign : ℕ → Bool
-is_sign b = (b == 37) || (b == 95)
-
 -- The byte a stands at place k, and two places behind it stands c or a byte that may go on with the
 -- character between.
 abbrev pub may_stand : ℕ → ℕ → List ℕ → ℕ → Bool

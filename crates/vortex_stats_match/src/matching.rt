@@ -7,13 +7,14 @@
 //! fits is as good as each later one, and no earlier piece is tried again. A `_` right behind a `%`
 //! takes the first character there, for the same reason. In a long text the bytes that a piece
 //! begins with, up to its first `_`, are found by a search of linear time, and if they are all that
-//! stands behind the last `%`, only the end of the text is tried. So the time is at worst the length
-//! of the text times that of one piece, which has a `_` behind other bytes.
+//! stands behind the last `%`, only the end of the text is tried. So the time is at worst the
+//! length of the text times that of one piece, which has a `_` behind other bytes.
 ghost use Rattle.std.specs.Prelude.{◌≡◌, ◌≤◌, length, false, option_copied};
 ghost use Rattle.memchr.specs.Find.{IsFirstByte, is_byte};
 ghost use Rattle.vortex_model_table.specs.Like.{some_end};
 ghost use Rattle.vortex_stats_match.specs.Bytes.{goes_on, begins_inside, past_char, left_by, byte_matches};
-ghost use Rattle.vortex_stats_match.specs.Pieces.{IsPlace, Meets, MeetsLater, GoesOn, StandsNowhere, TakesOne, is_sign};
+ghost use Rattle.vortex_stats_match.specs.Fronts.{is_plain};
+ghost use Rattle.vortex_stats_match.specs.Pieces.{IsPlace, Meets, MeetsLater, GoesOn, StandsNowhere, TakesOne};
 
 use memchr::{memchr, memchr2, memmem};
 
@@ -27,11 +28,11 @@ enum Piece<'a, 'b> {
     Wildcard { pattern: &'a [u8], text: &'b [u8] },
 }
 
-// Whether the byte of a pattern stands for others.
-fn is_sign(byte: u8) -> bool
-    ensures { result ≡ is_sign byte }
+// Whether the byte of a pattern stands for itself.
+pub(crate) fn is_plain(byte: u8) -> bool
+    ensures { result ≡ is_plain byte }
 {
-    byte == b'%' || byte == b'_'
+    byte != b'%' && byte != b'_'
 }
 
 // Whether the byte goes on with a character, and begins none.
@@ -233,7 +234,7 @@ fn past_spread<'t>(pattern: &[u8], text: &'t [u8]) -> &'t [u8]
         return text;
     }
     let (first, second, third) = (pattern[0], pattern[1], pattern[2]);
-    if second != b'_' || is_sign(first) || is_sign(third) {
+    if second != b'_' || !is_plain(first) || !is_plain(third) {
         return text;
     }
     &text[spread_place(first, third, text)..]
