@@ -1,5 +1,5 @@
 -- How the piece of a LIKE pattern before its first % meets a text.
-use Rattle.std.specs.Prelude.{◌≡◌, ◌<◌, ◌≤◌, ℕ, List, ◌∷◌, length, ◌+◌, ◌==◌, ◌&&◌, ◌||◌, not, nat_lt, slice_index, Bool, true, false}
+use Rattle.std.specs.Prelude.{◌≡◌, ◌<◌, ◌≤◌, ℕ, List, [], ◌∷◌, if◌then◌else◌, length, ◌+◌, ◌==◌, ◌&&◌, ◌||◌, not, nat_lt, slice_index, Bool, true, false}
 use Rattle.std.specs.Prelude.{Option, Some, None}
 use denote.Ref.{Bor}
 use Rattle.vortex_model_table.specs.Like.{some_end}
@@ -62,3 +62,8 @@ may_stand a c value k = (slice_index value k == a) && ((slice_index value (k + 2
 -- they stand so at no place before n
 abbrev pub StandsNowhere : ℕ → ℕ → List ℕ → ℕ → Type 0
 StandsNowhere a c value n = (k : ℕ) → k < n → k + 2 < length value → may_stand a c value k ≡ false
+
+-- no _ (95) stands before the first % (37)
+abbrev pub is_bare : List ℕ → Bool
+is_bare [] = true
+is_bare (a ∷ form) = if a == 37 then true else (if a == 95 then false else is_bare form)
