@@ -235,7 +235,9 @@ fn spread_place(first: u8, third: u8, text: &[u8]) -> usize
         }
         at += 32;
     }
-    if may_stand(first, third, &text[at..]) {
+    // What is left is tested with some bytes that were, since as many as above go at once.
+    let tail = text.len().saturating_sub(34);
+    if may_stand(first, third, &text[tail..]) {
         at
     } else {
         text.len()
