@@ -8,7 +8,8 @@ use Rattle.std.specs.Prelude.{option_copied}
 use denote.Ref.{Bor}
 use Rattle.vortex_model_table.specs.Like.{some_end}
 use Rattle.vortex_stats_match.specs.Bytes.{goes_on, begins_inside, past_char, left_by, is_left, byte_matches}
-use Rattle.vortex_stats_match.specs.Pieces.{IsPlace, IsTaken, StandsNowhere, TakesOne, is_sign, may_stand}
+use Rattle.vortex_stats_match.specs.Fronts.{is_plain}
+use Rattle.vortex_stats_match.specs.Pieces.{IsPlace, IsTaken, StandsNowhere, TakesOne, may_stand}
 use Rattle.vortex_stats_match.proofs.SignLemmas.{first_end, end_of_drop, found_end, same_truth, plain_sign, width, inners, inners_within, past_is_drop, left_is_drop, no_earlier}
 
 not_true : (b : Bool) → (b ≡ true → ⊥) → b ≡ false
@@ -336,16 +337,21 @@ takes_one behind value (Some left) off q = taken behind value left.now off q
 
 -- ---- a byte, a _ and another byte
 
+no_sign : (x y : Bool) → not x && not y ≡ true → (x ≡ false) × (y ≡ false)
+no_sign true y e = absurd (cc e)
+no_sign false true e = absurd (cc e)
+no_sign false false e = (refl, refl)
+
 -- where the form matches, they may stand
-spread_first : (a c : ℕ) (rest value : List ℕ) → is_sign a ≡ false → is_sign c ≡ false → byte_matches (a ∷ 95 ∷ c ∷ rest) value ≡ true
+spread_first : (a c : ℕ) (rest value : List ℕ) → is_plain a ≡ true → is_plain c ≡ true → byte_matches (a ∷ 95 ∷ c ∷ rest) value ≡ true
     → (2 < length value) × (may_stand a c value 0 ≡ true)
 spread_first a c rest value p q e = at value e
   where
     a_plain : ((a == 37) ≡ false) × ((a == 95) ≡ false)
-    a_plain = neither (a == 37) (a == 95) (λ t. cc (sym p ∙ t))
+    a_plain = no_sign (a == 37) (a == 95) p
 
     c_plain : ((c == 37) ≡ false) × ((c == 95) ≡ false)
-    c_plain = neither (c == 37) (c == 95) (λ t. cc (sym q ∙ t))
+    c_plain = no_sign (c == 37) (c == 95) q
 
     both : (x y z : ℕ) → x ≡ a → (z ≡ c) ⊎ (not (nat_lt z 128) ≡ true) → (x == a) && ((z == c) || not (nat_lt z 128)) ≡ true
     both x y z is (inl f) = ap (λ t. t && ((z == c) || not (nat_lt z 128))) (eq-eqb x a is) ∙ ap (λ t. t || not (nat_lt z 128)) (eq-eqb z c f)
@@ -378,7 +384,7 @@ spread_first a c rest value p q e = at value e
         let on = takes_itself a x (95 ∷ c ∷ rest) (y ∷ z ∷ zs) a_plain.0 a_plain.1 f in
         (omega arith, both x y z on.0 (third z zs (behind y (z ∷ zs) on.1)))
 
-pub spread : (form value left : List ℕ) (a c k : ℕ) (rest : List ℕ) → form ≡ a ∷ 95 ∷ c ∷ rest → is_sign a ≡ false → is_sign c ≡ false → k ≤ length value
+pub spread : (form value left : List ℕ) (a c k : ℕ) (rest : List ℕ) → form ≡ a ∷ 95 ∷ c ∷ rest → is_plain a ≡ true → is_plain c ≡ true → k ≤ length value
     → StandsNowhere a c value k → left ≡ take (length value - k) (drop k value) → IsPlace form value left
 spread form value left a c k rest p plain_a plain_c within h e =
     place form value left k within (λ j lt f. at j lt (spread_first a c rest (drop j value) plain_a plain_c (ap (λ s. byte_matches s (drop j value)) (sym p) ∙ f))) e

@@ -1,11 +1,9 @@
 -- What holds on the way through the piece of a LIKE pattern before its first %, and where it begins.
-use Rattle.std.proofs.Common.{◌≡◌, refl, sym, ap, ◌∙◌, ℕ, suc, zero, ◌+◌, ◌-◌, ◌<◌, ◌≤◌, List, [], ◌∷◌, length, take, drop, get_or, Bool, true, false, ◌||◌, ◌==◌, if◌then◌else◌, Option, Some, None, arith}
-use Rattle.std.proofs.lemmas.Bool.{eq-eqb, ne_eqb}
-use Rattle.std.proofs.lemmas.List.{drop-drop, length-drop, take_all}
-use Rattle.std.proofs.Math.Seq.{drop-length}
+use Rattle.std.proofs.Common.{◌≡◌, refl, sym, ap, ◌∙◌, ℕ, ◌+◌, ◌-◌, ◌≤◌, List, [], ◌∷◌, length, drop, true, false, ◌||◌, ◌==◌, Option, Some, None, arith}
+use Rattle.std.proofs.lemmas.List.{drop-drop, length-drop}
 use Rattle.vortex_model_table.specs.Like.{some_end}
-use Rattle.vortex_stats_match.specs.Bytes.{goes_on, past_char, left_by, is_left, byte_matches}
-use Rattle.vortex_stats_match.specs.Pieces.{IsWildcard, IsPlace}
+use Rattle.vortex_stats_match.specs.Bytes.{left_by, is_left, byte_matches}
+use Rattle.vortex_stats_match.specs.Pieces.{IsWildcard}
 use Rattle.vortex_stats_match.proofs.SignLemmas.{first_end, end_of_drop, found_end, same_truth, plain_sign, empty_form, width, left_is_drop, no_earlier}
 
 -- So far the piece has taken so many bytes. What the pattern makes of the text is what its rest

@@ -1,5 +1,5 @@
 -- How the piece of a LIKE pattern before its first % meets a text.
-use Rattle.std.specs.Prelude.{◌≡◌, ◌<◌, ◌≤◌, ℕ, List, ◌∷◌, length, ◌+◌, ◌==◌, ◌&&◌, ◌||◌, not, nat_lt, slice_index, Bool, true, false}
+use Rattle.std.specs.Prelude.{◌≡◌, ◌<◌, ◌≤◌, ℕ, List, [], ◌∷◌, if◌then◌else◌, length, ◌+◌, ◌==◌, ◌&&◌, ◌||◌, not, nat_lt, slice_index, Bool, true, false}
 use Rattle.std.specs.Prelude.{Option, Some, None}
 use denote.Ref.{Bor}
 use Rattle.vortex_model_table.specs.Like.{some_end}
@@ -54,10 +54,6 @@ abbrev pub TakesOne : List ℕ → List ℕ → Option (Bor (List ℕ)) → Type
 TakesOne behind value None = some_end (byte_matches (95 ∷ behind)) value ≡ false
 TakesOne behind value (Some left) = IsTaken behind value left.now
 
--- the byte of a form is % (37) or _ (95)
-abbrev pub is_sign : ℕ → Bool
-is_sign b = (b == 37) || (b == 95)
-
 -- The byte a stands at place k, and two places behind it stands c or a byte that may go on with the
 -- character between.
 abbrev pub may_stand : ℕ → ℕ → List ℕ → ℕ → Bool
@@ -66,3 +62,8 @@ may_stand a c value k = (slice_index value k == a) && ((slice_index value (k + 2
 -- they stand so at no place before n
 abbrev pub StandsNowhere : ℕ → ℕ → List ℕ → ℕ → Type 0
 StandsNowhere a c value n = (k : ℕ) → k < n → k + 2 < length value → may_stand a c value k ≡ false
+
+-- no _ (95) stands before the first % (37)
+abbrev pub is_bare : List ℕ → Bool
+is_bare [] = true
+is_bare (a ∷ form) = if a == 37 then true else (if a == 95 then false else is_bare form)

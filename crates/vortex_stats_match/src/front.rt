@@ -5,7 +5,7 @@ ghost use Rattle.vortex_arrays_view.specs.Views.{value_of};
 ghost use Rattle.vortex_stats_match.specs.Bytes.{byte_matches};
 ghost use Rattle.vortex_stats_match.specs.Fronts.{is_plain, begins_plain};
 
-use crate::matching::are_like;
+use crate::matching::{are_like, is_plain};
 use crate::value::value_in;
 use bytes::Bytes;
 use vortex_arrays_view::view::BinaryView;
@@ -68,12 +68,6 @@ impl Front for AnyFront {
     fn admits(&self, _view: &BinaryView) -> bool {
         true
     }
-}
-
-fn is_plain(byte: u8) -> bool
-    ensures { result ≡ is_plain byte }
-{
-    byte != b'%' && byte != b'_'
 }
 
 fn are_plain(bytes: &[u8]) -> bool

@@ -5,15 +5,16 @@
 //! character is a byte and those that go on with it. A pattern is met piece by piece, where a piece
 //! ends at a `%`: since the next piece may stand anywhere further on, the first place where a piece
 //! fits is as good as each later one, and no earlier piece is tried again. A `_` right behind a `%`
-//! takes the first character there, for the same reason. In a long text the bytes that a piece
-//! begins with, up to its first `_`, are found by a search of linear time, and if they are all that
-//! stands behind the last `%`, only the end of the text is tried. So the time is at worst the length
-//! of the text times that of one piece, which has a `_` behind other bytes.
+//! takes the first character there, for the same reason. In a long text a piece without a `_` is
+//! found by a search of linear time, or behind the last `%` at the end of the text alone. So the
+//! time is at worst the length of the text times that of one piece, which has a `_` behind other
+//! bytes.
 ghost use Rattle.std.specs.Prelude.{◌≡◌, ◌≤◌, length, false, option_copied};
 ghost use Rattle.memchr.specs.Find.{IsFirstByte, is_byte};
 ghost use Rattle.vortex_model_table.specs.Like.{some_end};
 ghost use Rattle.vortex_stats_match.specs.Bytes.{goes_on, begins_inside, past_char, left_by, byte_matches};
-ghost use Rattle.vortex_stats_match.specs.Pieces.{IsPlace, Meets, MeetsLater, GoesOn, StandsNowhere, TakesOne, is_sign};
+ghost use Rattle.vortex_stats_match.specs.Fronts.{is_plain};
+ghost use Rattle.vortex_stats_match.specs.Pieces.{is_bare, IsPlace, Meets, MeetsLater, GoesOn, StandsNowhere, TakesOne};
 
 use memchr::{memchr, memchr2, memmem};
 
@@ -27,11 +28,11 @@ enum Piece<'a, 'b> {
     Wildcard { pattern: &'a [u8], text: &'b [u8] },
 }
 
-// Whether the byte of a pattern stands for others.
-fn is_sign(byte: u8) -> bool
-    ensures { result ≡ is_sign byte }
+// Whether the byte of a pattern stands for itself.
+pub(crate) fn is_plain(byte: u8) -> bool
+    ensures { result ≡ is_plain byte }
 {
-    byte == b'%' || byte == b'_'
+    byte != b'%' && byte != b'_'
 }
 
 // Whether the byte goes on with a character, and begins none.
@@ -156,12 +157,29 @@ fn far_place<'t>(pattern: &[u8], text: &'t [u8]) -> Option<&'t [u8]>
     }
 }
 
-// The text from a place on before which no end of it matches.
-fn next_place<'t>(pattern: &[u8], text: &'t [u8]) -> Option<&'t [u8]>
+// Whether no `_` stands in the first piece of the pattern.
+fn is_bare(pattern: &[u8]) -> bool
+    ensures { result ≡ is_bare pattern.now }
+{
+    let mut signs = pattern;
+    while let Some((sign, behind)) = signs.split_first() {
+        if *sign == b'%' {
+            return true;
+        }
+        if *sign == b'_' {
+            return false;
+        }
+        signs = behind;
+    }
+    true
+}
+
+// The text from a place on before which no end of it matches. A far one is searched for in linear
+// time.
+fn next_place<'t>(is_far: bool, pattern: &[u8], text: &'t [u8]) -> Option<&'t [u8]>
     ensures { GoesOn pattern.now text.now result }
 {
-    // What a search of linear time makes ready takes longer than to look at so few places.
-    if text.len() >= 128 {
+    if is_far {
         return far_place(pattern, text);
     }
     match pattern.split_first() {
@@ -217,7 +235,9 @@ fn spread_place(first: u8, third: u8, text: &[u8]) -> usize
         }
         at += 32;
     }
-    if may_stand(first, third, &text[at..]) {
+    // What is left is tested with some bytes that were, since as many as above go at once.
+    let tail = text.len().saturating_sub(34);
+    if may_stand(first, third, &text[tail..]) {
         at
     } else {
         text.len()
@@ -233,7 +253,7 @@ fn past_spread<'t>(pattern: &[u8], text: &'t [u8]) -> &'t [u8]
         return text;
     }
     let (first, second, third) = (pattern[0], pattern[1], pattern[2]);
-    if second != b'_' || is_sign(first) || is_sign(third) {
+    if second != b'_' || !is_plain(first) || !is_plain(third) {
         return text;
     }
     &text[spread_place(first, third, text)..]
@@ -243,8 +263,11 @@ fn past_spread<'t>(pattern: &[u8], text: &'t [u8]) -> &'t [u8]
 fn meet_later<'a, 'b>(pattern: &'a [u8], text: &'b [u8]) -> Piece<'a, 'b>
     ensures { MeetsLater pattern.now text.now result }
 {
+    // What the search of linear time makes ready takes longer than to look at fewer places. Of a
+    // piece that has a `_` it would be made ready for each place where the bytes before that stand.
+    let is_far = text.len() >= 128 && is_bare(pattern);
     let mut ends = past_spread(pattern, text);
-    while let Some(place) = next_place(pattern, ends) {
+    while let Some(place) = next_place(is_far, pattern, ends) {
         match meet(pattern, place) {
             Piece::IsWhole => return Piece::IsWhole,
             Piece::Wildcard { pattern, text } => return Piece::Wildcard { pattern, text },

@@ -1,4 +1,4 @@
-use Rattle.std.proofs.Common.{refl, length, arith}
+use Rattle.std.proofs.Common.{refl, arith}
 use Rattle.vortex_stats_match.proofs.FindLemmas.{short_text, last_place, nowhere, place, occurs}
 use Rattle.vortex_stats_match.proofs.matching.far_place.Goals as goal
 

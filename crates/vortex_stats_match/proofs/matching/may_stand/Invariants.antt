@@ -1,4 +1,4 @@
-use Rattle.std.proofs.Common.{◌≡◌, ℕ, ◌+◌, ◌<◌, length, false}
+use Rattle.std.proofs.Common.{◌≡◌, ℕ, ◌+◌, ◌<◌, false}
 use Rattle.vortex_stats_match.specs.Pieces.{may_stand}
 use Rattle.vortex_stats_match.proofs.matching.may_stand.Given as goal
 

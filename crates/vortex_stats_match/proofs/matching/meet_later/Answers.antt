@@ -1,4 +1,4 @@
-use Rattle.std.proofs.Common.{◌∙◌, sym, arith}
+use Rattle.std.proofs.Common.{◌∙◌, arith}
 use Rattle.vortex_stats_match.specs.Bytes.{byte_matches}
 use Rattle.vortex_stats_match.proofs.SignLemmas.{first_end}
 use Rattle.vortex_stats_match.proofs.PieceLemmas.{no_end, next_end}

@@ -1,4 +1,4 @@
-use Rattle.std.proofs.Common.{◌∙◌, sym, length, ◌+◌, ◌-◌, arith}
+use Rattle.std.proofs.Common.{length, ◌+◌, ◌-◌, arith}
 use Rattle.vortex_stats_match.proofs.FindLemmas.{stands_on}
 use Rattle.vortex_stats_match.proofs.matching.spread_place.Goals as goal
 
@@ -12,5 +12,7 @@ loop-at-preserved c = record {
 
 pub returns-else-may_stand-2-clause-passed : goal.returns-else-may_stand-2-clause-passed
 returns-else-may_stand-2-clause-passed c =
-    stands_on c.args.first c.args.third c.args.text.now c.loop-at.at (length c.args.text.now - c.loop-at.at) _ c.loop-at.invariant.passed (c.may_stand-2.ensures c.if-may_stand-2.false)
-    (omega (arith, c.loop-at.invariant.within)) (λ k lt room. omega (arith, room, c.loop-at.invariant.within))
+    let tail = c.saturating_sub-tail.result in
+    stands_on c.args.first c.args.third c.args.text.now tail (length c.args.text.now - tail) _
+    (λ k lt room. c.loop-at.invariant.passed k (omega (arith, lt, c.saturating_sub-tail.ensures, c.loop-at-test.false)) room) (c.may_stand-2.ensures c.if-may_stand-2.false)
+    (omega (arith, c.saturating_sub-tail.ensures)) (λ k lt room. omega (arith, room))
