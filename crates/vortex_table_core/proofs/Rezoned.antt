@@ -33,9 +33,9 @@ bounds_same : (lengths : List ℕ) (leaves : List Positions) (bs ds : List Colum
     AreBoundsOf lengths leaves bs rows → AreBoundsOf lengths leaves ds rows → SaysSame j (bs, n) (ds, m)
 bounds_same [] [] [] [] rows j n m p q = record { low = refl; high = refl; nulls = refl }
 bounds_same (L ∷ lengths) (is ∷ leaves) (b ∷ bs) (d ∷ ds) rows zero n m p q = record {
-  low = ap shown (p.0.low ∙ sym q.0.low);
-  high = ap shown (p.0.high ∙ sym q.0.high);
-  nulls = ap (λ k. integer (pos k)) (p.0.nulls ∙ sym q.0.nulls);
+  low = ap shown (p.0.zone.low ∙ sym q.0.zone.low);
+  high = ap shown (p.0.zone.high ∙ sym q.0.zone.high);
+  nulls = ap (λ k. integer (pos k)) (p.0.zone.nulls ∙ sym q.0.zone.nulls);
 }
 bounds_same (L ∷ lengths) (is ∷ leaves) (b ∷ bs) (d ∷ ds) rows (suc j) n m p q =
     let behind = bounds_same lengths leaves bs ds rows j n m p.1 q.1 in
