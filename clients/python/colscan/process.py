@@ -121,6 +121,7 @@ class Session:
     def ask_line(self, line: bytes) -> Dict[str, Any]:
         """Sends a line, which may be no command, and returns the answer."""
         answer = self.answer_line(line)
+        found: Dict[str, Any]
         try:
             found = json.loads(answer.decode("utf-8"))
         except (ValueError, RecursionError):
@@ -197,7 +198,7 @@ class Session:
     def _ended(self, when: str) -> SessionEnded:
         """Why there is nothing to read or write."""
         try:
-            status: Optional[int] = self._process.wait(1.0)
+            status = self._process.wait(1.0)
         except subprocess.TimeoutExpired:
             return SessionEnded("the program closed its pipes " + when)
         self._errors.seek(0)

@@ -28,7 +28,9 @@ OTHER_NAMES = {
     "bytes": "binary", "blob": "binary", "bytea": "binary",
     "boolean": "bool", "bit": "bool", "array": "list", "record": "struct", "object": "struct",
 }  # fmt: skip
-FLOATS = frozenset(("float", "double", "real", "float16", "float32", "float64", "f16", "f32", "f64"))
+FLOATS = frozenset(
+    ("float", "double", "real", "float16", "float32", "float64", "f16", "f32", "f64")
+)
 
 
 @dataclass(frozen=True)
@@ -120,9 +122,20 @@ TypeLike = Union[Type, str, Mapping[str, Any]]
 PathLike = Union[str, Sequence[str]]
 
 
+# Words of written predicates, which as names stand between quotes.
+WORDS = frozenset(
+    ("and", "or", "not", "is", "null", "in", "between", "like", "true", "false")
+)
+
+
 def quoted(name: str) -> str:
-    """A name as written types and predicates have it."""
-    return name if name.isidentifier() else '"%s"' % name.replace('"', '""')
+    """A name as written types and predicates have it.
+
+    >>> quoted("a"), quoted("and"), quoted("the name")
+    ('a', '"and"', '"the name"')
+    """
+    is_plain = re.fullmatch(r"[^\W\d]\w*", name) and name.lower() not in WORDS
+    return name if is_plain else '"%s"' % name.replace('"', '""')
 
 
 def parse(written: TypeLike) -> Type:
@@ -205,7 +218,8 @@ class _Reader:
 
     def struct_type(self) -> Type:
         self.need("<")
-        names, children = [], []
+        names: List[str] = []
+        children: List[Type] = []
         while not self.take(">"):
             if names:
                 self.need(",")

@@ -20,6 +20,7 @@ from typing import Any, List, NamedTuple, Optional
 
 from .errors import BadPredicate, BadType, BadWhere
 from .predicates import COMPARISONS, Predicate, col, lit
+from .types import WORDS
 
 TOKEN = re.compile(
     r"""\s*(?:
@@ -31,9 +32,6 @@ TOKEN = re.compile(
     | (?P<sign>::|==|<>|!=|<=|>=|&&|\|\||\S)
     )""",
     re.VERBOSE,
-)
-WORDS = frozenset(
-    ("and", "or", "not", "is", "null", "in", "between", "like", "true", "false")
 )
 # What people write by habit.
 HABITS = {

@@ -22,6 +22,7 @@ TIMEOUT = 30.0
 # The optional parts, and what each is for.
 OPTIONAL = {
     "pandas": "frames",
+    "numpy": "numbers of numpy",
     "dask": "partitions",
     "distributed": "Dask's own scheduler on local processes",
     "selenium": "pages in a browser",
