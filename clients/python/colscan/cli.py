@@ -100,7 +100,8 @@ def split(words: Sequence[str], found: Dict[str, argparse.ArgumentParser]) -> Li
             steps.append([word])
             wanted = STEPS[word]
         else:
-            raise SystemExit("usage: %s\n\n%r is no step" % (USAGE, word))
+            print("usage: %s\n\n%r is no step" % (USAGE, word), file=sys.stderr)
+            raise SystemExit(2)
         at += 1
     return steps
 

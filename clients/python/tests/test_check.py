@@ -154,7 +154,7 @@ def changed(chance: random.Random, line: bytes) -> bytes:
     at = chance.randrange(len(text) + 1)
     roll = chance.random()
     if roll < 0.4:
-        text[at:at] = chance.choice([b",", b" ", b"]", b"}", b'"', b"\\", b"0", b"-", b".", b"\xff"])
+        text[at:at] = chance.choice(PIECES)
     elif roll < 0.8:
         del text[at : at + 1]
     else:
@@ -162,6 +162,7 @@ def changed(chance: random.Random, line: bytes) -> bytes:
     return bytes(text).replace(b"\n", b" ")
 
 
+PIECES = [b",", b" ", b"]", b"}", b'"', b"\\", b"0", b"-", b".", b"\xff"]
 ODD: List[Any] = [
     None, True, False, 0, -1, 1.5, 2**64, "", "x", "i32", "00", [], {}, [[]], ["col", "a"],
     {"kind": "i32"}, {"kind": "int"}, ["row_count"], ["lit", {"kind": "u8"}, 256],
@@ -220,7 +221,7 @@ class Explained(unittest.TestCase):
             (add % '[[1,"x"],[2,5]]', "5]", "row 1: this is no utf8"),
             (wide % '[[1,"x"],[300,""]]', "[300", "row 1"),
             ('{"cmd":"join","group":0}', None, "8 NoSuchGroup"),
-            ('{"cmd":"scan","paths":[["a"],["z"]],"where":["row_count"]}', '["z"]', "9 UnknownPath"),
+            ('{"cmd":"scan","paths":[["a"],["z"]],"where":["row_count"]}', '["z"]', "9 Unknown"),
             ('{"cmd":"describe","path":[null],"group":0}', "[null", "10 ElementStep"),
             ('{"cmd":"describe","path":[],"group":0}', "[]", "13 NotALeaf"),
             (made.replace("16", '16,"lengths":[[["s"],1],[["s"],2]]'), '["s"],2', "21 Repeated"),

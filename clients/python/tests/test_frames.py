@@ -1,4 +1,4 @@
-"""Frames of pandas, in and out. All is skipped where pandas isn't there, but for what is said then."""
+"""Frames of pandas, in and out. Most is skipped where pandas isn't there."""
 from __future__ import annotations
 
 import subprocess
@@ -30,8 +30,8 @@ class Without(unittest.TestCase):
 
     def test_nothing_imports_it(self) -> None:
         code = "import sys, colscan.cli, colscan.table\nassert 'pandas' not in sys.modules"
-        words = [sys.executable, "-c", "import sys; sys.path.insert(0, %r)\n" % common.CLIENT + code]
-        subprocess.run(words, check=True, timeout=common.TIMEOUT)
+        code = "import sys\nsys.path.insert(0, %r)\n" % common.CLIENT + code
+        subprocess.run(common.python(code), check=True, timeout=common.TIMEOUT)
 
 
 @common.needs("pandas")
@@ -96,10 +96,11 @@ class In(unittest.TestCase):
                 self.assertIn(words, str(caught.exception))
 
     def test_names(self) -> None:
+        pairs = pandas.MultiIndex.from_tuples([("a", "b")])
         for frame, column in (
             (pandas.DataFrame({5: [1]}), 5),
             (pandas.DataFrame([[1, 2]], columns=["a", "a"]), "a"),
-            (pandas.DataFrame([[1]], columns=pandas.MultiIndex.from_tuples([("a", "b")])), ("a", "b")),
+            (pandas.DataFrame([[1]], columns=pairs), ("a", "b")),
         ):
             with self.assertRaises(NoPlace) as caught:
                 self.table(frame)

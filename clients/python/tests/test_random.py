@@ -65,7 +65,8 @@ def random_leaf(chance: random.Random, kind: str) -> Any:
     if kind == "bool":
         return chance.random() < 0.5
     if kind == "utf8":
-        return "".join(chance.choice("ab'\"%_\u00e9\U0001faa9") for _ in range(chance.randint(0, 4)))
+        letters = "ab'\"%_\u00e9\U0001faa9"
+        return "".join(chance.choice(letters) for _ in range(chance.randint(0, 4)))
     if kind == "binary":
         return bytes(chance.choice([0, 1, 0x61, 0xFF]) for _ in range(chance.randint(0, 4)))
     low, high = RANGES[kind]
