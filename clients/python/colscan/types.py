@@ -50,15 +50,29 @@ class Type:
 
     @property
     def is_leaf(self) -> bool:
-        """Whether it is a boolean, an integer, a text or a byte string."""
+        """Whether it is a boolean, an integer, a text or a byte string.
+
+        >>> parse("utf8").is_leaf, parse("list<utf8>").is_leaf
+        (True, False)
+        """
         return self.kind in LEAVES
 
     @property
     def is_record(self) -> bool:
+        """Whether it is a record.
+
+        >>> parse({"a": "i32"}).is_record
+        True
+        """
         return self.kind == "struct"
 
     @property
     def is_list(self) -> bool:
+        """Whether it is a list, of any size or of a fixed one.
+
+        >>> parse("list<i32, 3>").is_list
+        True
+        """
         return self.kind in ("list", "fixed_size_list")
 
     def as_nullable(self, nullable: bool = True) -> "Type":
@@ -70,7 +84,11 @@ class Type:
         return replace(self, nullable=nullable)
 
     def fields(self) -> Iterator[Tuple[str, "Type"]]:
-        """The names and types of a record's parts."""
+        """The names and types of a record's parts.
+
+        >>> list(parse({"a": "i32"}).fields())
+        [('a', Type('i32'))]
+        """
         return zip(self.names, self.children)
 
     def to_json(self) -> Dict[str, Any]:

@@ -82,7 +82,7 @@ def tokens(text: str) -> List[Token]:
         kind = str(match.lastgroup)
         found.append(Token(kind, match.group(kind), match.start(kind)))
         at = match.end()
-    found.append(Token("end", "its end", len(text)))
+    found.append(Token("end", "the end", len(text)))
     return found
 
 

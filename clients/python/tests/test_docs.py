@@ -40,7 +40,8 @@ class Docstrings(unittest.TestCase):
 
     def run_examples(self, test: doctest.DocTest) -> None:
         said: List[str] = []
-        runner = doctest.DocTestRunner(verbose=False, optionflags=doctest.NORMALIZE_WHITESPACE)
+        flags = doctest.NORMALIZE_WHITESPACE | doctest.ELLIPSIS
+        runner = doctest.DocTestRunner(verbose=False, optionflags=flags)
         result = runner.run(test, out=said.append)
         self.assertEqual(result.failed, 0, "".join(said))
 
