@@ -280,7 +280,7 @@ class NoneLeft(unittest.TestCase):
 
 class Asking(unittest.TestCase):
     def test_big_both_ways(self) -> None:
-        texts = ["%07d" % number * 50 for number in range(2000)]
+        texts = ["%07d" % number * 100 for number in range(500)]
         with Table.create({"s": "utf8"}, timeout=common.TIMEOUT) as table:
             table.append({"s": texts}, rows_per_chunk=len(texts))
             self.assertEqual(table.scan().columns()["s"], texts)

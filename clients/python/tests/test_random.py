@@ -9,7 +9,7 @@ from typing import Any, Dict, List, Tuple
 
 import common
 import reference
-from colscan import Predicate, Session, Table, Type, col, lit, parse
+from colscan import Predicate, Session, Table, Type, col, lit
 from colscan.types import RANGES, leaves
 from colscan.where import parse_where
 

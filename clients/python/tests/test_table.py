@@ -2,10 +2,6 @@
 from __future__ import annotations
 
 import io
-import json
-import os
-import sys
-import tempfile
 import unittest
 from typing import Any
 from unittest import mock
