@@ -137,6 +137,9 @@ def is_bad(line: bytes) -> bool:
         reference.read_command(line)
     except reference.Refused as refused:
         return bool(refused.number == 18)
+    except RecursionError:
+        # Python 3.13 reads what nests deeper than that program can look at.
+        return True
     return False
 
 
