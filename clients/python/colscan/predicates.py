@@ -18,6 +18,8 @@ CLOSED = {
 }  # fmt: skip
 # The kinds of literals that aren't numbers.
 PLAIN = {bool: "bool", str: "utf8", bytes: "binary"}
+# A longer AND of ANDs or OR of ORs is sent as a balanced one, since lines nest to 127 at most.
+LONG = 32
 BINDS = (
     "&, | and ~ bind closer than comparisons, so each comparison needs brackets: "
     "(a > 5) & (b < 3)"
@@ -173,10 +175,12 @@ closer than comparisons, so each comparison needs brackets: (a > 5) & (b < 3)
 
     def parts(self) -> Iterator["Predicate"]:
         """It, and all that stands in it, from left to right."""
-        yield self
-        if self.form not in ("col", "lit"):
-            for operand in self.operands:
-                yield from operand.parts()
+        waiting = [self]
+        while waiting:
+            part = waiting.pop()
+            yield part
+            if part.form not in ("col", "lit"):
+                waiting.extend(reversed(part.operands))
 
     def to_json(self, dtype: Union[TypeLike, Mapping[str, Any], None] = None) -> List[Any]:
         """As the program's lines have it. `dtype` is the table's type, by which numbers get their
@@ -227,11 +231,28 @@ def lit(value: Optional[Literal], dtype: Optional[TypeLike] = None) -> Predicate
 
 
 def any_of(tests: List[Predicate]) -> Predicate:
-    """An OR of at least one, so that as few as can be stand in one another: lines nest to 127."""
-    if len(tests) == 1:
-        return tests[0]
-    half = len(tests) // 2
-    return any_of(tests[:half]) | any_of(tests[half:])
+    """An OR of at least one, in which as few as can be stand in one another."""
+    return balanced("or", tests)
+
+
+def balanced(form: str, sides: List[Predicate]) -> Predicate:
+    """An AND or OR of all sides."""
+    if len(sides) == 1:
+        return sides[0]
+    half = len(sides) // 2
+    return Predicate(form, (balanced(form, sides[:half]), balanced(form, sides[half:])))
+
+
+def chain(predicate: Predicate) -> List[Predicate]:
+    """The sides of an AND of ANDs, or of an OR of ORs, from left to right. It may be a long one."""
+    found, waiting = [], [predicate]
+    while waiting:
+        part = waiting.pop()
+        if part.form == predicate.form:
+            waiting.extend(reversed(part.operands))
+        else:
+            found.append(part)
+    return found
 
 
 def _operand(value: Any) -> Predicate:
@@ -296,6 +317,10 @@ def _to_json(predicate: Predicate, dtype: Optional[Type], kind: Optional[str]) -
         return ["col", *operands]
     if form == "lit":
         return _literal(operands[0], operands[1], kind)
+    if form in ("and", "or"):
+        sides = chain(predicate)
+        if len(sides) > LONG:
+            operands = balanced(form, sides).operands
     kinds = [_kind(operand, dtype) for operand in operands]
     beside = next((it for it in kinds if it is not None), None)
     if form not in COMPARISONS and form != "between":
@@ -334,10 +359,13 @@ def _python(predicate: Predicate) -> str:
     if form == "lit":
         value, own = operands
         return "lit(%r)" % value if own is None else "lit(%r, %r)" % (value, str(own))
+    if form in ("and", "or"):
+        sign = " & " if form == "and" else " | "
+        return sign.join(_bracketed(side) for side in chain(predicate))
     first = _bracketed(operands[0])
     rest = [_plainly(operand) for operand in operands[1:]]
-    if form in COMPARISONS or form in ("and", "or"):
-        sign = {"=": "==", "and": "&", "or": "|"}.get(form, form)
+    if form in COMPARISONS:
+        sign = "==" if form == "=" else form
         second = operands[1]
         right = _plainly(second) if second.form == "lit" else _bracketed(second)
         return "%s %s %s" % (first, sign, right)
@@ -371,8 +399,10 @@ def _written(predicate: Predicate) -> str:
         return path_words(operands)
     if form == "lit":
         return _written_literal(*operands)
+    if form in ("and", "or"):
+        return (" %s " % form).join(_written_inner(side) for side in chain(predicate))
     words = [_written_inner(operand) for operand in operands]
-    if form in COMPARISONS or form in ("and", "or"):
+    if form in COMPARISONS:
         return "%s %s %s" % (words[0], form, words[1])
     if form == "not":
         return "not " + words[0]

@@ -19,6 +19,7 @@ from typing import (
 
 from . import frames, values
 from .batches import batches_of
+from .csvfile import CsvFile
 from .errors import BadPredicate, NoPlace, NotAnAnswer, Refused
 from .predicates import Predicate, lit
 from .process import Program, Session
@@ -234,6 +235,29 @@ class Table:
         table = cls.create(made, length, program=program, timeout=timeout)
         try:
             table.append(frame, rows_per_chunk=rows_per_chunk, progress=progress)
+        except BaseException:
+            table.session.kill()
+            raise
+        return table
+
+    @classmethod
+    def from_csv(
+        cls,
+        file: "Union[str, os.PathLike[str], CsvFile]",
+        types: Optional[Mapping[str, TypeLike]] = None,
+        length: int = 16,
+        *,
+        rows_per_chunk: int = ROWS_PER_CHUNK,
+        progress: Optional[bool] = None,
+        program: Optional[Program] = None,
+        timeout: float = 600.0,
+    ) -> "Table":
+        """A table of a CSV file, of the types that all its cells have, or that are given."""
+        found = file if isinstance(file, CsvFile) else CsvFile(file)
+        made = found.infer(types)
+        table = cls.create(made, length, program=program, timeout=timeout)
+        try:
+            table.append(found.rows(made), rows_per_chunk=rows_per_chunk, progress=progress)
         except BaseException:
             table.session.kill()
             raise
