@@ -92,8 +92,10 @@ class Plan:
 
     def summary(self) -> str:
         """The counts in a sentence."""
-        return "%d chunks: %d skipped, %d taken whole, %d tested." % (
-            len(self.outcomes), *(self.outcomes.count(letter) for letter in "swt"))
+        counts = [self.outcomes.count(letter) for letter in "swt"]
+        noun = "chunk" if len(self.outcomes) == 1 else "chunks"
+        words = (len(self.outcomes), noun, *counts)
+        return "%d %s: %d skipped, %d taken whole, %d tested." % words
 
 
 def label(value: Any) -> str:

@@ -70,15 +70,17 @@ def picture(
     style = Style(max(width, 20), colour, blocks)
     outcomes = outcomes_of(len(answer.chunk_rows), answer.skipped, answer.whole)
     counts = tuple(outcomes.count(letter) for letter in "swt")
-    head = ["%d chunks: %d skipped, %d taken whole, %d tested" % (len(outcomes), *counts)]
+    noun = "chunk" if len(outcomes) == 1 else "chunks"
+    head = ["%d %s: %d skipped, %d taken whole, %d tested" % (len(outcomes), noun, *counts)]
     if len(outcomes) <= LINES:
         return "\n".join(head + _lines(answer, outcomes, style))
     return "\n".join(head + _cells(outcomes, answer.groups, style))
 
 
 def _has_blocks(encoding: Optional[str]) -> bool:
+    # What is no file, as a StringIO, has no encoding and takes every character.
     try:
-        "".join([*BLOCKS.values(), "┌│└"]).encode(encoding or "ascii")
+        "".join([*BLOCKS.values(), "┌│└"]).encode(encoding or "utf-8")
     except (LookupError, UnicodeError):
         return False
     return True
