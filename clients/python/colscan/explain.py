@@ -15,7 +15,7 @@ import os
 from dataclasses import dataclass
 from pathlib import Path as File
 from string import Template
-from typing import TYPE_CHECKING, Any, Callable, Dict, List, Optional, Sequence, Union
+from typing import TYPE_CHECKING, Any, Callable, Dict, Iterable, List, Optional, Sequence, Union
 
 from .picture import outcomes_of
 from .predicates import Predicate
@@ -23,7 +23,8 @@ from .ranges import Path, Range, name_of, ranges_of, shown, visible
 from .types import Type, part_at
 
 if TYPE_CHECKING:
-    from .table import Known, Table
+    from .dask import DaskTable
+    from .table import Description, Known, Table
 
 #: The height of a picture in steps, in which places of bounds are given.
 STEPS = 10_000
@@ -271,12 +272,11 @@ def page(plan: Plan) -> str:
 # ---- from a table
 
 
-def _zones(table: Table, path: Path) -> List[Zone]:
+def _zones(table: Union[Table, DaskTable], path: Path) -> List[Zone]:
     """What is known of a column, group by group."""
     found = []
     first = 0
-    for number, chunks in enumerate(table.groups):
-        known = table.describe(path, number)
+    for known, chunks in zip(_described(table, path), table.groups):
         rows = sum(table.chunk_rows[first : first + chunks])
         # GUIDE: the number of nulls is always there, and exact.
         nulls = known.null_count.value if known.null_count is not None else 0
@@ -285,7 +285,14 @@ def _zones(table: Table, path: Path) -> List[Zone]:
     return found
 
 
-def plan_of(table: Table, predicate: Predicate) -> Plan:
+def _described(table: Union[Table, DaskTable], path: Path) -> Iterable[Description]:
+    """Of partitions all groups are asked for at once, as each question is a task of its own."""
+    if hasattr(table, "describe_groups"):
+        return table.describe_groups(path)
+    return (table.describe(path, number) for number in range(len(table.groups)))
+
+
+def plan_of(table: Union[Table, DaskTable], predicate: Predicate) -> Plan:
     """Runs the scan for its counts alone, and asks for the bounds of the predicate's columns."""
     answer = table.scan(predicate, paths=[])
     ranges = ranges_of(predicate.to_json(table.type))
@@ -308,7 +315,9 @@ def plan_of(table: Table, predicate: Predicate) -> Plan:
     )
 
 
-def explain(table: Table, predicate: Predicate, file: Union[str, "os.PathLike[str]"]) -> Plan:
+def explain(
+    table: Union[Table, DaskTable], predicate: Predicate, file: Union[str, "os.PathLike[str]"]
+) -> Plan:
     """Writes the page to a file, and returns what it shows.
 
     >>> import os, tempfile
