@@ -100,7 +100,8 @@ def split(words: Sequence[str], found: Dict[str, argparse.ArgumentParser]) -> Li
             steps.append([word])
             wanted = STEPS[word]
         else:
-            raise SystemExit("usage: %s\n\n%r is no step" % (USAGE, word))
+            print("usage: %s\n\n%r is no step" % (USAGE, word), file=sys.stderr)
+            raise SystemExit(2)
         at += 1
     return steps
 
@@ -153,12 +154,11 @@ class Run:
             print("%d rows in %d chunks: %s" % (*words, table.type), file=self.err)
 
     def _load(self, given: argparse.Namespace, path: str) -> None:
-        split_list = lambda text: text.split(",") if text else None
         found = CsvFile(
             path,
             delimiter={"tab": "\t"}.get(given.delimiter, given.delimiter),
-            names=split_list(given.names),
-            columns=split_list(given.columns),
+            names=listed(given.names),
+            columns=listed(given.columns),
             nulls=["", *(given.null or [])],
         )
         types = dict(pair.split("=", 1) for pair in types_of(given.types))
@@ -166,10 +166,9 @@ class Run:
         if self.table is None:
             self.table = Table.from_csv(found, types, given.length, **how)
             return
-        known = {name: part for name, part in self.table.type.fields()}
-        made = found.infer({**{name: known[name] for name in found.names if name in known}})
-        names = found.names
-        rows = (dict(zip(names, row)) for row in found.rows(made))
+        known = {name: part for name, part in self.table.type.fields() if name in found.names}
+        made = found.infer({**known, **types})
+        rows = (dict(zip(found.names, row)) for row in found.rows(made))
         self.table.append(rows, **how)
 
     def scan(self, given: argparse.Namespace) -> None:
@@ -212,6 +211,11 @@ class Run:
 
     def check(self, given: argparse.Namespace) -> int:
         return check.check_file(given.file, self.out)
+
+
+def listed(text: Optional[str]) -> Optional[List[str]]:
+    """The names of a list such as a,b."""
+    return text.split(",") if text else None
 
 
 def types_of(text: str) -> List[str]:

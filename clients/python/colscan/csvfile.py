@@ -11,7 +11,19 @@ import os
 import re
 import tempfile
 from contextlib import contextmanager
-from typing import IO, Any, Callable, Container, Dict, Iterator, List, Mapping, Optional, Sequence, Tuple
+from typing import (
+    IO,
+    Any,
+    Callable,
+    Container,
+    Dict,
+    Iterator,
+    List,
+    Mapping,
+    Optional,
+    Sequence,
+    Tuple,
+)
 
 from .errors import BadCell, NoPlace, shown
 from .types import RANGES, Type, TypeLike, parse
@@ -195,10 +207,16 @@ class Guess:
             low, high = RANGES[kind]
             if self.is_whole and low <= self.low and self.high <= high:
                 return Type(kind, self.has_null)
-        row, cell = self.float if not self.is_whole else (None, max(self.high, -self.low))
-        why = "holds %s%s, and no table holds such numbers: give it a type, as %s=utf8, or leave "
-        why += "it out"
-        raise NoPlace(name, why % (cell, "" if row is None else " in row %d" % row, name))
+        where = "%s in row %d" % (cut(self.float[1]), self.float[0])
+        if self.is_whole:
+            where = "%d and %d" % (self.low, self.high)
+        why = "holds %s, and no table holds such numbers: give it a type, as %s=utf8, or leave "
+        raise NoPlace(name, why % (where, name) + "it out")
+
+
+def cut(cell: str) -> str:
+    """A cell for a message."""
+    return cell if len(cell) <= 40 else cell[:37] + "..."
 
 
 def reader_of(dtype: Type, nulls: Container[str] = ("",)) -> Callable[[str], Any]:

@@ -33,17 +33,32 @@ MEANINGS = {
 
 
 class ColscanError(Exception):
-    """The class of all that this package raises by itself."""
+    """The class of all that this package raises by itself.
+
+    >>> issubclass(Refused, ColscanError)
+    True
+    """
 
 
 class NoProgram(ColscanError):
-    """The program wasn't found, or can't be started."""
+    """The program wasn't found, or can't be started.
+
+    >>> Session("/nowhere/colscan")
+    Traceback (most recent call last):
+    ...
+    colscan.errors.NoProgram: /nowhere/colscan isn't there, or can't be run
+    """
 
 
 class SessionEnded(ColscanError):
     """The program ended or was stopped, so its table is lost.
 
     `status` is its status where it ended by itself, and `said` what it wrote on standard error.
+
+    >>> Session(["false"]).ask({"cmd": "compact"})
+    Traceback (most recent call last):
+    ...
+    colscan.errors.SessionEnded: the program ended with status 1 before it ...
     """
 
     def __init__(self, message: str, status: Optional[int] = None, said: str = "") -> None:
@@ -53,7 +68,13 @@ class SessionEnded(ColscanError):
 
 
 class NotAnAnswer(ColscanError):
-    """The program wrote a line that is no answer; `line` is its beginning. The program is ended."""
+    """The program wrote a line that is no answer; `line` is its beginning. The program is ended.
+
+    >>> Session(["cat"]).ask({"cmd": "compact"})
+    Traceback (most recent call last):
+    ...
+    colscan.errors.NotAnAnswer: the program wrote a line that is no answer: b'{"cmd":"compact"}'
+    """
 
     def __init__(self, why: str, line: bytes) -> None:
         self.line = line[:200]
@@ -61,7 +82,13 @@ class NotAnAnswer(ColscanError):
 
 
 class TooSlow(ColscanError):
-    """Nothing was read or written for as long as the session's timeout. The program is ended."""
+    """Nothing was read or written for as long as the session's timeout. The program is ended.
+
+    >>> Session(["sleep", "60"], timeout=0.1).ask({"cmd": "compact"})
+    Traceback (most recent call last):
+    ...
+    colscan.errors.TooSlow: the program did nothing for 0.1 seconds
+    """
 
 
 class Refused(ColscanError):
@@ -92,6 +119,12 @@ class NoPlace(ColscanError, TypeError):
     """A column of a type that has no place in a table, or that the table doesn't have.
 
     `column` is its name.
+
+    >>> with Table.create({"a": "i32"}) as table:
+    ...     table.append({"a": [1], "z": [2]})
+    Traceback (most recent call last):
+    ...
+    colscan.errors.NoPlace: column 'z' isn't in the table, which has a
     """
 
     def __init__(self, column: Any, why: str) -> None:
@@ -100,13 +133,25 @@ class NoPlace(ColscanError, TypeError):
 
 
 class BadType(ColscanError, ValueError):
-    """A written type that can't be read."""
+    """A written type that can't be read.
+
+    >>> parse("int32")
+    Traceback (most recent call last):
+    ...
+    colscan.errors.BadType: the type 'int32' says int32, which is no kind: i32?
+    """
 
 
 class BadValue(ColscanError, ValueError):
     """A value that its column can't hold, found before any line was sent.
 
     `row` is its number from 0, `column` its path in words, `value` what stands there.
+
+    >>> with Table.create({"a": "u8"}) as table:
+    ...     table.append([[1], [300]])
+    Traceback (most recent call last):
+    ...
+    colscan.errors.BadValue: row 1, column a: 300 is no u8, which goes from 0 to 255
     """
 
     def __init__(self, row: int, column: str, value: Any, why: str) -> None:
@@ -114,7 +159,11 @@ class BadValue(ColscanError, ValueError):
         super().__init__("row %d, column %s: %s %s" % (row, column, shown(value), why))
 
     def moved(self, row: int) -> "BadValue":
-        """The same at another row."""
+        """The same at another row.
+
+        >>> BadValue(0, "a", 1.5, "is no whole number").moved(7).row
+        7
+        """
         return BadValue(row, self.column, self.value, self.why)
 
 
@@ -122,6 +171,9 @@ class BadCell(ColscanError, ValueError):
     """A cell of a CSV file that its column can't hold, or a line with too many or too few cells.
 
     `line` counts from 1 and `row` from 0, without the line of names.
+
+    >>> print(BadCell("some.csv", 3, 1, "a", "'x' is no whole number"))
+    some.csv, line 3 (row 1), column a: 'x' is no whole number
     """
 
     def __init__(self, file: str, line: int, row: int, column: Optional[str], why: str) -> None:
@@ -131,11 +183,26 @@ class BadCell(ColscanError, ValueError):
 
 
 class BadPredicate(ColscanError, TypeError):
-    """An expression that is no predicate, such as one that needs brackets."""
+    """An expression that is no predicate, such as one that needs brackets.
+
+    >>> col("a") > 1.5
+    Traceback (most recent call last):
+    ...
+    colscan.errors.BadPredicate: 1.5 is a float, and no table holds floats: use a whole number
+    """
 
 
 class BadWhere(ColscanError, ValueError):
-    """A written predicate that can't be read; `at` is the place in the text, from 0."""
+    """A written predicate that can't be read; `at` is the place in the text, from 0.
+
+    >>> with Table.create({"a": "i32"}) as table:
+    ...     table.scan("a > ")
+    Traceback (most recent call last):
+    ...
+    colscan.errors.BadWhere: the end stands where a column or a value belongs
+      a >
+          ^
+    """
 
     def __init__(self, text: str, at: int, why: str) -> None:
         self.text, self.at = text, at

@@ -73,18 +73,19 @@ def column_type(name: str, series: "pandas.Series[Any]") -> Type:
     dtype: Any = series.dtype
     if isinstance(dtype, pandas.CategoricalDtype):
         return column_type(name, series.cat.categories.to_series()).as_nullable()
-    if isinstance(dtype, pandas.StringDtype):
-        return Type("utf8", True)
-    words = str(dtype).lower()
-    kind = getattr(dtype, "kind", "O")
     is_own = isinstance(dtype, pandas.api.extensions.ExtensionDtype)
-    if kind in "iu" and is_own:
-        return _integer(name, words.split("[")[0], True)
+    # Those of pandas and of Arrow: Int64, int64[pyarrow].
+    words = str(dtype).lower().split("[")[0]
+    if isinstance(dtype, pandas.StringDtype) or words in ("string", "large_string"):
+        return Type("utf8", True)
+    if words in ("binary", "large_binary"):
+        return Type("binary", True)
+    kind = dtype.kind
     if kind in "iu":
-        return _integer(name, dtype.name, False)
+        return _integer(name, words, is_own)
     if kind == "b":
         return Type("bool", is_own)
-    if is_own and kind == "O" or kind not in "OUST":
+    if is_own and kind == "O" or kind not in "OUS":
         raise NoPlace(name, ADVICE.get(kind, "is of %s, which no table holds" % dtype))
     return objects_type(name, [value for value in plain(series) if value is not None])
 
@@ -97,57 +98,46 @@ def _integer(name: str, words: str, nullable: bool) -> Type:
 
 
 def objects_type(name: str, values: List[Any]) -> Type:
-    """The type of a column of Python's objects, by what they are. Missing ones left out."""
+    """The type of a column of Python's objects, by what they are; the missing ones are left out."""
     found = {type(value) for value in values}
-    whole = {it for it in found if issubclass(it, int) and it is not bool}
-    if not found or all(issubclass(it, str) for it in found):
+    if all(issubclass(it, str) for it in found):
         return Type("utf8", True)
     if found == {bool}:
         return Type("bool", True)
-    if found == whole:
+    if all(issubclass(it, int) and it is not bool for it in found):
         return Type("u64" if max(values) >= 2**63 else "i64", True)
     if all(issubclass(it, (bytes, bytearray)) for it in found):
         return Type("binary", True)
     if all(issubclass(it, (list, tuple)) or it.__name__ == "ndarray" for it in found):
-        items = [missing_to_none(item) for value in values for item in value]
-        inner = objects_type(name, [item for item in items if item is not None])
-        return Type("list", True, (), (inner,))
+        items = [item for value in values for item in value if item is not None]
+        return Type("list", True, (), (objects_type(name, items),))
     if found == {dict}:
         return _records_type(name, values)
     if any(issubclass(it, float) for it in found):
         raise NoPlace(name, ADVICE["f"])
     kinds = sorted(it.__name__ for it in found)
     more = "" if len(kinds) > 1 else ", such as " + shown(values[0])
-    raise NoPlace(name, "holds objects of %s%s, which have no one type here" % (listed(kinds), more))
+    why = "holds objects of %s%s, which have no one type here" % (listed(kinds), more)
+    raise NoPlace(name, why)
 
 
 def _records_type(name: str, values: List[Dict[Any, Any]]) -> Type:
+    """All keys that some record has; each part is nullable, as another record may lack it."""
     names: Dict[str, List[Any]] = {}
     for value in values:
         for key, part in value.items():
             if not isinstance(key, str):
                 raise NoPlace(name, "holds a dictionary with the key %r, which is no text" % (key,))
-            names.setdefault(key, []).append(missing_to_none(part))
-    parts = [
-        objects_type("%s.%s" % (name, key), [it for it in found if it is not None])
-        for key, found in names.items()
-    ]
+            there = names.setdefault(key, [])
+            there += [part] if part is not None else []
+    parts = [objects_type("%s.%s" % (name, key), found) for key, found in names.items()]
     return Type("struct", True, tuple(names), tuple(parts))
-
-
-def missing_to_none(value: Any) -> Any:
-    """None for what pandas takes as missing: NaN, NaT and NA."""
-    if value is None or value != value:
-        return None
-    return None if type(value).__name__ in ("NAType", "NaTType") else value
 
 
 def plain(series: "pandas.Series[Any]") -> List[Any]:
     """The values as objects of Python, and None where one is missing."""
     pandas = need_pandas()
     values = series.astype(object).tolist()
-    if not series.hasnans and not isinstance(series.dtype, object.__class__):
-        return values
     gone = pandas.isna(series).tolist()
     return [None if lost else value for value, lost in zip(values, gone)]
 
@@ -173,11 +163,8 @@ def frame_dtype(part: Type) -> Tuple[str, bool]:
     ('Int32', True)
     """
     if part.kind in RANGES:
-        name = part.kind.replace("i", "int").replace("u", "uint")
-        return (name.replace("int", "Int").replace("uInt", "UInt"), True) if part.nullable else (
-            name,
-            False,
-        )
+        name = part.kind.replace("i", "Int").replace("u", "UInt")
+        return (name, True) if part.nullable else (name.lower(), False)
     if part.kind == "bool":
         return ("boolean", True) if part.nullable else ("bool", False)
     return ("string", True) if part.kind == "utf8" else ("object", part.nullable)

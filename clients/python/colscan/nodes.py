@@ -56,10 +56,37 @@ def read(text: str) -> Node:
     reader.skip()
     if reader.at < len(text):
         fail(reader.at, "the line goes on behind its end")
+    only_whole_numbers(node)
     return node
 
 
+def only_whole_numbers(node: Node) -> None:
+    """Other numbers are JSON, so one that a key's second value replaces is no fault."""
+    if node.kind == "no number":
+        fail(node.at, node.value)
+    for item in node.items or [value for _, value in node.keys.values()]:
+        only_whole_numbers(item)
+
+
+def no_whole_number(text: str) -> str:
+    """Why a number of JSON is none that lines have.
+
+    >>> no_whole_number("1.0"), no_whole_number("7")
+    ('1.0 is no whole number: 1?', '')
+    """
+    if not re.fullmatch("-?[0-9]+", text):
+        whole = text.split(".")[0] if re.fullmatch(r"-?[0-9]+\.0+", text) else ""
+        return "%s is no whole number%s" % (text, whole and ": %s?" % whole)
+    if text == "-0":
+        return "-0 is no whole number here: 0?"
+    if len(text) > 20 or not -(2**63) <= int(text) < 2**64:
+        return "%s has more than 64 bits" % (text if len(text) < 60 else text[:57] + "...")
+    return ""
+
+
 class Reader:
+    """Reads one line, character by character."""
+
     def __init__(self, text: str) -> None:
         self.text = text
         self.at = 0
@@ -114,13 +141,9 @@ class Reader:
         self.at = match.end()
         if self.text[self.at : self.at + 1].isdigit():
             fail(at, "a number has no zeros before it")
-        if not re.fullmatch("-?[0-9]+", text):
-            whole = text.split(".")[0] if re.fullmatch(r"-?[0-9]+\.0+", text) else ""
-            fail(at, "%s is no whole number%s" % (text, whole and ": %s?" % whole))
-        if text == "-0":
-            fail(at, "-0 is no whole number here: 0?")
-        if len(text) > 20 or not -(2**63) <= int(text) < 2**64:
-            fail(at, "%s has more than 64 bits" % text)
+        why = no_whole_number(text)
+        if why:
+            return Node("no number", why, at, self.at)
         return Node("number", int(text), at, self.at)
 
     def string(self) -> Node:

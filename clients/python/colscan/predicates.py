@@ -107,11 +107,19 @@ closer than comparisons, so each comparison needs brackets: (a > 5) & (b < 3)
 
     def like(self, pattern: str) -> "Predicate":
         """Whether the whole text matches the pattern, where `%` stands for any run of characters
-        and `_` for one."""
+        and `_` for one.
+
+        >>> str(col("s").like("x%"))
+        "s like 'x%'"
+        """
         return Predicate("like", (self, _pattern(pattern)), (False, False))
 
     def not_like(self, pattern: str) -> "Predicate":
-        """Whether the whole text doesn't match the pattern."""
+        """Whether the whole text doesn't match the pattern.
+
+        >>> str(col("s").not_like("x%"))
+        "s not like 'x%'"
+        """
         return Predicate("like", (self, _pattern(pattern)), (True, False))
 
     def starts_with(self, prefix: str) -> "Predicate":
@@ -126,11 +134,19 @@ closer than comparisons, so each comparison needs brackets: (a > 5) & (b < 3)
         return self.like(prefix + "%")
 
     def is_null(self) -> "Predicate":
-        """Whether the value is null."""
+        """Whether the value is null.
+
+        >>> str(col("a").is_null())
+        'a is null'
+        """
         return Predicate("is_null", (self,))
 
     def is_not_null(self) -> "Predicate":
-        """Whether the value isn't null."""
+        """Whether the value isn't null.
+
+        >>> str(col("a").is_not_null())
+        'a is not null'
+        """
         return Predicate("is_not_null", (self,))
 
     # ---- logic
@@ -174,7 +190,11 @@ closer than comparisons, so each comparison needs brackets: (a > 5) & (b < 3)
         return found
 
     def parts(self) -> Iterator["Predicate"]:
-        """It, and all that stands in it, from left to right."""
+        """It, and all that stands in it, from left to right.
+
+        >>> [part.form for part in (col("a") > 5).parts()]
+        ['>', 'col', 'lit']
+        """
         waiting = [self]
         while waiting:
             part = waiting.pop()

@@ -105,22 +105,44 @@ class Session:
 
     @property
     def is_open(self) -> bool:
-        """Whether it can be asked."""
+        """Whether it can be asked.
+
+        >>> session = Session()
+        >>> session.close()
+        >>> session.is_open
+        False
+        """
         return self._end.alive
 
     @property
     def pid(self) -> int:
-        """The number of the process."""
+        """The number of the process.
+
+        >>> with Session() as session:
+        ...     session.pid > 0
+        True
+        """
         return self._process.pid
 
     def ask(self, command: Dict[str, Any]) -> Dict[str, Any]:
-        """Sends a command, and returns the program's answer, a refusal too."""
+        """Sends a command, and returns the program's answer, a refusal too.
+
+        >>> with Session() as session:
+        ...     session.ask({"cmd": "drop"})
+        {'error': 18, 'name': 'BadLine'}
+        """
         line = json.dumps(command, ensure_ascii=False, separators=(",", ":"))
         return self.ask_line(line.encode("utf-8"))
 
     def ask_line(self, line: bytes) -> Dict[str, Any]:
-        """Sends a line, which may be no command, and returns the answer."""
+        """Sends a line, which may be no command, and returns the answer.
+
+        >>> with Session() as session:
+        ...     session.ask_line(b"[1")
+        {'error': 18, 'name': 'BadLine'}
+        """
         answer = self.answer_line(line)
+        found: Dict[str, Any]
         try:
             found = json.loads(answer.decode("utf-8"))
         except (ValueError, RecursionError):
@@ -133,7 +155,12 @@ class Session:
         return found
 
     def answer_line(self, line: bytes) -> bytes:
-        """Sends a line, and returns the line that the program writes, without its LF."""
+        """Sends a line, and returns the line that the program writes, without its LF.
+
+        >>> with Session() as session:
+        ...     session.answer_line(b"[1")
+        b'{"error":18,"name":"BadLine"}'
+        """
         with self._lock:
             if not self.is_open:
                 raise SessionEnded("the session is closed")
@@ -197,7 +224,7 @@ class Session:
     def _ended(self, when: str) -> SessionEnded:
         """Why there is nothing to read or write."""
         try:
-            status: Optional[int] = self._process.wait(1.0)
+            status = self._process.wait(1.0)
         except subprocess.TimeoutExpired:
             return SessionEnded("the program closed its pipes " + when)
         self._errors.seek(0)
@@ -206,11 +233,22 @@ class Session:
         return SessionEnded("the program ended %s %s" % (how, when), status, said)
 
     def kill(self) -> None:
-        """Ends the program at once. It may be called more than once."""
+        """Ends the program at once. It may be called more than once.
+
+        >>> session = Session()
+        >>> session.kill()
+        >>> session.kill()
+        """
         self._end()
 
     def close(self) -> None:
-        """Ends the program by the end of its input, or at once where that takes too long."""
+        """Ends the program by the end of its input, or at once where that takes too long.
+
+        >>> session = Session()
+        >>> session.close()
+        >>> session
+        <Session of ..., closed>
+        """
         if self.is_open and self._process.stdin is not None:
             try:
                 self._process.stdin.close()

@@ -36,7 +36,13 @@ ROWS_PER_CHUNK = 10_000
 
 class Known(NamedTuple):
     """What is known of a column: the value, and whether it is exact. An inexact bound was
-    shortened."""
+    shortened.
+
+    >>> with Table.create({"s": "utf8"}, length=2) as table:
+    ...     _ = table.append([["xyz"]])
+    ...     table.describe("s").max
+    Known(value='xz', exact=False)
+    """
 
     value: Any
     exact: bool
@@ -106,11 +112,23 @@ class Answer:
         return iter(self.rows)
 
     def dicts(self) -> List[Dict[str, Any]]:
-        """The rows as dictionaries, those inside them too."""
+        """The rows as dictionaries, and records inside them too.
+
+        >>> with Table.create({"a": "i32", "p": {"q": "utf8"}}) as table:
+        ...     _ = table.append([[1, ["x"]]])
+        ...     table.scan().dicts()
+        [{'a': 1, 'p': {'q': 'x'}}]
+        """
         return [values.named(self.type, row) for row in self.rows]
 
     def columns(self) -> Dict[str, List[Any]]:
-        """The columns by name; records in them are dictionaries."""
+        """The columns by name; records in them are dictionaries.
+
+        >>> with Table.create({"a": "i32", "s": "utf8"}) as table:
+        ...     _ = table.append([[1, "x"], [2, "y"]])
+        ...     table.scan().columns()
+        {'a': [1, 2], 's': ['x', 'y']}
+        """
         found = values.columns_of(self.type, self.rows)
         return {
             name: [values.named(part, value) for value in column] if part.children else column
@@ -129,7 +147,13 @@ class Answer:
         return frames.to_frame(self.type, self.columns(), len(self.rows))
 
     def summary(self) -> str:
-        """How the scan went, in a line."""
+        """How the scan went, in a line.
+
+        >>> with Table.create({"a": "i32"}) as table:
+        ...     _ = table.append([[1], [2]], rows_per_chunk=1)
+        ...     table.scan(col("a") > 1).summary()
+        '1 rows; of 2 chunks 1 skipped, 0 taken whole; 1 rows tested, 2 proofs'
+        """
         chunks = len(self.chunk_rows)
         return "%d rows; of %d chunks %d skipped, %d taken whole; %d rows tested, %d proofs" % (
             len(self.rows),
@@ -252,7 +276,17 @@ class Table:
         program: Optional[Program] = None,
         timeout: float = 600.0,
     ) -> "Table":
-        """A table of a CSV file, of the types that all its cells have, or that are given."""
+        """A table of a CSV file, of the types that all its cells have, or that are given.
+
+        >>> import os, tempfile
+        >>> with tempfile.TemporaryDirectory() as folder:
+        ...     path = os.path.join(folder, "some.csv")
+        ...     with open(path, "w") as file:
+        ...         _ = file.write("a,s\\n1,x\\n7,y\\n")
+        ...     with Table.from_csv(path, {"a": "u8"}) as table:
+        ...         table.scan(col("a") > 5).rows
+        [[7, 'y']]
+        """
         found = file if isinstance(file, CsvFile) else CsvFile(file)
         made = found.infer(types)
         table = cls.create(made, length, program=program, timeout=timeout)
@@ -264,7 +298,15 @@ class Table:
         return table
 
     def close(self) -> None:
-        """Ends the process, and with it the table, unless its session was handed in."""
+        """Ends the process, and with it the table, unless its session was handed in.
+
+        >>> table = Table.create({"a": "i32"})
+        >>> table.close()
+        >>> table.scan()
+        Traceback (most recent call last):
+        ...
+        colscan.errors.SessionEnded: the session is closed
+        """
         if self._owns:
             self.session.close()
 
@@ -279,17 +321,33 @@ class Table:
 
     @property
     def dtype(self) -> Dict[str, Any]:
-        """Its type, as the program's lines have it."""
+        """Its type, as the program's lines have it.
+
+        >>> with Table.create({"a": "i32"}) as table:
+        ...     table.dtype["children"]
+        [{'kind': 'i32'}]
+        """
         return self.type.to_json()
 
     @property
     def names(self) -> List[str]:
-        """The names of its columns."""
+        """The names of its columns.
+
+        >>> with Table.create({"a": "i32", "s": "utf8"}) as table:
+        ...     table.names
+        ['a', 's']
+        """
         return list(self.type.names)
 
     @property
     def row_count(self) -> int:
-        """How many rows it has."""
+        """How many rows it has.
+
+        >>> with Table.create({"a": "i32"}) as table:
+        ...     _ = table.append([[1], [2]])
+        ...     table.row_count, len(table)
+        (2, 2)
+        """
         return sum(self.chunk_rows)
 
     def __len__(self) -> int:
@@ -408,7 +466,14 @@ type that the table has or should get
         self.type = made
 
     def compact(self) -> None:
-        """Lays the lists of each chunk end to end. No answer changes."""
+        """Lays the lists of each chunk end to end. No answer changes.
+
+        >>> with Table.create({"l": "list<i32>"}) as table:
+        ...     _ = table.append([[[1, 2]], [[]]])
+        ...     table.compact()
+        ...     table.scan().rows
+        [[[1, 2]], [[]]]
+        """
         self._ask({"cmd": "compact"})
 
     def describe(self, path: PathLike, group: int = 0) -> Description:

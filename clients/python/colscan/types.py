@@ -28,7 +28,9 @@ OTHER_NAMES = {
     "bytes": "binary", "blob": "binary", "bytea": "binary",
     "boolean": "bool", "bit": "bool", "array": "list", "record": "struct", "object": "struct",
 }  # fmt: skip
-FLOATS = frozenset(("float", "double", "real", "float16", "float32", "float64", "f16", "f32", "f64"))
+FLOATS = frozenset(
+    ("float", "double", "real", "float16", "float32", "float64", "f16", "f32", "f64")
+)
 
 
 @dataclass(frozen=True)
@@ -48,15 +50,29 @@ class Type:
 
     @property
     def is_leaf(self) -> bool:
-        """Whether it is a boolean, an integer, a text or a byte string."""
+        """Whether it is a boolean, an integer, a text or a byte string.
+
+        >>> parse("utf8").is_leaf, parse("list<utf8>").is_leaf
+        (True, False)
+        """
         return self.kind in LEAVES
 
     @property
     def is_record(self) -> bool:
+        """Whether it is a record.
+
+        >>> parse({"a": "i32"}).is_record
+        True
+        """
         return self.kind == "struct"
 
     @property
     def is_list(self) -> bool:
+        """Whether it is a list, of any size or of a fixed one.
+
+        >>> parse("list<i32, 3>").is_list
+        True
+        """
         return self.kind in ("list", "fixed_size_list")
 
     def as_nullable(self, nullable: bool = True) -> "Type":
@@ -68,7 +84,11 @@ class Type:
         return replace(self, nullable=nullable)
 
     def fields(self) -> Iterator[Tuple[str, "Type"]]:
-        """The names and types of a record's parts."""
+        """The names and types of a record's parts.
+
+        >>> list(parse({"a": "i32"}).fields())
+        [('a', Type('i32'))]
+        """
         return zip(self.names, self.children)
 
     def to_json(self) -> Dict[str, Any]:
@@ -120,9 +140,20 @@ TypeLike = Union[Type, str, Mapping[str, Any]]
 PathLike = Union[str, Sequence[str]]
 
 
+# Words of written predicates, which as names stand between quotes.
+WORDS = frozenset(
+    ("and", "or", "not", "is", "null", "in", "between", "like", "true", "false")
+)
+
+
 def quoted(name: str) -> str:
-    """A name as written types and predicates have it."""
-    return name if name.isidentifier() else '"%s"' % name.replace('"', '""')
+    """A name as written types and predicates have it.
+
+    >>> quoted("a"), quoted("and"), quoted("the name")
+    ('a', '"and"', '"the name"')
+    """
+    is_plain = re.fullmatch(r"[^\W\d]\w*", name) and name.lower() not in WORDS
+    return name if is_plain else '"%s"' % name.replace('"', '""')
 
 
 def parse(written: TypeLike) -> Type:
@@ -205,7 +236,8 @@ class _Reader:
 
     def struct_type(self) -> Type:
         self.need("<")
-        names, children = [], []
+        names: List[str] = []
+        children: List[Type] = []
         while not self.take(">"):
             if names:
                 self.need(",")

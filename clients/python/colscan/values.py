@@ -7,7 +7,7 @@ from typing import Any, Callable, Dict, Iterator, List, Mapping, Sequence
 from .errors import BadValue
 from .types import RANGES, Type, quoted
 
-NO_VALUE = type(None)
+NO_VALUE: type = type(None)
 
 
 def encode(dtype: Type, values: Sequence[Any], column: str) -> List[Any]:

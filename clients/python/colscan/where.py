@@ -20,6 +20,7 @@ from typing import Any, List, NamedTuple, Optional
 
 from .errors import BadPredicate, BadType, BadWhere
 from .predicates import COMPARISONS, Predicate, col, lit
+from .types import WORDS
 
 TOKEN = re.compile(
     r"""\s*(?:
@@ -31,9 +32,6 @@ TOKEN = re.compile(
     | (?P<sign>::|==|<>|!=|<=|>=|&&|\|\||\S)
     )""",
     re.VERBOSE,
-)
-WORDS = frozenset(
-    ("and", "or", "not", "is", "null", "in", "between", "like", "true", "false")
 )
 # What people write by habit.
 HABITS = {
@@ -84,7 +82,7 @@ def tokens(text: str) -> List[Token]:
         kind = str(match.lastgroup)
         found.append(Token(kind, match.group(kind), match.start(kind)))
         at = match.end()
-    found.append(Token("end", "its end", len(text)))
+    found.append(Token("end", "the end", len(text)))
     return found
 
 

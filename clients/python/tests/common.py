@@ -18,10 +18,11 @@ for folder in (CLIENT, os.path.join(TOP, "tests")):
 from colscan.process import Session, find_program  # noqa: E402
 
 # Seconds that a test's child may be silent.
-TIMEOUT = 30.0
+TIMEOUT = 60.0
 # The optional parts, and what each is for.
 OPTIONAL = {
     "pandas": "frames",
+    "numpy": "numbers of numpy",
     "dask": "partitions",
     "distributed": "Dask's own scheduler on local processes",
     "selenium": "pages in a browser",

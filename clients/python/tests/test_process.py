@@ -254,7 +254,7 @@ class NoneLeft(unittest.TestCase):
 
 class Asking(unittest.TestCase):
     def test_big_both_ways(self) -> None:
-        texts = ["%07d" % number * 20 for number in range(20_000)]
+        texts = ["%07d" % number * 50 for number in range(2000)]
         with Table.create({"s": "utf8"}, timeout=common.TIMEOUT) as table:
             table.append({"s": texts}, rows_per_chunk=len(texts))
             self.assertEqual(table.scan().columns()["s"], texts)
