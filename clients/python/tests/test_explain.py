@@ -277,8 +277,9 @@ class Browser(unittest.TestCase):
         self.open(many(10_000, 2000))
         count = """
             const canvas = document.querySelector('canvas.bars');
-            const wanted = getComputedStyle(document.documentElement)
-              .getPropertyValue('--' + arguments[0]).trim().match(/\\w\\w/g).map(h => parseInt(h, 16));
+            const style = getComputedStyle(document.documentElement);
+            const wanted = style.getPropertyValue('--' + arguments[0]).trim()
+              .match(/\\w\\w/g).map(h => parseInt(h, 16));
             const dots = canvas.getContext('2d')
               .getImageData(0, 0, canvas.width, canvas.height).data;
             let found = 0;
