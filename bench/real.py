@@ -10,6 +10,7 @@ the least of RUNS, from the question to the rows as Python's lists. SQLite has t
 and no index, PostgreSQL in a folder that is removed at the end, with a BRIN index whose ranges
 have about as many rows as a chunk has here.
 """
+import contextlib
 import itertools
 import os
 import shutil
@@ -133,7 +134,10 @@ class Postgres:
         self.connection = None
         try:
             self.start()
-            self.connection = psycopg2.connect(host=self.folder, user="bench", dbname="postgres")
+            self.connection = psycopg2.connect(
+                host=self.folder, user="bench", dbname="postgres",
+                options="-c statement_timeout=%d" % (1000 * PATIENCE),
+            )
             self.connection.autocommit = True
             self.cursor = self.connection.cursor()
             self.load(rows)
@@ -221,13 +225,14 @@ def timed(system, where):
     return sorted(map(tuple, rows)), best
 
 
-def opened(rows, program):
-    """The systems that are there, and a line for each: how long it took to load, or what lacks."""
+def opened(rows, program, stack):
+    """The systems that are there, and a line for each: how long it took to load, or what lacks.
+    The stack closes them."""
     systems = []
     for make in (Here, Sqlite, Postgres):
         started = time.perf_counter()
         try:
-            systems.append(make(rows, program))
+            systems.append(stack.enter_context(contextlib.closing(make(rows, program))))
         except NotThere as lack:
             print("%s: not compared, %s" % (make.name, lack))
             continue
@@ -264,12 +269,9 @@ def main():
     rows = list(itertools.islice(characters.rows(), most))
     words = (characters.version(), len(rows), len(NAMES), CHUNK)
     print("Unicode %s: %d rows, %d columns, chunks of %d rows" % words)
-    systems = opened(rows, sys.argv[1] if len(sys.argv) > 1 else None)
-    try:
-        different = compare(systems)
-    finally:
-        for system in systems:
-            system.close()
+    with contextlib.ExitStack() as stack:
+        program = sys.argv[1] if len(sys.argv) > 1 else None
+        different = compare(opened(rows, program, stack))
     print("\nthe rows of %d of %d predicates were the same" % (
         len(PREDICATES) - different, len(PREDICATES)))
     sys.exit(1 if different else 0)
