@@ -5,6 +5,7 @@ import json
 import os
 import selectors
 import shutil
+import signal
 import subprocess
 import tempfile
 import threading
@@ -17,6 +18,8 @@ from .errors import NoProgram, NotAnAnswer, SessionEnded, TooSlow
 Program = Union[str, "os.PathLike[str]", Sequence[str]]
 # As many bytes are read or written at a time.
 PIECE = 1 << 16
+# Seconds between two looks at whether a silent program has ended.
+LOOK = 1.0
 # Seconds that a program gets to end by itself once its input has ended.
 PATIENCE = 10.0
 
@@ -56,11 +59,16 @@ def find_program(program: Optional[Program] = None) -> List[str]:
 
 
 def end(process: "subprocess.Popen[bytes]", errors: IO[bytes], owner: int) -> None:
-    """Ends a process at once, and waits for it. In a fork it isn't ours to end."""
+    """Ends a process at once, with those that it started, and waits for it. In a fork it isn't
+    ours to end."""
     if os.getpid() != owner:
         return
-    if process.poll() is None:
-        process.kill()
+    # Only while nobody has waited for it is its number surely its own.
+    if process.returncode is None:
+        try:
+            os.killpg(process.pid, signal.SIGKILL)
+        except (ProcessLookupError, PermissionError):
+            process.kill()
     process.wait()
     for pipe in (process.stdin, process.stdout, errors):
         if pipe is not None:
@@ -94,6 +102,8 @@ class Session:
                 stdout=subprocess.PIPE,
                 stderr=self._errors,
                 bufsize=0,
+                # A group of its own, so that an interrupt of Python's is none of the program's.
+                start_new_session=True,
             )
         except OSError as error:
             self._errors.close()
@@ -183,7 +193,10 @@ class Session:
             last = time.monotonic()
             while True:
                 left = last + self.timeout - time.monotonic()
-                found = ready.select(max(left, 0.0))
+                found = ready.select(max(min(left, LOOK), 0.0))
+                if not found and self._process.poll() is not None:
+                    # One that it started may hold its pipes.
+                    raise self._ended("before it answered")
                 if not found and left <= 0:
                     raise TooSlow("the program did nothing for %g seconds" % self.timeout)
                 for key, _ in found:

@@ -21,7 +21,7 @@ from . import frames, values
 from .batches import batches_of
 from .csvfile import CsvFile
 from .errors import BadPredicate, NoPlace, NotAnAnswer, Refused
-from .predicates import Predicate, lit
+from .predicates import BINDS, Predicate, lit
 from .process import Program, Session
 from .progress import Progress
 from .types import PathLike, Type, TypeLike, part_at, path_of, path_words, quoted, record
@@ -421,6 +421,7 @@ class Table:
         [[2, ['y']]]
         """
         predicate, made = self._where(where)
+        paths = [paths] if isinstance(paths, str) else paths
         steps = [[]] if paths is None else [path_of(path) for path in paths]
         found = self._ask({"cmd": "scan", "paths": steps, "where": made}, "path %d", names=steps)
         return Answer(found, self, predicate)
@@ -529,6 +530,8 @@ type that the table has or should get
         hint = ""
         if answer["error"] in (9, 12):
             hint = "The table has %s" % (", ".join(map(quoted, self.names)) or "no columns")
+        if answer["error"] == 15:
+            hint = BINDS
         raise Refused(answer["error"], str(answer.get("name")), words, at, hint)
 
 

@@ -15,10 +15,10 @@ for folder in (CLIENT, os.path.join(TOP, "tests")):
     if folder not in sys.path:
         sys.path.insert(0, folder)
 
-from colscan.process import Session, find_program  # noqa: E402
+from colscan.process import find_program  # noqa: E402
 
 # Seconds that a test's child may be silent.
-TIMEOUT = 60.0
+TIMEOUT = 120.0
 # The optional parts, and what each is for.
 OPTIONAL = {
     "pandas": "frames",

@@ -26,8 +26,9 @@ import common  # noqa: E402
 
 # The Python whose packages the system installs.
 SYSTEM = "/usr/bin/python3"
-# Seconds after which a run that hangs is ended, with what it was doing.
-SECONDS = 170
+# Seconds of one test after which the run is ended, and says what it was doing. All tests together
+# take less on a machine without other work.
+SECONDS = 150
 
 
 def parts_of(python: str) -> List[str]:
@@ -63,22 +64,22 @@ def say_parts() -> None:
 
 
 class Result(unittest.TextTestResult):
-    """A result that keeps who took how long."""
+    """A result that says who took long, and ends a run that hangs."""
 
     def startTest(self, test: unittest.TestCase) -> None:
         self.started = time.monotonic()
+        faulthandler.dump_traceback_later(SECONDS, exit=True)
         super().startTest(test)
 
     def stopTest(self, test: unittest.TestCase) -> None:
         seconds = time.monotonic() - self.started
-        if seconds > 5:
+        if seconds > 20:
             self.stream.writeln("%s took %.1f seconds" % (test.id(), seconds))
         super().stopTest(test)
 
 
 def main() -> int:
     use_the_fuller_python()
-    faulthandler.dump_traceback_later(SECONDS, exit=True)
     say_parts()
     try:
         print("the program is", *common.program())

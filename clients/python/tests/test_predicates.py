@@ -108,13 +108,13 @@ class Forms(unittest.TestCase):
 
     def test_longer_than_lines_nest(self) -> None:
         found = A == 0
-        for number in range(1, 300):
+        for number in range(1, 150):
             found = found | (A == number)
         with Table.create({"a": "i32"}, timeout=common.TIMEOUT) as table:
-            table.append([[5], [300], [299]])
-            self.assertEqual(table.scan(found).rows, [[5], [299]])
-            self.assertEqual(table.scan(str(found)).rows, [[5], [299]])
-            self.assertEqual(table.scan(A.isin(range(299))).rows, [[5]])
+            table.append([[5], [150], [149]])
+            self.assertEqual(table.scan(found).rows, [[5], [149]])
+            self.assertEqual(table.scan(str(found)).rows, [[5], [149]])
+            self.assertEqual(table.scan(A.isin(range(149))).rows, [[5]])
 
     def test_short_chains_stay(self) -> None:
         made = ((T & T) & T).to_json()

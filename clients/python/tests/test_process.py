@@ -74,6 +74,23 @@ class Failing(unittest.TestCase):
     def test_it_ends_in_the_middle_of_a_long_line(self) -> None:
         self.failure("import os\nos.read(0, 10)", BIG, SessionEnded)
 
+    def test_it_ends_and_one_that_it_started_does_not(self) -> None:
+        code = "import subprocess\nsubprocess.Popen(['sleep', '60'])"
+        self.failure(code, COMPACT, SessionEnded)
+
+    def test_one_that_it_started_is_ended_too(self) -> None:
+        code = "import subprocess, sys\nchild = subprocess.Popen(['sleep', '60'])\n"
+        code += "for line in sys.stdin: print('{\"ok\":true,\"pid\":%d}' % child.pid, flush=True)"
+        with self.assertRaises(ZeroDivisionError):
+            with Session(common.python(code), timeout=10.0) as session:
+                pid = session.ask(COMPACT)["pid"]
+                1 / 0
+        end = time.monotonic() + 10
+        # Who ends its parent's processes takes a while to wait for them.
+        while is_alive(pid) and time.monotonic() < end:
+            time.sleep(0.05)
+        self.assertFalse(is_alive(pid))
+
     def test_no_json(self) -> None:
         error = self.failure("input()\nprint('hello', flush=True)\ninput()", COMPACT, NotAnAnswer)
         self.assertIn("no JSON", str(error))
@@ -135,6 +152,15 @@ class Failing(unittest.TestCase):
         code = "import sys\nsys.stderr.write('x' * 1000000)\nsys.stderr.flush()\n" + SERVER
         with Session(common.python(code), timeout=10.0) as session:
             self.assertEqual(session.ask(COMPACT), {"ok": True})
+
+
+def is_alive(pid: int) -> bool:
+    """Whether a process runs; one that ended, for which nobody waited yet, doesn't."""
+    try:
+        with open("/proc/%d/stat" % pid, encoding="ascii") as file:
+            return file.read().rsplit(")", 1)[1].split()[0] != "Z"
+    except OSError:
+        return False
 
 
 class Starting(unittest.TestCase):
@@ -254,7 +280,7 @@ class NoneLeft(unittest.TestCase):
 
 class Asking(unittest.TestCase):
     def test_big_both_ways(self) -> None:
-        texts = ["%07d" % number * 50 for number in range(2000)]
+        texts = ["%07d" % number * 100 for number in range(500)]
         with Table.create({"s": "utf8"}, timeout=common.TIMEOUT) as table:
             table.append({"s": texts}, rows_per_chunk=len(texts))
             self.assertEqual(table.scan().columns()["s"], texts)

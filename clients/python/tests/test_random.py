@@ -9,7 +9,7 @@ from typing import Any, Dict, List, Tuple
 
 import common
 import reference
-from colscan import Predicate, Session, Table, Type, col, lit, parse
+from colscan import Predicate, Session, Table, Type, col, lit
 from colscan.types import RANGES, leaves
 from colscan.where import parse_where
 
@@ -220,12 +220,12 @@ class Tables(unittest.TestCase):
 
     def test_sessions(self) -> None:
         counts: Dict[int, int] = {}
-        for seed in range(25):
+        for seed in range(15):
             with Both() as session:
                 self.session(random.Random(seed), session)
                 for number, count in session.refused.items():
                     counts[number] = counts.get(number, 0) + count
-        self.assertGreater(counts[0], 500)
+        self.assertGreater(counts[0], 300)
 
     def session(self, chance: random.Random, session: Both) -> None:
         dtype = random_type(chance, 2)

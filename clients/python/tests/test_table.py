@@ -2,10 +2,6 @@
 from __future__ import annotations
 
 import io
-import json
-import os
-import sys
-import tempfile
 import unittest
 from typing import Any
 from unittest import mock
@@ -179,6 +175,7 @@ class Scans(unittest.TestCase):
                 ([("p", "q")], [[[3]]]),
                 ([["p", "q"], "a"], [[1, [3]]]),
                 ([], [[]]),
+                ("a.b", [[2]]),
                 ([[]], [[1, 2, [3, 4]]]),
             ):
                 with self.subTest(paths):
@@ -265,7 +262,7 @@ class Refusals(unittest.TestCase):
             self.refused(14, None, "", lambda: scan(A == col("b")))
             self.refused(14, None, "", lambda: scan(A == "x"))
             self.refused(15, None, "", lambda: scan(A))
-            self.refused(15, None, "", lambda: scan(A & col("b").is_null()))
+            self.refused(15, None, "brackets", lambda: scan(A & col("b") > col("b")))
             self.refused(20, None, "", lambda: scan(lit(None, "list<i32>").is_null()))
             self.refused(8, None, "", lambda: describe("a", 7))
             self.refused(9, "path 0 (z)", "", lambda: describe("z"))

@@ -3,7 +3,7 @@ from __future__ import annotations
 
 import unittest
 
-import common
+import common  # noqa: F401
 from colscan import BadWhere, col, lit
 from colscan.where import parse_where
 
