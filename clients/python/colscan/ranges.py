@@ -97,8 +97,11 @@ def _walk(where: List[Any], negated: bool) -> List[Range]:
     if form == "not":
         return [replace(one, used=False) for one in _walk(parts[0], not negated)]
     if form in ("and", "or"):
-        found = [one for part in _sides(where, form) for one in _walk(part, negated)]
-        return _joined(found) if (form == "and") != negated else found
+        sides = _sides(where, form)
+        found = [_walk(part, negated) for part in sides]
+        if (form == "and") == negated:
+            return _all(found)
+        return _joined(found, [part[0] in MIRRORED or part[0] == "between" for part in sides])
     if form in MIRRORED:
         return _comparison(form, parts, negated)
     if form in ("is_null", "is_not_null") and parts[0][0] == "col":
@@ -181,18 +184,28 @@ def _above(begin: str) -> Optional[str]:
     return None
 
 
-def _joined(found: List[Range]) -> List[Range]:
-    """Ranges under one AND, those of one column as one where they can be."""
-    kept: List[Range] = []
-    for one in found:
-        for at, other in enumerate(kept):
-            both = _both(other, one)
+def _all(found: List[List[Range]]) -> List[Range]:
+    return [one for ranges in found for one in ranges]
+
+
+def _joined(found: List[List[Range]], is_test: List[bool]) -> List[Range]:
+    """The ranges of an AND's sides. Those of one column are one where they can be; but those of an
+    OR stay apart, where one may be enough, as in `a > 5 and (a < 9 or b = 1)`."""
+    kept: List[List[Range]] = []
+    single: List[int] = []
+    for ranges, can_join in zip(found, is_test):
+        if not can_join or len(ranges) != 1:
+            kept.append(ranges)
+            continue
+        for at in single:
+            both = _both(kept[at][0], ranges[0])
             if both is not None:
-                kept[at] = both
+                kept[at] = [both]
                 break
         else:
-            kept.append(one)
-    return kept
+            single.append(len(kept))
+            kept.append(ranges)
+    return _all(kept)
 
 
 def _both(one: Range, other: Range) -> Optional[Range]:

@@ -49,6 +49,14 @@ class Ranges(unittest.TestCase):
         self.assertEqual(texts((a > 5) & (a < 5)), ["a > 5", "a < 5"])
         self.assertEqual(texts((a >= 5) & (a <= 5)), ["5 <= a <= 5"])
 
+    def test_sides_of_an_or_stay_apart(self) -> None:
+        a, b = col("a"), col("b")
+        self.assertEqual(texts((a > 5) & ((a < 9) | (b == 1))), ["a > 5", "a < 9", "b = 1"])
+        self.assertEqual(texts((a > 5) & ~a.between(7, 8)), ["a > 5", "a < 7", "a > 8"])
+        self.assertEqual(texts((a > 5) & ((a < 9) | (b == 1)) & (a < 20)),
+                         ["5 < a < 20", "a < 9", "b = 1"])
+        self.assertEqual(texts((a > 5) & ((a < 9) | lit(True))), ["a > 5", "a < 9"])
+
     def test_what_no_chunk_is_skipped_by(self) -> None:
         for predicate in (~(col("a") > 5), col("t"), col("s").like("%x"), col("s").not_like("x%")):
             self.assertEqual([one.used for one in ranges_of(predicate.to_json())], [False])
