@@ -23,9 +23,7 @@ from collections import OrderedDict
 from dataclasses import dataclass, replace
 from functools import reduce
 from itertools import accumulate, chain
-from typing import (
-    TYPE_CHECKING, Any, Dict, Iterable, List, Mapping, Optional, Sequence, Tuple, Union
-)
+from typing import Any, Dict, Iterable, List, Mapping, Optional, Sequence, Tuple, Union
 
 from . import frames
 from .batches import batches_of
@@ -35,9 +33,10 @@ from .process import Program, Session
 from .table import ROWS_PER_CHUNK, Answer, Description, Known, Where
 from .types import RANGES, PathLike, Type, TypeLike, part_at, path_of, record
 
-if TYPE_CHECKING:
-    import dask.dataframe
-    import distributed
+# Dask has no types of its own: a distributed.Client, a Future, and a frame of Dask.
+Client = Any
+Future = Any
+Frame = Any
 
 #: The greatest count in an answer; what would be more stays there.
 MOST = 2**64 - 1
@@ -262,8 +261,8 @@ class DaskTable:
     def __init__(
         self,
         plan: Plan,
-        parts: List["distributed.Future"],
-        client: "distributed.Client",
+        parts: List[Future],
+        client: Client,
         retries: int,
     ) -> None:
         self.type = plan.type
@@ -404,7 +403,7 @@ def from_parts(
     dtype: TypeLike,
     parts: Sequence[Any],
     *,
-    client: Optional["distributed.Client"] = None,
+    client: Optional[Client] = None,
     length: int = 16,
     lengths: Optional[Mapping[Any, int]] = None,
     rows_per_chunk: int = ROWS_PER_CHUNK,
@@ -437,13 +436,13 @@ def from_parts(
     return DaskTable(plan, futures, client, retries)
 
 
-def _placed(client: "distributed.Client", plan: Plan, part: Any) -> "distributed.Future":
+def _placed(client: Client, plan: Plan, part: Any) -> Future:
     """A partition as a result of Dask, which it makes again where the worker that has it is lost.
     Scattered data would be gone."""
-    import dask
     import distributed
+    from dask.base import is_dask_collection
 
-    if dask.is_dask_collection(part):
+    if is_dask_collection(part):
         part = client.compute(part)
     if isinstance(part, distributed.Future):
         return client.submit(_lines, part, plan, pure=False)
@@ -451,7 +450,7 @@ def _placed(client: "distributed.Client", plan: Plan, part: Any) -> "distributed
 
 
 def from_frame(
-    frame: "dask.dataframe.DataFrame", dtype: Optional[TypeLike] = None, **options: Any
+    frame: Frame, dtype: Optional[TypeLike] = None, **options: Any
 ) -> DaskTable:
     """A table of a Dask frame's partitions. Without `dtype` it has the frame's own types: each
     partition is asked for its types, since those of objects are seen in their values alone. The
@@ -459,12 +458,13 @@ def from_frame(
     """
     import distributed
 
-    client = options.get("client") or distributed.get_client()
+    client: Client = options.get("client") or distributed.get_client()
     parts = client.compute(frame.to_delayed())
     if dtype is None:
         futures = [client.submit(frames.type_of, part, pure=False) for part in parts]
         dtype = reduce(_common, client.gather(futures))
-    return from_parts(dtype, parts, **{**options, "client": client})
+    options["client"] = client
+    return from_parts(dtype, parts, **options)
 
 
 def _common(left: Type, right: Type) -> Type:

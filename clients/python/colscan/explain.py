@@ -17,7 +17,7 @@ from pathlib import Path as File
 from string import Template
 from typing import TYPE_CHECKING, Any, Callable, Dict, Iterable, List, Optional, Sequence, Union
 
-from .picture import outcomes_of
+from .picture import counted, outcomes_of
 from .predicates import Predicate
 from .ranges import Path, Range, name_of, ranges_of, shown, visible
 from .types import Type, part_at
@@ -93,10 +93,7 @@ class Plan:
 
     def summary(self) -> str:
         """The counts in a sentence."""
-        counts = [self.outcomes.count(letter) for letter in "swt"]
-        noun = "chunk" if len(self.outcomes) == 1 else "chunks"
-        words = (len(self.outcomes), noun, *counts)
-        return "%d %s: %d skipped, %d taken whole, %d tested." % words
+        return counted(self.outcomes) + "."
 
 
 def label(value: Any) -> str:
@@ -169,15 +166,18 @@ def _by_order(column: Column) -> Dict[str, Any]:
 def _by_value(column: Column) -> Dict[str, Any]:
     """Integers placed by their value. A range that ends far outside all bounds doesn't make the
     picture higher than by a quarter."""
-    known = _bounds(column) or _range_ends(column) or [0]
-    low, high = known[0], known[-1]
+    known: List[int] = _bounds(column) or _range_ends(column) or [0]
+    low, high = min(known), max(known)
     room = max((high - low) // 4, 1)
     ends = _range_ends(column)
     low = min([low, *(max(end, low - room) for end in ends)])
     high = max([high, *(min(end, high + room) for end in ends)])
     span = max(high - low, 1)
-    return _scale("by value", column, lambda value: (value - low) * STEPS // span,
-                  _round_values(low, high))
+
+    def place(value: Any) -> int:
+        return int((value - low) * STEPS // span)
+
+    return _scale("by value", column, place, _round_values(low, high))
 
 
 def _round_values(low: int, high: int) -> List[int]:
@@ -297,7 +297,8 @@ def plan_of(table: Union[Table, DaskTable], predicate: Predicate) -> Plan:
     answer = table.scan(predicate, paths=[])
     ranges = ranges_of(predicate.to_json(table.type))
     columns = []
-    for path in map(tuple, predicate.columns()):
+    for steps in predicate.columns():
+        path: Path = tuple(steps)
         part = part_at(table.type, path)
         # The scan was accepted, so the column is there.
         assert part is not None

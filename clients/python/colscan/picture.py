@@ -6,9 +6,9 @@
 ...     table.join(0)
 ...     print(picture(table.scan(col("a") > 15), width=44))
 3 chunks: 1 skipped, 0 taken whole, 2 tested
-┌ 0  10 ░░░░░░░░░░░░░░░░░░░░░░░░░░░░ skipped
-└ 1  10 ████████████████████████████ tested
-  2  10 ████████████████████████████ tested
+┌ 0  10 ░░░░░░░░░░░░░░░░░░░░░░░░░░░░░ skipped
+└ 1  10 █████████████████████████████ tested
+  2  10 █████████████████████████████ tested
 """
 from __future__ import annotations
 
@@ -69,9 +69,7 @@ def picture(
         blocks = _has_blocks(getattr(sys.stdout, "encoding", None))
     style = Style(max(width, 20), colour, blocks)
     outcomes = outcomes_of(len(answer.chunk_rows), answer.skipped, answer.whole)
-    counts = tuple(outcomes.count(letter) for letter in "swt")
-    noun = "chunk" if len(outcomes) == 1 else "chunks"
-    head = ["%d %s: %d skipped, %d taken whole, %d tested" % (len(outcomes), noun, *counts)]
+    head = [counted(outcomes)]
     if len(outcomes) <= LINES:
         return "\n".join(head + _lines(answer, outcomes, style))
     return "\n".join(head + _cells(outcomes, answer.groups, style))
@@ -98,6 +96,18 @@ def outcomes_of(chunks: int, skipped: List[int], whole: List[int]) -> str:
     for chunk in whole:
         letters[chunk] = "w"
     return "".join(letters)
+
+
+def counted(outcomes: str) -> str:
+    """How many chunks had each outcome.
+
+    >>> counted("sst")
+    '3 chunks: 2 skipped, 0 taken whole, 1 tested'
+    """
+    noun = "chunk" if len(outcomes) == 1 else "chunks"
+    skipped, whole, tested = (outcomes.count(letter) for letter in "swt")
+    words = (len(outcomes), noun, skipped, whole, tested)
+    return "%d %s: %d skipped, %d taken whole, %d tested" % words
 
 
 # ---- a line a chunk
