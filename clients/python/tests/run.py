@@ -27,8 +27,8 @@ import common  # noqa: E402
 # The Python whose packages the system installs.
 SYSTEM = "/usr/bin/python3"
 # Seconds of one test after which the run is ended, and says what it was doing. All tests together
-# take less on a machine without other work.
-SECONDS = 150
+# take less on a machine without much other work; on another one more can be given.
+SECONDS = float(os.environ.get("COLSCAN_TESTS_SECONDS", "150"))
 
 
 def parts_of(python: str) -> List[str]:
