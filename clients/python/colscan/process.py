@@ -50,9 +50,9 @@ def find_program(program: Optional[Program] = None) -> List[str]:
     found = [it for it in map(shutil.which, [*places, "colscan"]) if it]
     if not found:
         raise NoProgram(
-            "no program was found: COLSCAN isn't set, neither %s nor %s is there, and no colscan is "
-            "on the path. Build it at the top of the repository, by `.ci/run` with its proofs or by "
-            "`./colscan --build` without; or set COLSCAN to where it is" % tuple(places)
+            "no program was found: COLSCAN isn't set, neither %s nor %s is there, and no colscan "
+            "is on the path. Build it at the top of the repository, by `.ci/run` with its proofs, "
+            "or by `./colscan --build` without; or set COLSCAN to where it is" % tuple(places)
         )
     return found[:1]
 
