@@ -24,16 +24,18 @@ LOOK = 1.0
 PATIENCE = 10.0
 
 
-def of_repository() -> str:
-    """Where the gate leaves the program in the repository in which this package lies."""
+def of_repository() -> List[str]:
+    """Where the program is in the repository in which this package lies: the proved one, which the
+    gate leaves, and the unproved one, which `./colscan` keeps."""
     here = os.path.dirname(os.path.realpath(__file__))
-    top = os.path.join(here, "..", "..", "..")
-    return os.path.normpath(os.path.join(top, "crates", "colscan", "out", "colscan"))
+    top = os.path.normpath(os.path.join(here, "..", "..", ".."))
+    proved = os.path.join(top, "crates", "colscan", "out", "colscan")
+    return [proved, os.path.join(top, "unproved", "colscan")]
 
 
 def find_program(program: Optional[Program] = None) -> List[str]:
-    """The words that start the program: of the argument, of the environment's COLSCAN, that of the
-    repository, or a `colscan` on the path, whichever is there first.
+    """The words that start the program: of the argument, of the environment's COLSCAN, those of
+    the repository, or a `colscan` on the path, whichever is there first.
 
     >>> find_program(["python3", "my_program.py"])
     ['python3', 'my_program.py']
@@ -47,15 +49,15 @@ def find_program(program: Optional[Program] = None) -> List[str]:
         if found is None:
             raise NoProgram("%s isn't there, or can't be run" % os.fspath(program))
         return [found]
-    built = of_repository()
-    found = shutil.which(built) or shutil.which("colscan")
-    if found is None:
+    places = of_repository()
+    found = [it for it in map(shutil.which, [*places, "colscan"]) if it]
+    if not found:
         raise NoProgram(
-            "no program was found: COLSCAN isn't set, %s isn't there, and no colscan is on the "
-            "path. Build it by `.ci/run` at the top of the repository, or by `rt run < /dev/null` "
-            "in its folder crates/colscan; or set COLSCAN to where it is" % built
+            "no program was found: COLSCAN isn't set, neither %s nor %s is there, and no colscan "
+            "is on the path. Build it at the top of the repository, by `.ci/run` with its proofs, "
+            "or by `./colscan --build` without; or set COLSCAN to where it is" % tuple(places)
         )
-    return [found]
+    return found[:1]
 
 
 def end(process: "subprocess.Popen[bytes]", errors: IO[bytes], owner: int) -> None:

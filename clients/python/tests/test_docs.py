@@ -1,4 +1,4 @@
-"""The examples of all docstrings, of the client's README and of the guide's page."""
+"""The examples of all docstrings, of the client's README and of its page."""
 from __future__ import annotations
 
 import doctest
@@ -15,8 +15,7 @@ import colscan
 # Marks an example that needs this package.
 MARKS = {doctest.register_optionflag(name.upper()): name for name in common.OPTIONAL}
 README = os.path.join(common.CLIENT, "README.md")
-GUIDE = os.path.join(common.TOP, "docs", "GUIDE.md")
-SECTION = "## From Python"
+PAGE = os.path.join(common.TOP, "docs", "PYTHON.md")
 
 
 def names() -> Dict[str, Any]:
@@ -88,20 +87,10 @@ def add_modules() -> None:
     add("package", [test for test in tests if test.examples])
 
 
-def page(path: str, section: str = "") -> str:
-    """A page, or the section of one that begins with this line."""
-    with open(path, encoding="utf-8") as file:
-        text = file.read()
-    if not section:
-        return text
-    begin = text.index("\n%s\n" % section)
-    end = text.find("\n## ", begin + len(section))
-    return text[begin:] if end < 0 else text[begin:end]
-
-
 def add_pages() -> None:
-    for name, path, section in (("readme", README, ""), ("guide", GUIDE, SECTION)):
-        text = page(path, section)
+    for name, path in (("readme", README), ("page", PAGE)):
+        with open(path, encoding="utf-8") as file:
+            text = file.read()
         parser = doctest.DocTestParser()
         add(name, [parser.get_doctest(text, names(), name, path, 0)])
 

@@ -186,24 +186,26 @@ class Starting(unittest.TestCase):
     def test_order(self) -> None:
         with tempfile.TemporaryDirectory() as folder:
             paths = []
-            for name in ("given", "environment", "built", "colscan"):
+            for name in ("given", "environment", "proved", "unproved", "colscan"):
                 paths.append(os.path.join(folder, name))
                 with open(paths[-1], "wb") as file:
                     file.write(b"#!/bin/sh\n")
                 os.chmod(paths[-1], stat.S_IRWXU)
-            given, environment, built, on_path = paths
+            given, environment, proved, unproved, on_path = paths
             with mock.patch.dict(os.environ, {"COLSCAN": environment, "PATH": folder}):
+                built = [proved, unproved]
                 with mock.patch("colscan.process.of_repository", return_value=built):
                     self.assertEqual(find_program(given), [given])
                     self.assertEqual(find_program(), [environment])
                     os.environ["COLSCAN"] = ""
-                    self.assertEqual(find_program(), [built])
-                    os.remove(built)
+                    for it in built:
+                        self.assertEqual(find_program(), [it])
+                        os.remove(it)
                     self.assertEqual(find_program(), [on_path])
                     os.remove(on_path)
                     with self.assertRaises(NoProgram) as caught:
                         find_program()
-        for word in (".ci/run", "rt run", "COLSCAN"):
+        for word in (".ci/run", "./colscan --build", "COLSCAN"):
             self.assertIn(word, str(caught.exception))
 
 
