@@ -1,5 +1,5 @@
 -- A table that is parts put end to end is scanned as the parts are: each chunk alone.
-use Rattle.std.proofs.Common.{◌≡◌, refl, sym, ◌∙◌, ap, subst, ℕ, suc, ◌+◌, ◌*◌, ◌-◌, ◌^◌, ◌≤◌, min, arith, List, [], ◌∷◌, ◌++◌, length, take, drop, map, filter, flat_map, Bool, true, false, not, ◌&&◌, if◌then◌else◌, nat_lt, Option, option_map, is_some}
+use Rattle.std.proofs.Common.{◌≡◌, refl, sym, ◌∙◌, ap, ℕ, suc, ◌+◌, ◌*◌, ◌-◌, ◌^◌, ◌≤◌, min, arith, List, [], ◌∷◌, ◌++◌, length, take, drop, map, filter, flat_map, Bool, true, false, not, ◌&&◌, if◌then◌else◌, nat_lt, Option, option_map, is_some}
 use Rattle.std.specs.Prelude.{sum, count_by}
 use Rattle.std.specs.List.{AllByRecursion}
 use Rattle.std.proofs.lemmas.List.{length-map, length-append, length-take-le, map-append, take-append-drop, take-append-le, drop-append-le}
@@ -15,8 +15,8 @@ use Rattle.vortex_model_table.specs.Truth.{selects}
 use Rattle.vortex_model_table.specs.Cut.{cut_row, cut_type}
 use Rattle.vortex_model_table.specs.ZoneMap.{ZoneMap, zone_of, group_bounds, values_at}
 use Rattle.vortex_model_table.specs.Rewrite.{falsifier, satisfier}
-use Rattle.vortex_model_table.specs.Table.{Table, IsTable, bound_length, rows_of, answer}
-use Rattle.vortex_model_table.specs.Scan.{leaf_at, proves, Outcome, skipped_in_group, skipped, whole as taken_whole, tested, chunk_outcome, is_many, group_outcomes, grouped, outcomes, is_skipped, is_whole, is_tested, is_in_group, numbers, saturated, tested_lengths, one_if, proofs_for, ScanAnswer, scanned}
+use Rattle.vortex_model_table.specs.Table.{Table, IsTable, bound_length, rows_of}
+use Rattle.vortex_model_table.specs.Scan.{leaf_at, proves, Outcome, skipped_in_group, skipped, whole as taken_whole, tested, chunk_outcome, is_many, group_outcomes, grouped, is_skipped, is_whole, is_tested, is_in_group, numbers, saturated, tested_lengths, one_if, ScanAnswer, scanned}
 use Rattle.vortex_model_laws.proofs.Alone.{as_each_alone}
 use Rattle.vortex_model_laws.proofs.Outcomes.{sum_first, tested_first}
 use Rattle.vortex_table_laws.specs.Parts.{ArePartsOf, moved, IsAnswerOfParts}
