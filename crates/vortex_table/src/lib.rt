@@ -224,8 +224,9 @@ pub mod expr {
 /// Laws of tables, each a function that makes the calls that it speaks of.
 pub mod laws {
     pub use vortex_table_laws::laws::{
-        Retypes, compact_two_tables, retype_in_two_steps, scan_around_append, scan_around_compact,
-        scan_by_false, scan_by_true, scan_by_two_lists, scan_two_tables,
+        PartScans, Retypes, compact_two_tables, parts_answer_as_the_whole, retype_in_two_steps,
+        scan_around_append, scan_around_compact, scan_by_false, scan_by_true, scan_by_two_lists,
+        scan_parts, scan_two_tables,
     };
 }
 

@@ -1,2 +1,4 @@
 pub mod Answered
 pub mod Compacted
+pub mod PartByPart
+pub mod PartsScanned

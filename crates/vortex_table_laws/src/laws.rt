@@ -1,7 +1,8 @@
 //! Laws of tables over their calls. Each function makes the calls that its law speaks of, and
-//! answers what each of them gave.
+//! answers what each of them gave. `parts_answer_as_the_whole` makes none: its law is over the
+//! definitions.
 ghost use Rattle.std.specs.Prelude.{◌≡◌, ◌++◌, [], None, Some, length, map, filter, true, false, IfOk, OnOk, OnErr};
-ghost use Rattle.std.specs.List.{range_with_len};
+ghost use Rattle.std.specs.List.{range_with_len, AllZip};
 ghost use Rattle.vortex_model.specs.Content.{content_of};
 ghost use Rattle.vortex_model_table.specs.Command.{names_of, refusal, retype, append};
 ghost use Rattle.vortex_model_table.specs.Cut.{cut_row};
@@ -22,6 +23,12 @@ ghost use Rattle.vortex_table_laws.specs.Laws.{
   HaveSameRows,
   AreSame,
   HasMoreRows,
+  OnAll,
+};
+ghost use Rattle.vortex_table_laws.specs.Parts.{
+  ArePartsOf,
+  IsAnswerOfParts,
+  PartsAnswerAsTheWhole,
 };
 
 use std::alloc::{AllocError, Global};
@@ -247,5 +254,67 @@ pub fn retype_in_two_steps(
         first,
         second,
         at_once,
+    })
+}
+
+/// Tables of one type and with the same bound lengths that are put end to end answer each scan as
+/// the whole does: rows, type, chunks that are skipped and taken whole, counts.
+pub fn parts_answer_as_the_whole()
+    ensures { PartsAnswerAsTheWhole }
+{}
+
+/// What scanning the parts of a table and the whole gave.
+#[derive(Drop)]
+pub struct PartScans {
+    /// Of each part, in order.
+    pub parts: Vec<Result<ScanAnswer, TableError>>,
+    /// Of the whole.
+    pub whole: Result<ScanAnswer, TableError>,
+}
+
+// A scan of each table, in order.
+fn scan_each(
+    alloc: Global,
+    tables: &[Table],
+    paths: &[FieldPath],
+    predicate: &Expression,
+) -> Result<Vec<Result<ScanAnswer, TableError>>, AllocError>
+    ensures { IfOk result (λ all. AllZip
+        (λ table r. IsScanned (table_of table) (map steps_of paths.now) predicate.now r)
+        tables.now all.items) }
+{
+    let mut all = Vec::new(alloc);
+    for table in tables {
+        let found = table.scan(alloc, paths, predicate);
+        all.push(found)?;
+    }
+    Ok(all)
+}
+
+/// One scan of each part and of the whole. Where the whole is the parts put end to end, its answer
+/// is the answers of the parts put end to end.
+pub fn scan_parts(
+    alloc: Global,
+    parts: &[Table],
+    whole: &Table,
+    paths: &[FieldPath],
+    predicate: &Expression,
+) -> Result<PartScans, AllocError>
+    ensures parts { IfOk result (λ all. AllZip
+        (λ part r. IsScanned (table_of part) (map steps_of paths.now) predicate.now r)
+        parts.now all.parts.items) }
+    ensures whole { IfOk result (λ all.
+        IsScanned (table_of whole.now) (map steps_of paths.now) predicate.now all.whole) }
+    ensures law { IfOk result (λ all. ArePartsOf (map table_of parts.now) (table_of whole.now)
+        → OnAll (λ answers. IfOk all.whole (λ a.
+        IsAnswerOfParts (map table_of parts.now) (table_of whole.now) (map answer_of answers)
+        (answer_of a))) all.parts.items) }
+{
+    parts_answer_as_the_whole();
+    let of_parts = scan_each(alloc, parts, paths, predicate)?;
+    let of_whole = whole.scan(alloc, paths, predicate);
+    Ok(PartScans {
+        parts: of_parts,
+        whole: of_whole,
     })
 }

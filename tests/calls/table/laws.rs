@@ -1,15 +1,17 @@
 //! The laws of tables, with what each of their calls gives.
 
 use crate::checks::Checks;
-use crate::make::{begin_with, column, filled, integers, number, row, scan, truth, two_columns};
+use crate::make::{
+    begin_with, column, fill, filled, integers, number, row, scan, truth, two_columns,
+};
 use std::alloc::{AllocError, Global};
 use vortex_dtype::{DType, FieldPath, Nullability, PType};
 use vortex_table::expr::gt;
 use vortex_table::laws::{
     compact_two_tables, retype_in_two_steps, scan_around_append, scan_around_compact,
-    scan_by_false, scan_by_true, scan_by_two_lists, scan_two_tables,
+    scan_by_false, scan_by_true, scan_by_two_lists, scan_parts, scan_two_tables,
 };
-use vortex_table::table::TableError;
+use vortex_table::table::{Table, TableError};
 
 // The path to whole rows.
 fn whole(alloc: Global) -> Result<Vec<FieldPath>, AllocError> {
@@ -95,5 +97,46 @@ pub fn changes_keep_their_laws(alloc: Global, checks: &mut Checks<'_>) -> Result
     checks.holds("one type", stepwise.dtype() == direct.dtype() && *direct.dtype() == wanted);
     let (one, two) = (scan(alloc, &stepwise, &truth(true)?)?, scan(alloc, &direct, &truth(true)?)?);
     checks.holds("one list of rows", one.rows == two.rows && begin_with(&one, &[1, 2, 10]));
+    Ok(())
+}
+
+/// Scans three tables, and the table that is them put end to end. The two chunks of the first are
+/// one group, and so are those of the whole.
+pub fn parts_keep_their_law(alloc: Global, checks: &mut Checks<'_>) -> Result<(), TableError> {
+    let dtype = two_columns(alloc)?;
+    let mut values = Vec::new(alloc);
+    values.push(row(alloc, 20, None)?)?;
+    values.push(row(alloc, 0, None)?)?;
+    let mut first = filled(alloc)?;
+    first.join(0)?;
+    let mut second = Table::create(alloc, two_columns(alloc)?, 16, &[])?;
+    second.append(&dtype, &values, &[])?;
+    let mut table = filled(alloc)?;
+    table.append(&dtype, &values, &[])?;
+    fill(alloc, &mut table)?;
+    table.join(0)?;
+    let mut parts = Vec::new(alloc);
+    parts.push(first)?;
+    parts.push(second)?;
+    parts.push(filled(alloc)?)?;
+
+    let paths = whole(alloc)?;
+    let above = gt(alloc, column(alloc, "a")?, number(9)?)?;
+    let all = scan_parts(alloc, &parts, &table, &paths, &above)?;
+    let answer = all.whole?;
+    checks.holds("rows of the whole", begin_with(&answer, &[10, 20, 10]));
+    checks.holds("skipped", answer.skipped.as_slice() == [0, 3].as_slice());
+    checks.holds("whole", answer.whole.as_slice() == [1, 4].as_slice());
+    checks.holds("counts", answer.rows_tested == 2 && answer.proofs == 9);
+    let (mut tested, mut proofs, mut count) = (0, 0, 0);
+    for found in all.parts {
+        let part = found?;
+        tested += part.rows_tested;
+        proofs += part.proofs;
+        count += part.rows.len();
+        checks.holds("type of a part", part.dtype == answer.dtype);
+    }
+    checks.holds("rows of the parts", count == answer.rows.len());
+    checks.holds("counts of the parts", tested == 2 && proofs == 9);
     Ok(())
 }

@@ -56,6 +56,7 @@ fn run_all(alloc: Global, checks: &mut Checks<'_>) -> Result<(), TableError> {
     checks.end_part("groups have bounds of bytes");
     laws::scans_keep_their_laws(alloc, checks)?;
     laws::changes_keep_their_laws(alloc, checks)?;
+    laws::parts_keep_their_law(alloc, checks)?;
     checks.end_part("laws hold of the calls");
     rules::rules_add_proofs(alloc, checks)?;
     rules::ready_rules_skip(alloc, checks)?;

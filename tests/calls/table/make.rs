@@ -95,17 +95,22 @@ pub fn truth(b: bool) -> Result<Expression, TableError> {
     )
 }
 
-/// Two chunks: (1, null), (2, 3); and (10, 1).
-pub fn filled(alloc: Global) -> Result<Table, TableError> {
+/// Appends two chunks: (1, null), (2, 3); and (10, 1).
+pub fn fill(alloc: Global, table: &mut Table) -> Result<(), TableError> {
     let dtype = two_columns(alloc)?;
-    let mut table = Table::create(alloc, dtype.clone()?, 16, &[])?;
     let mut values = Vec::new(alloc);
     values.push(row(alloc, 1, None)?)?;
     values.push(row(alloc, 2, Some(3))?)?;
     table.append(&dtype, &values, &[])?;
     values.clear();
     values.push(row(alloc, 10, Some(1))?)?;
-    table.append(&dtype, &values, &[])?;
+    table.append(&dtype, &values, &[])
+}
+
+/// Two chunks: (1, null), (2, 3); and (10, 1).
+pub fn filled(alloc: Global) -> Result<Table, TableError> {
+    let mut table = Table::create(alloc, two_columns(alloc)?, 16, &[])?;
+    fill(alloc, &mut table)?;
     Ok(table)
 }
 
