@@ -6,9 +6,9 @@ first so many)
 
 The table is that of bench/characters.py: some 290,000 rows of twenty columns. Each predicate is
 one text, which all three read. The rows have to be the same; the times stand side by side, each
-the least of RUNS, from the question to the rows as Python's lists. SQLite has the table in memory
-and no index, PostgreSQL in a folder that is removed at the end, with a BRIN index whose ranges
-have about as many rows as a chunk has here.
+the least of RUNS: processor time of this process and of the one that is asked, from the question to
+the rows as Python's lists. SQLite has the table in memory and no index, PostgreSQL in a folder that
+is removed at the end, with a BRIN index whose ranges have about as many rows as a chunk has here.
 """
 import contextlib
 import itertools
@@ -72,6 +72,15 @@ def question(where):
     return "select %s from characters where %s" % (", ".join(ANSWERED), where)
 
 
+def processor_seconds(pid):
+    """Processor time of this process and of another, which compares on a busy machine too."""
+    seconds = time.process_time()
+    if pid is not None:
+        with open("/proc/%d/schedstat" % pid) as file:
+            seconds += int(file.read().split()[0]) / 1e9
+    return seconds
+
+
 class Here:
     """The program, by its client in Python."""
 
@@ -79,6 +88,7 @@ class Here:
 
     def __init__(self, rows, program):
         self.table = Table.create(characters.COLUMNS, 32, program=program)
+        self.pid = self.table.session.pid
         self.table.append(rows, rows_per_chunk=CHUNK, progress=False)
 
     def ask(self, where):
@@ -96,6 +106,8 @@ class Sqlite:
     """SQLite, with the table in memory."""
 
     name = "SQLite"
+    # It is in this process.
+    pid = None
 
     def __init__(self, rows, _):
         self.database = sqlite3.connect(":memory:")
@@ -139,6 +151,7 @@ class Postgres:
                 options="-c statement_timeout=%d" % (1000 * PATIENCE),
             )
             self.connection.autocommit = True
+            self.pid = self.connection.get_backend_pid()
             self.cursor = self.connection.cursor()
             self.load(rows)
         except BaseException:
@@ -216,13 +229,12 @@ def server_programs():
 
 def timed(system, where):
     """The rows, and the least seconds of several runs."""
-    best = None
+    runs = []
     for _ in range(RUNS):
-        started = time.perf_counter()
+        started = processor_seconds(system.pid)
         rows = system.ask(where)
-        seconds = time.perf_counter() - started
-        best = seconds if best is None else min(best, seconds)
-    return sorted(map(tuple, rows)), best
+        runs.append(processor_seconds(system.pid) - started)
+    return sorted(map(tuple, rows)), min(runs)
 
 
 def opened(rows, program, stack):
@@ -230,13 +242,14 @@ def opened(rows, program, stack):
     The stack closes them."""
     systems = []
     for make in (Here, Sqlite, Postgres):
-        started = time.perf_counter()
+        started, used = time.perf_counter(), time.process_time()
         try:
             systems.append(stack.enter_context(contextlib.closing(make(rows, program))))
         except NotThere as lack:
             print("%s: not compared, %s" % (make.name, lack))
             continue
-        print("%s: loaded in %.1f s" % (make.name, time.perf_counter() - started), flush=True)
+        words = (make.name, time.perf_counter() - started, processor_seconds(systems[-1].pid) - used)
+        print("%s: loaded in %.1f s, %.1f of a processor" % words, flush=True)
     return systems
 
 

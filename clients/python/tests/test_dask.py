@@ -1,6 +1,7 @@
 """Tables in partitions: answers put end to end, descriptions merged, and workers that fail."""
 from __future__ import annotations
 
+import contextlib
 import os
 import random
 import signal
@@ -18,7 +19,7 @@ from colscan.explain import plan_of
 DTYPE = {"a": "i32?", "s": "utf8?", "t": "bool", "x": "binary", "p": {"q": "u64"}}
 PATHS = ("a", "s", "t", "x", ("p", "q"))
 # Seconds for a test on a cluster.
-PATIENCE = 150
+PATIENCE = 120
 
 
 def random_rows(chance: random.Random, count: int) -> List[List[Any]]:
@@ -159,25 +160,37 @@ class Pipes(unittest.TestCase):
         self.assertEqual(whole["skipped"], [1])
 
 
+WORKERS = 2
+_client: List[Any] = []
+_cluster = contextlib.ExitStack()
+
+
+def started() -> Any:
+    """The client of a cluster of local processes, which all tests of this file share: a worker
+    takes seconds to start."""
+    from distributed import Client, LocalCluster
+
+    if not _client:
+        folder = _cluster.enter_context(tempfile.TemporaryDirectory())
+        cluster = LocalCluster(n_workers=WORKERS, threads_per_worker=1, processes=True,
+                               dashboard_address=None, silence_logs=50, local_directory=folder)
+        _cluster.callback(cluster.close, 30)
+        _client.append(Client(cluster, timeout=30))
+        _cluster.callback(_client[0].close, 30)
+    return _client[0]
+
+
+def tearDownModule() -> None:
+    _cluster.close()
+
+
+@common.needs("distributed")
 class OnCluster(unittest.TestCase):
     """Tests on local processes of Dask's own scheduler."""
 
-    WORKERS = 2
-
     @classmethod
     def setUpClass(cls) -> None:
-        if not common.is_there("distributed"):
-            raise unittest.SkipTest("distributed isn't there")
-        from distributed import Client, LocalCluster
-
-        folder = tempfile.TemporaryDirectory()
-        cls.addClassCleanup(folder.cleanup)
-        cls.cluster = LocalCluster(n_workers=cls.WORKERS, threads_per_worker=1, processes=True,
-                                   dashboard_address=None, silence_logs=50,
-                                   local_directory=folder.name)
-        cls.addClassCleanup(cls.cluster.close, 30)
-        cls.client = Client(cls.cluster, timeout=30)
-        cls.addClassCleanup(cls.client.close, 30)
+        cls.client = started()
 
     def setUp(self) -> None:
         """No test hangs: what takes too long is a failure."""
@@ -258,8 +271,8 @@ class Scans(OnCluster):
         with made.spread(self.client, keep=1) as spread:
             spread.scan()
             pids = self.pids()
-            self.assertEqual([len(one) for one in pids.values()], [1] * self.WORKERS)
-        self.assertEqual([len(one) for one in self.pids().values()], [0] * self.WORKERS)
+            self.assertEqual([len(one) for one in pids.values()], [1] * WORKERS)
+        self.assertEqual([len(one) for one in self.pids().values()], [0] * WORKERS)
         self.assertTrue(gone(pid for one in pids.values() for pid in one))
 
     def pids(self) -> Dict[str, List[int]]:
@@ -361,10 +374,9 @@ class Failures(OnCluster):
             self.rows(["sh", "-c", "exit 4"])
 
 
+@common.needs("distributed")
 class Endings(unittest.TestCase):
     def test_nothing_is_left_behind_a_cluster(self) -> None:
-        if not common.is_there("distributed"):
-            self.skipTest("distributed isn't there")
         from distributed import Client, LocalCluster
 
         folder = tempfile.TemporaryDirectory()
