@@ -6,6 +6,7 @@ import os
 import random
 import signal
 import subprocess
+import sys
 import tempfile
 import time
 import unittest
@@ -18,8 +19,8 @@ from colscan.explain import plan_of
 
 DTYPE = {"a": "i32?", "s": "utf8?", "t": "bool", "x": "binary", "p": {"q": "u64"}}
 PATHS = ("a", "s", "t", "x", ("p", "q"))
-# Seconds for a test on a cluster.
-PATIENCE = 120
+# Seconds for a test on a cluster, whose workers take many to start on a machine that is busy.
+PATIENCE = int(float(os.environ.get("COLSCAN_TESTS_SECONDS", "120")))
 
 
 def random_rows(chance: random.Random, count: int) -> List[List[Any]]:
@@ -202,6 +203,8 @@ class OnCluster(unittest.TestCase):
         self.addCleanup(signal.signal, signal.SIGALRM, before)
         signal.alarm(PATIENCE)
         self.addCleanup(signal.alarm, 0)
+        # One that a test has killed is replaced in its own time.
+        self.client.wait_for_workers(WORKERS, timeout=PATIENCE)
 
 
 class Scans(OnCluster):
@@ -325,6 +328,22 @@ def gone(pids: Any) -> bool:
     return True
 
 
+# A program that answers a create and an append, and half of what it answers to a scan.
+HALF = """
+import subprocess, sys
+child = subprocess.Popen(sys.argv[1], stdin=subprocess.PIPE, stdout=subprocess.PIPE)
+for number, line in enumerate(sys.stdin.buffer):
+    child.stdin.write(line)
+    child.stdin.flush()
+    answer = child.stdout.readline()
+    sys.stdout.buffer.write(answer if number < 2 else answer[:30])
+    sys.stdout.buffer.flush()
+    if number == 2:
+        child.kill()
+        sys.exit(1)
+"""
+
+
 class Failures(OnCluster):
     """Programs that fail once, or always; each test has a folder by which they know."""
 
@@ -361,8 +380,7 @@ class Failures(OnCluster):
         self.assertEqual(self.rows(self.program("kill -9 $PPID")), self.WANTED)
 
     def test_a_process_that_ends_within_a_scan(self) -> None:
-        """It answers the create and the append, and half of what it answers to the scan."""
-        once = "head -n 2 | '%s'; read line; printf '{\"ok\":true'; exit 1" % common.program()[0]
+        once = "exec '%s' -c '%s' '%s'" % (sys.executable, HALF, common.program()[0])
         self.assertEqual(self.rows(self.program(once), keep=8), self.WANTED)
 
     def test_without_another_try(self) -> None:
