@@ -1,4 +1,5 @@
-//! Laws of scans, appends, retypes and compactions, as functions that make the calls.
+//! Laws of scans, appends, retypes and compactions, as functions that make the calls, and of tables
+//! that are put end to end.
 #![tactic(auto)]
 
 pub mod laws;
