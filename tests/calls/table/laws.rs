@@ -6,7 +6,7 @@ use crate::make::{
 };
 use std::alloc::{AllocError, Global};
 use vortex_dtype::{DType, FieldPath, Nullability, PType};
-use vortex_table::expr::gt;
+use vortex_table::expr::{gt, is_not_null};
 use vortex_table::laws::{
     compact_two_tables, retype_in_two_steps, scan_around_append, scan_around_compact,
     scan_by_false, scan_by_true, scan_by_two_lists, scan_parts, scan_two_tables,
@@ -101,7 +101,8 @@ pub fn changes_keep_their_laws(alloc: Global, checks: &mut Checks<'_>) -> Result
 }
 
 /// Scans three tables, and the table that is them put end to end. The two chunks of the first are
-/// one group, and so are those of the whole.
+/// one group, and so are those of the whole. Of `b` one chunk has nulls alone, two have none, and
+/// two have some.
 pub fn parts_keep_their_law(alloc: Global, checks: &mut Checks<'_>) -> Result<(), TableError> {
     let dtype = two_columns(alloc)?;
     let mut values = Vec::new(alloc);
@@ -121,13 +122,13 @@ pub fn parts_keep_their_law(alloc: Global, checks: &mut Checks<'_>) -> Result<()
     parts.push(filled(alloc)?)?;
 
     let paths = whole(alloc)?;
-    let above = gt(alloc, column(alloc, "a")?, number(9)?)?;
-    let all = scan_parts(alloc, &parts, &table, &paths, &above)?;
+    let filled_in = is_not_null(alloc, column(alloc, "b")?)?;
+    let all = scan_parts(alloc, &parts, &table, &paths, &filled_in)?;
     let answer = all.whole?;
-    checks.holds("rows of the whole", begin_with(&answer, &[10, 20, 10]));
-    checks.holds("skipped", answer.skipped.as_slice() == [0, 3].as_slice());
+    checks.holds("rows of the whole", begin_with(&answer, &[2, 10, 2, 10]));
+    checks.holds("skipped", answer.skipped.as_slice() == [2].as_slice());
     checks.holds("whole", answer.whole.as_slice() == [1, 4].as_slice());
-    checks.holds("counts", answer.rows_tested == 2 && answer.proofs == 9);
+    checks.holds("counts", answer.rows_tested == 4 && answer.proofs == 10);
     let (mut tested, mut proofs, mut count) = (0, 0, 0);
     for found in all.parts {
         let part = found?;
@@ -137,6 +138,6 @@ pub fn parts_keep_their_law(alloc: Global, checks: &mut Checks<'_>) -> Result<()
         checks.holds("type of a part", part.dtype == answer.dtype);
     }
     checks.holds("rows of the parts", count == answer.rows.len());
-    checks.holds("counts of the parts", tested == 2 && proofs == 9);
+    checks.holds("counts of the parts", tested == 4 && proofs == 10);
     Ok(())
 }
