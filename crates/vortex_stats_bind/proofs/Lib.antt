@@ -1,3 +1,10 @@
-mod BoundValues
+pub mod Alike
+pub mod BoundValues
+mod ClassTests
+mod Columns
 pub mod Items
+mod Made
+mod Reasons
+pub mod ReplacedValues
+mod TextPatterns
 pub mod Truths

@@ -1,6 +1,8 @@
+pub mod Bindings
 pub mod Bound
 pub mod BoundCode
 pub mod BoundFalls
 pub mod BoundTree
 pub mod OperandValue
-pub mod Stats
+pub mod Replaced
+pub mod Truths

@@ -1,190 +1,149 @@
-//! The resolution of column names to positions.
-//!
-//! `bind_proof` is called once for a predicate or a proof of a scan, so that no name is looked up
-//! while rows are tested and chunks judged.
-ghost use Rattle.std.specs.Prelude.{◌≡◌, IfOk, option_map};
-ghost use Rattle.vortex_model.specs.Content.{null};
-ghost use Rattle.vortex_model_table.specs.Expression.{between, like};
+//! Binding: columns become positions, and each node gets a type.
+ghost use Rattle.std.specs.Prelude.{◌≡◌, OnOk, IfOk, option_map};
 ghost use Rattle.vortex_model.specs.Path.{positions};
-ghost use Rattle.vortex_model_table.specs.Truth.{evaluate};
+ghost use Rattle.vortex_model_table.specs.Expression.{column, between, like, HasFormedLiterals};
 ghost use Rattle.vortex_dtype_core.specs.View.{type_of};
-ghost use Rattle.vortex_scalar_core.specs.Scalar.{scalar_content};
-ghost use Rattle.vortex_stats_bind.specs.Bound.{Provided, fixed, evaluate_bound, bound_of, bound_column, by_names};
+ghost use Rattle.vortex_stats_bind.specs.Bindings.{IsBinding, IsBoxed, AreBound, IsResolved};
 ghost use Rattle.vortex_stats_expr.specs.Tree.{is_strict};
 
-use crate::bound::{
-    BoundNode, BoundTree, bound_and, bound_between, bound_compare, bound_is_not_null,
-    bound_is_null, bound_like, bound_literal, bound_not, bound_or, bound_row_count, bound_stat,
+use crate::bound::{BoundColumn, BoundExpression, BoundNode};
+use crate::make::{
+    and, between, compare, is_nan, is_not_null, is_null, like, lit, not, or, row_count, stat,
 };
 use std::alloc::{AllocError, Global};
 use vortex_dtype_core::dtype::DType;
 use vortex_dtype_ptype::field_names::FieldNames;
-use vortex_scalar_core::scalar::Scalar;
-use vortex_scalar_value::clone::clone_value;
+use vortex_dtype_ptype::nullability::Nullability;
+use vortex_stats_expr::error::StatsError;
 use vortex_stats_expr::expression::{Expression, Node};
 use vortex_stats_expr::options::{BetweenOptions, LikeOptions};
 use vortex_stats_expr::types::field_named;
 
-/// Resolves the columns of a predicate over rows of this type, or of a proof over their statistics,
-/// those of its placeholders too. A column that leads nowhere is null. It asks for no fault: what
-/// has one has the value that the definition of truth gives it. The whole is copied, in time linear
-/// in its size.
-#[tactic(auto, using(crate::proofs::BoundValues::resolving))]
-pub fn bind_proof(alloc: Global, proof: &Expression, dtype: &DType) -> Result<BoundTree, AllocError>
-    ensures { IfOk result (λ bound. (provided : Provided) → evaluate_bound provided bound
-        ≡ evaluate (by_names (type_of dtype.now) provided) proof.now) }
+/// Resolves the columns of an expression over rows of this type, as Vortex's `Expression::bind`.
+///
+/// The first fault decides the refusal, children before their parent, left before right:
+/// `UnknownColumn`, `UnequalTypes`, `NotBoolean`, `UnsupportedAggregate`. The expression is copied,
+/// in time linear in its size.
+pub fn bind(alloc: Global, e: &Expression, dtype: &DType) -> Result<BoundExpression, StatsError>
+    ensures bound { IsBinding (type_of dtype.now) e.now result }
+    ensures formed { OnOk result (HasFormedLiterals e.now) }
 {
-    let bound = resolve(alloc, dtype, proof)?;
+    let bound = bind_boxed(alloc, e, dtype)?;
     Ok(Box::into_inner(bound))
 }
 
-// Columns become positions, and null where they lead nowhere. So do a test for NaN and a LIKE that
-// ignores case, which have no truth.
-#[cycle(resolve)]
-fn resolve(alloc: Global, dtype: &DType, e: &Expression) -> Result<Box<BoundTree>, AllocError>
-    ensures { IfOk result (λ bound. bound.value ≡ bound_of (type_of dtype.now) e.now) }
+#[cycle(bind)]
+fn bind_boxed(
+    alloc: Global,
+    e: &Expression,
+    dtype: &DType,
+) -> Result<Box<BoundExpression>, StatsError>
+    ensures bound { IsBoxed (type_of dtype.now) e.now result }
+    ensures formed { OnOk result (HasFormedLiterals e.now) }
 {
     match &e.node {
-        Node::Literal(value) => resolve_literal(alloc, value),
-        Node::Column(path) => resolve_column(alloc, dtype, path),
+        Node::Literal(value) => lit(alloc, value.clone()?),
+        Node::Column(path) => bind_column(alloc, path, dtype),
         Node::Compare(comparison, x, y) => {
-            let (left, right) = resolve_both(alloc, dtype, x, y)?;
-            bound_compare(alloc, *comparison, left, right)
+            let (left, right) = bind_both(alloc, x, y, dtype)?;
+            compare(alloc, *comparison, left, right)
         }
         Node::And(x, y) => {
-            let (left, right) = resolve_both(alloc, dtype, x, y)?;
-            bound_and(alloc, left, right)
+            let (left, right) = bind_both(alloc, x, y, dtype)?;
+            and(alloc, left, right)
         }
         Node::Or(x, y) => {
-            let (left, right) = resolve_both(alloc, dtype, x, y)?;
-            bound_or(alloc, left, right)
+            let (left, right) = bind_both(alloc, x, y, dtype)?;
+            or(alloc, left, right)
         }
         Node::Not(x) => {
-            let input = resolve(alloc, dtype, x)?;
-            bound_not(alloc, input)
+            let input = bind_boxed(alloc, x, dtype)?;
+            not(alloc, input)
         }
         Node::IsNull(x) => {
-            let input = resolve(alloc, dtype, x)?;
-            bound_is_null(alloc, input)
+            let input = bind_boxed(alloc, x, dtype)?;
+            is_null(alloc, input)
         }
         Node::IsNotNull(x) => {
-            let input = resolve(alloc, dtype, x)?;
-            bound_is_not_null(alloc, input)
+            let input = bind_boxed(alloc, x, dtype)?;
+            is_not_null(alloc, input)
         }
-        Node::IsNan(_) => resolve_null(alloc),
+        Node::IsNan(x) => {
+            let input = bind_boxed(alloc, x, dtype)?;
+            is_nan(alloc, input)
+        }
         Node::Between(x, lower, upper, options) => {
-            resolve_range(alloc, dtype, x, lower, upper, *options)
+            let value = bind_boxed(alloc, x, dtype)?;
+            let (lower, upper) = bind_both(alloc, lower, upper, dtype)?;
+            between(alloc, value, lower, upper, *options)
         }
-        Node::Like(x, pattern, options) => resolve_like(alloc, dtype, x, pattern, *options),
-        Node::RowCount => bound_row_count(alloc),
+        Node::Like(x, pattern, options) => {
+            let (value, pattern) = bind_both(alloc, x, pattern, dtype)?;
+            like(alloc, value, pattern, *options)
+        }
+        Node::RowCount => row_count(alloc),
         Node::Stat(aggregate, x) => {
-            let input = resolve(alloc, dtype, x)?;
-            bound_stat(alloc, *aggregate, input)
+            let input = bind_boxed(alloc, x, dtype)?;
+            stat(alloc, *aggregate, input)
         }
     }
 }
 
-#[cycle(resolve)]
-fn resolve_both(
+#[cycle(bind)]
+fn bind_both(
     alloc: Global,
-    dtype: &DType,
     left: &Expression,
     right: &Expression,
-) -> Result<(Box<BoundTree>, Box<BoundTree>), AllocError>
-    ensures left { IfOk result (λ both. both.0.value ≡ bound_of (type_of dtype.now) left.now) }
-    ensures right { IfOk result (λ both. both.1.value ≡ bound_of (type_of dtype.now) right.now) }
+    dtype: &DType,
+) -> Result<(Box<BoundExpression>, Box<BoundExpression>), StatsError>
+    ensures bound { AreBound (type_of dtype.now) left.now right.now result }
+    ensures formed { OnOk result (HasFormedLiterals left.now) }
+    ensures formed_right { OnOk result (HasFormedLiterals right.now) }
 {
-    let first = resolve(alloc, dtype, left)?;
-    let second = resolve(alloc, dtype, right)?;
+    let first = bind_boxed(alloc, left, dtype)?;
+    let second = bind_boxed(alloc, right, dtype)?;
     Ok((first, second))
 }
 
-#[cycle(resolve)]
-fn resolve_range(
+// The column at a path of names.
+fn bind_column(
     alloc: Global,
-    dtype: &DType,
-    value: &Expression,
-    lower: &Expression,
-    upper: &Expression,
-    options: BetweenOptions,
-) -> Result<Box<BoundTree>, AllocError>
-    ensures { IfOk result (λ bound. bound.value ≡ bound_of (type_of dtype.now) (between value.now
-        lower.now upper.now (is_strict options.lower_strict) (is_strict options.upper_strict))) }
-{
-    let (lower, upper) = resolve_both(alloc, dtype, lower, upper)?;
-    let value = resolve(alloc, dtype, value)?;
-    bound_between(alloc, value, lower, upper, options)
-}
-
-#[cycle(resolve)]
-fn resolve_like(
-    alloc: Global,
-    dtype: &DType,
-    value: &Expression,
-    pattern: &Expression,
-    options: LikeOptions,
-) -> Result<Box<BoundTree>, AllocError>
-    ensures { IfOk result (λ bound. bound.value ≡ bound_of (type_of dtype.now) (like value.now
-        pattern.now options.negated options.case_insensitive)) }
-{
-    if options.case_insensitive {
-        return resolve_null(alloc);
-    }
-    let (value, pattern) = resolve_both(alloc, dtype, value, pattern)?;
-    bound_like(alloc, value, pattern, options.negated)
-}
-
-fn resolve_null(alloc: Global) -> Result<Box<BoundTree>, AllocError>
-    ensures { IfOk result (λ bound. bound.value ≡ fixed null) }
-{
-    Ok(Box::new(alloc, bound_literal(None))?)
-}
-
-fn resolve_literal(alloc: Global, value: &Scalar) -> Result<Box<BoundTree>, AllocError>
-    ensures { IfOk result (λ bound. bound.value ≡ fixed (scalar_content value.now)) }
-{
-    let value = clone_value(value.value())?;
-    Ok(Box::new(alloc, bound_literal(value))?)
-}
-
-/// A column's positions, and null where it leads nowhere, as an expression in a box.
-pub fn resolve_column(
-    alloc: Global,
-    dtype: &DType,
     path: &FieldNames,
-) -> Result<Box<BoundTree>, AllocError>
-    ensures { IfOk result
-        (λ bound. bound.value ≡ bound_column (positions (type_of dtype.now) path.now)) }
+    dtype: &DType,
+) -> Result<Box<BoundExpression>, StatsError>
+    ensures { IsBoxed (type_of dtype.now) (column path.now) result }
 {
-    match column_positions(alloc, dtype, path)? {
-        Some(positions) => {
-            let bound = BoundTree {
-                node: BoundNode::Column(positions),
-            };
-            Ok(Box::new(alloc, bound)?)
+    match resolve(alloc, path, dtype)? {
+        Some(column) => {
+            let bound = BoundExpression::boxed(alloc, BoundNode::Column(column))?;
+            Ok(bound)
         }
-        None => resolve_null(alloc),
+        None => Err(StatsError::UnknownColumn),
     }
 }
 
-/// The positions that a path of names stands for: at each step the index of the first field of
-/// that name. `None` where a name leads nowhere. The empty path is the row itself.
-pub fn column_positions(
+// The column that a path of names leads to, and `None` where it leads nowhere.
+fn resolve(
     alloc: Global,
-    dtype: &DType,
     path: &FieldNames,
-) -> Result<Option<Vec<usize>>, AllocError>
-    ensures { IfOk result (λ found. option_map (λ is. is.items) found
-        ≡ positions (type_of dtype.now) path.now) }
+    dtype: &DType,
+) -> Result<Option<BoundColumn>, AllocError>
+    ensures { IfOk result (λ found. IsResolved (type_of dtype.now) path.now found) }
 {
-    let mut found = Vec::with_capacity(alloc, path.len())?;
-    let mut current = dtype;
+    let mut positions = Vec::with_capacity(alloc, path.len())?;
+    let mut part = dtype;
+    let mut around = Nullability::NonNullable;
     for name in path.as_slice() {
-        let Some((position, part)) = field_named(current, name) else {
+        let Some((position, next)) = field_named(part, name) else {
             return Ok(None);
         };
-        found.push(position)?;
-        current = part;
+        around = around | part.nullability();
+        positions.push(position)?;
+        part = next;
     }
-    Ok(Some(found))
+    Ok(Some(BoundColumn {
+        names: path.clone()?,
+        positions,
+        dtype: part.union_nullability(around)?,
+    }))
 }

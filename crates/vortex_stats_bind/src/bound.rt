@@ -2,12 +2,14 @@
 //!
 //! One walk evaluates both. What columns and placeholders stand for is handed to it: at a row the
 //! row's values, and of a zone of rows its statistics.
-ghost use Rattle.std.specs.Prelude.{◌≡◌, IfOk, IfSome, IfNone, None};
+ghost use Rattle.std.specs.Prelude.{◌≡◌, IfOk, IfSome, IfNone, None, Some};
 ghost use Rattle.vortex_model.specs.Content.{content_of};
 ghost use Rattle.vortex_model.specs.Path.{at, part_of};
 ghost use Rattle.vortex_model_table.specs.Truth.{is_true};
-ghost use Rattle.vortex_scalar_value.specs.View.{raw_of, content_at, content_in};
-ghost use Rattle.vortex_stats_bind.specs.Bound.{Provided, fixed, place, test, each, some, opposite, null_test, value_test, range_test, match_test, count_of_rows, placeholder, place_of, evaluate_bound, bound_value};
+ghost use Rattle.vortex_dtype_core.specs.View.{type_of};
+ghost use Rattle.vortex_scalar_core.specs.Scalar.{scalar_type, scalar_content};
+ghost use Rattle.vortex_scalar_value.specs.View.{raw_of, content_at};
+ghost use Rattle.vortex_stats_bind.specs.Bound.{Provided, fixed, place, test, each, some, opposite, null_test, value_test, nan_test, range_test, match_test, count_of_rows, placeholder, place_of, evaluate_bound, bound_value};
 ghost use Rattle.vortex_stats_bind.specs.OperandValue.{operand_value};
 ghost use Rattle.vortex_stats_expr.specs.Tree.{comparison_of, is_strict};
 ghost use Rattle.vortex_stats_expr.specs.Aggregate.{aggregate_of};
@@ -18,39 +20,54 @@ use crate::value::{
 };
 use std::alloc::{AllocError, Global};
 use std::marker::Model;
+use vortex_dtype_core::dtype::DType;
+use vortex_dtype_ptype::field_names::FieldNames;
+use vortex_scalar_core::scalar::Scalar;
 use vortex_scalar_value::scalar_value::ScalarValue;
 use vortex_stats_expr::aggregate::AggregateFn;
 use vortex_stats_expr::operator::Comparison;
-use vortex_stats_expr::options::BetweenOptions;
+use vortex_stats_expr::options::{BetweenOptions, LikeOptions};
 
-/// A predicate or a proof over rows of one type, the tree of what Vortex calls a bound expression.
-/// `bind` makes one of a predicate without a fault, and `bind_proof` of any proof. Contracts see it
-/// as a tree with positions in place of names.
+/// A predicate or a proof over rows of one type with its columns resolved, as Vortex's
+/// `BoundExpression`. `bind` makes one of an expression, and the functions of `make` one of others;
+/// each tests the types. Contracts see it as a tree with positions and types at its leaves.
 #[cycle(bound)]
 #[derive(Drop)]
-pub struct BoundTree {
+pub struct BoundExpression {
     /// The form, with the parts that it is made of.
     pub node: BoundNode,
 }
 
-/// The forms of bound expressions. A column is told by positions, each the index of a field in the
-/// record before it.
+/// A column of rows of one type.
+#[derive(Clone, Drop)]
+pub struct BoundColumn {
+    /// The names of the fields that lead to it from the row.
+    pub names: FieldNames,
+    /// The index of each of these fields in the record before it.
+    pub positions: Vec<usize>,
+    /// The type of its values, nullable also where a record on the way is.
+    pub dtype: DType,
+}
+
+/// The forms of bound expressions.
 #[cycle(bound)]
 pub enum BoundNode {
-    Literal(Option<ScalarValue>),
-    Column(Vec<usize>),
-    Compare(Comparison, Box<BoundTree>, Box<BoundTree>),
-    And(Box<BoundTree>, Box<BoundTree>),
-    Or(Box<BoundTree>, Box<BoundTree>),
-    Not(Box<BoundTree>),
-    IsNull(Box<BoundTree>),
-    IsNotNull(Box<BoundTree>),
+    Literal(Scalar),
+    Column(BoundColumn),
+    Compare(Comparison, Box<BoundExpression>, Box<BoundExpression>),
+    And(Box<BoundExpression>, Box<BoundExpression>),
+    Or(Box<BoundExpression>, Box<BoundExpression>),
+    Not(Box<BoundExpression>),
+    IsNull(Box<BoundExpression>),
+    IsNotNull(Box<BoundExpression>),
+    IsNan(Box<BoundExpression>),
     // The value, the lower end and the upper end.
-    Between(Box<BoundTree>, Box<BoundTree>, Box<BoundTree>, BetweenOptions),
-    // The value, the pattern, and whether the answer is negated. Letters keep their case.
-    Like(Box<BoundTree>, Box<BoundTree>, bool),
+    Between(Box<BoundExpression>, Box<BoundExpression>, Box<BoundExpression>, BetweenOptions),
+    // The value and the pattern.
+    Like(Box<BoundExpression>, Box<BoundExpression>, LikeOptions),
     RowCount,
-    Stat(AggregateFn, Box<BoundTree>),
+    // The values that the statistic is of, and the type of the statistic.
+    Stat(AggregateFn, Box<BoundExpression>, DType),
 }
 
 impl Drop for BoundNode {
@@ -58,22 +75,23 @@ impl Drop for BoundNode {
     fn drop(self) {
         match self {
             BoundNode::Literal(_value) => {}
-            BoundNode::Column(_path) => {}
+            BoundNode::Column(_column) => {}
             BoundNode::Compare(_, _left, _right) => {}
             BoundNode::And(_left, _right) => {}
             BoundNode::Or(_left, _right) => {}
             BoundNode::Not(_input) => {}
             BoundNode::IsNull(_input) => {}
             BoundNode::IsNotNull(_input) => {}
+            BoundNode::IsNan(_input) => {}
             BoundNode::Between(_value, _lower, _upper, _) => {}
             BoundNode::Like(_value, _pattern, _) => {}
             BoundNode::RowCount => {}
-            BoundNode::Stat(_, _input) => {}
+            BoundNode::Stat(_, _input, _dtype) => {}
         }
     }
 }
 
-impl Model for BoundTree {
+impl Model for BoundExpression {
     ghost use Rattle.vortex_stats_bind.specs.Bound.{Bound, bound_size};
     ghost use Rattle.vortex_stats_bind.specs.BoundCode.{bound_code};
 
@@ -92,144 +110,140 @@ impl Model for BoundTree {
     ghost size_decreases = { λ a h. depth_le-size a.node };
 }
 
-/// The comparison of two expressions. What is bound is handed on in boxes, in which it ends up
-/// anyway, since every level of an expression would move it.
-pub(crate) fn bound_compare(
+impl BoundExpression {
+    ghost use Rattle.vortex_stats_bind.specs.BoundTree.{bound_tree};
+
+    // What is bound is handed on in boxes, in which it ends up anyway, since every level of an
+    // expression would move it.
+    pub(crate) fn boxed(alloc: Global, node: BoundNode) -> Result<Box<BoundExpression>, AllocError>
+        ensures { IfOk result (λ bound. bound.value ≡ bound_tree node) }
+    {
+        Ok(Box::new(alloc, BoundExpression { node })?)
+    }
+}
+
+/// The comparison of two expressions.
+pub fn bound_compare(
     alloc: Global,
     comparison: Comparison,
-    left: Box<BoundTree>,
-    right: Box<BoundTree>,
-) -> Result<Box<BoundTree>, AllocError>
+    left: Box<BoundExpression>,
+    right: Box<BoundExpression>,
+) -> Result<Box<BoundExpression>, AllocError>
     ensures { IfOk result
         (λ bound. bound.value ≡ test (comparison_of comparison) left.value right.value) }
 {
-    let bound = BoundTree {
-        node: BoundNode::Compare(comparison, left, right),
-    };
-    Ok(Box::new(alloc, bound)?)
+    BoundExpression::boxed(alloc, BoundNode::Compare(comparison, left, right))
 }
 
 /// AND of two expressions.
 pub fn bound_and(
     alloc: Global,
-    left: Box<BoundTree>,
-    right: Box<BoundTree>,
-) -> Result<Box<BoundTree>, AllocError>
+    left: Box<BoundExpression>,
+    right: Box<BoundExpression>,
+) -> Result<Box<BoundExpression>, AllocError>
     ensures { IfOk result (λ bound. bound.value ≡ each left.value right.value) }
 {
-    let bound = BoundTree {
-        node: BoundNode::And(left, right),
-    };
-    Ok(Box::new(alloc, bound)?)
+    BoundExpression::boxed(alloc, BoundNode::And(left, right))
 }
 
 /// OR of two expressions.
 pub fn bound_or(
     alloc: Global,
-    left: Box<BoundTree>,
-    right: Box<BoundTree>,
-) -> Result<Box<BoundTree>, AllocError>
+    left: Box<BoundExpression>,
+    right: Box<BoundExpression>,
+) -> Result<Box<BoundExpression>, AllocError>
     ensures { IfOk result (λ bound. bound.value ≡ some left.value right.value) }
 {
-    let bound = BoundTree {
-        node: BoundNode::Or(left, right),
-    };
-    Ok(Box::new(alloc, bound)?)
+    BoundExpression::boxed(alloc, BoundNode::Or(left, right))
 }
 
-pub(crate) fn bound_not(alloc: Global, input: Box<BoundTree>) -> Result<Box<BoundTree>, AllocError>
+pub(crate) fn bound_not(
+    alloc: Global,
+    input: Box<BoundExpression>,
+) -> Result<Box<BoundExpression>, AllocError>
     ensures { IfOk result (λ bound. bound.value ≡ opposite input.value) }
 {
-    let bound = BoundTree {
-        node: BoundNode::Not(input),
-    };
-    Ok(Box::new(alloc, bound)?)
+    BoundExpression::boxed(alloc, BoundNode::Not(input))
 }
 
 pub(crate) fn bound_is_null(
     alloc: Global,
-    input: Box<BoundTree>,
-) -> Result<Box<BoundTree>, AllocError>
+    input: Box<BoundExpression>,
+) -> Result<Box<BoundExpression>, AllocError>
     ensures { IfOk result (λ bound. bound.value ≡ null_test input.value) }
 {
-    let bound = BoundTree {
-        node: BoundNode::IsNull(input),
-    };
-    Ok(Box::new(alloc, bound)?)
+    BoundExpression::boxed(alloc, BoundNode::IsNull(input))
 }
 
 pub(crate) fn bound_is_not_null(
     alloc: Global,
-    input: Box<BoundTree>,
-) -> Result<Box<BoundTree>, AllocError>
+    input: Box<BoundExpression>,
+) -> Result<Box<BoundExpression>, AllocError>
     ensures { IfOk result (λ bound. bound.value ≡ value_test input.value) }
 {
-    let bound = BoundTree {
-        node: BoundNode::IsNotNull(input),
-    };
-    Ok(Box::new(alloc, bound)?)
+    BoundExpression::boxed(alloc, BoundNode::IsNotNull(input))
 }
 
 pub(crate) fn bound_between(
     alloc: Global,
-    value: Box<BoundTree>,
-    lower: Box<BoundTree>,
-    upper: Box<BoundTree>,
+    value: Box<BoundExpression>,
+    lower: Box<BoundExpression>,
+    upper: Box<BoundExpression>,
     options: BetweenOptions,
-) -> Result<Box<BoundTree>, AllocError>
+) -> Result<Box<BoundExpression>, AllocError>
     ensures { IfOk result (λ bound. bound.value ≡ range_test value.value lower.value upper.value
         (is_strict options.lower_strict) (is_strict options.upper_strict)) }
 {
-    let bound = BoundTree {
-        node: BoundNode::Between(value, lower, upper, options),
-    };
-    Ok(Box::new(alloc, bound)?)
+    BoundExpression::boxed(alloc, BoundNode::Between(value, lower, upper, options))
+}
+
+pub(crate) fn bound_is_nan(
+    alloc: Global,
+    input: Box<BoundExpression>,
+) -> Result<Box<BoundExpression>, AllocError>
+    ensures { IfOk result (λ bound. bound.value ≡ nan_test input.value) }
+{
+    BoundExpression::boxed(alloc, BoundNode::IsNan(input))
 }
 
 pub(crate) fn bound_like(
     alloc: Global,
-    value: Box<BoundTree>,
-    pattern: Box<BoundTree>,
-    negated: bool,
-) -> Result<Box<BoundTree>, AllocError>
-    ensures { IfOk result (λ bound. bound.value ≡ match_test value.value pattern.value negated) }
+    value: Box<BoundExpression>,
+    pattern: Box<BoundExpression>,
+    options: LikeOptions,
+) -> Result<Box<BoundExpression>, AllocError>
+    ensures { IfOk result (λ bound. bound.value ≡ match_test value.value pattern.value
+        options.negated options.case_insensitive) }
 {
-    let bound = BoundTree {
-        node: BoundNode::Like(value, pattern, negated),
-    };
-    Ok(Box::new(alloc, bound)?)
+    BoundExpression::boxed(alloc, BoundNode::Like(value, pattern, options))
 }
 
-pub(crate) fn bound_row_count(alloc: Global) -> Result<Box<BoundTree>, AllocError>
+/// The number of rows that a proof is about.
+pub fn bound_row_count(alloc: Global) -> Result<Box<BoundExpression>, AllocError>
     ensures { IfOk result (λ bound. bound.value ≡ count_of_rows) }
 {
-    let bound = BoundTree {
-        node: BoundNode::RowCount,
-    };
-    Ok(Box::new(alloc, bound)?)
+    BoundExpression::boxed(alloc, BoundNode::RowCount)
 }
 
-pub(crate) fn bound_stat(
+/// A placeholder for a statistic, of this type, of the values of an expression.
+pub fn bound_stat(
     alloc: Global,
     aggregate: AggregateFn,
-    input: Box<BoundTree>,
-) -> Result<Box<BoundTree>, AllocError>
-    ensures { IfOk result
-        (λ bound. bound.value ≡ placeholder input.value (aggregate_of aggregate)) }
+    input: Box<BoundExpression>,
+    dtype: DType,
+) -> Result<Box<BoundExpression>, AllocError>
+    ensures { IfOk result (λ bound. bound.value
+        ≡ placeholder input.value (aggregate_of aggregate) (type_of dtype)) }
 {
-    let bound = BoundTree {
-        node: BoundNode::Stat(aggregate, input),
-    };
-    Ok(Box::new(alloc, bound)?)
+    BoundExpression::boxed(alloc, BoundNode::Stat(aggregate, input, dtype))
 }
 
-/// A literal, where `None` is null. Binders answer placeholders by it.
-pub fn bound_literal(value: Option<ScalarValue>) -> BoundTree
-    ensures { result ≡ fixed (content_in value) }
+/// A literal.
+pub fn bound_literal(alloc: Global, value: Scalar) -> Result<Box<BoundExpression>, AllocError>
+    ensures { IfOk result
+        (λ bound. bound.value ≡ fixed (scalar_type value) (scalar_content value)) }
 {
-    BoundTree {
-        node: BoundNode::Literal(value),
-    }
+    BoundExpression::boxed(alloc, BoundNode::Literal(value))
 }
 
 /// What the columns and the placeholders of a bound expression stand for, as values that stay where
@@ -242,7 +256,7 @@ pub trait Operands {
         ensures { operand_value result ≡ (provided self.now).columns path.now };
 
     /// The value of a statistic of the values of `input`, null where it is not known.
-    fn statistic<'a>(&'a self, input: &BoundTree, aggregate: AggregateFn) -> Value<'a>
+    fn statistic<'a>(&'a self, input: &BoundExpression, aggregate: AggregateFn) -> Value<'a>
         ensures { operand_value result
             ≡ (provided self.now).statistics input.now (aggregate_of aggregate) };
 
@@ -263,7 +277,7 @@ impl Operands for ScalarValue {
         read(part_at(self, path))
     }
 
-    fn statistic<'a>(&'a self, _input: &BoundTree, _aggregate: AggregateFn) -> Value<'a> {
+    fn statistic<'a>(&'a self, _input: &BoundExpression, _aggregate: AggregateFn) -> Value<'a> {
         Value::Null
     }
 
@@ -274,12 +288,12 @@ impl Operands for ScalarValue {
 
 /// The value of a bound expression, borrowed from it or from what its columns and placeholders
 /// stand for.
-pub fn value_of<'a, S: Operands>(e: &'a BoundTree, source: &'a S) -> Value<'a>
+pub fn value_of<'a, S: Operands>(e: &'a BoundExpression, source: &'a S) -> Value<'a>
     ensures { operand_value result ≡ evaluate_bound (S.provided source.now) e.now }
 {
     match &e.node {
-        BoundNode::Literal(value) => read(value.as_ref()),
-        BoundNode::Column(path) => source.column(path),
+        BoundNode::Literal(value) => read(value.value()),
+        BoundNode::Column(column) => source.column(&column.positions),
         BoundNode::Compare(comparison, x, y) => truth_value(compare_values(
             *comparison,
             value_of(x, source),
@@ -296,17 +310,23 @@ pub fn value_of<'a, S: Operands>(e: &'a BoundTree, source: &'a S) -> Value<'a>
             value_of(upper, source),
             *options,
         )),
-        BoundNode::Like(x, pattern, negated) => truth_value(like_values(
-            value_of(x, source),
-            value_of(pattern, source),
-            *negated,
-        )),
+        BoundNode::IsNan(_) => Value::Null,
+        BoundNode::Like(x, pattern, options) => {
+            if options.case_insensitive {
+                return Value::Null;
+            }
+            truth_value(like_values(
+                value_of(x, source),
+                value_of(pattern, source),
+                options.negated,
+            ))
+        }
         BoundNode::RowCount => Value::Count(source.rows()),
-        BoundNode::Stat(aggregate, input) => source.statistic(input, *aggregate),
+        BoundNode::Stat(aggregate, input, _) => source.statistic(input, *aggregate),
     }
 }
 
-impl BoundTree {
+impl BoundExpression {
     /// Whether it is true where its columns and placeholders stand for these: neither false nor
     /// null. It allocates nothing.
     #[tactic(auto, using(crate::proofs::Truths::is_true_by))]
@@ -327,22 +347,23 @@ impl BoundTree {
     /// The positions of the column, where it is a column and nothing else. What answers
     /// placeholders asks it of their inputs.
     pub fn as_column(&self) -> Option<&[usize]>
-        ensures path { IfSome result (λ path. self.now ≡ place path.now) }
+        ensures path { IfSome result (λ path. place_of self.now ≡ Some path.now) }
         ensures none { IfNone result (place_of self.now ≡ None) }
     {
         match &self.node {
             BoundNode::Literal(_) => None,
-            BoundNode::Column(path) => Some(path),
+            BoundNode::Column(column) => Some(column.positions.as_slice()),
             BoundNode::Compare(_, _, _) => None,
             BoundNode::And(_, _) => None,
             BoundNode::Or(_, _) => None,
             BoundNode::Not(_) => None,
             BoundNode::IsNull(_) => None,
             BoundNode::IsNotNull(_) => None,
+            BoundNode::IsNan(_) => None,
             BoundNode::Between(_, _, _, _) => None,
             BoundNode::Like(_, _, _) => None,
             BoundNode::RowCount => None,
-            BoundNode::Stat(_, _) => None,
+            BoundNode::Stat(_, _, _) => None,
         }
     }
 }

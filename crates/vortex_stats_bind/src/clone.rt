@@ -2,16 +2,15 @@
 ghost use Rattle.std.specs.Prelude.{◌≡◌, IfOk};
 ghost use Rattle.vortex_stats_bind.specs.BoundTree.{bound_tree};
 
-use crate::bound::{BoundNode, BoundTree};
+use crate::bound::{BoundExpression, BoundNode};
 use std::alloc::AllocError;
-use vortex_scalar_value::clone::clone_value;
 
-impl Clone for BoundTree {
+impl Clone for BoundExpression {
     ghost is_clone = { λ old new. new ≡ old };
 
-    fn clone(&self) -> Result<BoundTree, AllocError> {
+    fn clone(&self) -> Result<BoundExpression, AllocError> {
         let node = copy_of(&self.node)?;
-        Ok(BoundTree { node })
+        Ok(BoundExpression { node })
     }
 }
 
@@ -29,12 +28,12 @@ fn copy_of(node: &BoundNode) -> Result<BoundNode, AllocError>
 {
     match node {
         BoundNode::Literal(value) => {
-            let value = clone_value(value.as_ref())?;
+            let value = value.clone()?;
             Ok(BoundNode::Literal(value))
         }
-        BoundNode::Column(path) => {
-            let path = path.clone()?;
-            Ok(BoundNode::Column(path))
+        BoundNode::Column(column) => {
+            let column = column.clone()?;
+            Ok(BoundNode::Column(column))
         }
         BoundNode::Compare(comparison, x, y) => {
             let (left, right) = copy_both(x, y)?;
@@ -60,28 +59,33 @@ fn copy_of(node: &BoundNode) -> Result<BoundNode, AllocError>
             let input = copy_boxed(x)?;
             Ok(BoundNode::IsNotNull(input))
         }
+        BoundNode::IsNan(x) => {
+            let input = copy_boxed(x)?;
+            Ok(BoundNode::IsNan(input))
+        }
         BoundNode::Between(x, lower, upper, options) => {
             let value = copy_boxed(x)?;
             let (lower, upper) = copy_both(lower, upper)?;
             Ok(BoundNode::Between(value, lower, upper, *options))
         }
-        BoundNode::Like(x, pattern, negated) => {
+        BoundNode::Like(x, pattern, options) => {
             let (value, pattern) = copy_both(x, pattern)?;
-            Ok(BoundNode::Like(value, pattern, *negated))
+            Ok(BoundNode::Like(value, pattern, *options))
         }
         BoundNode::RowCount => Ok(BoundNode::RowCount),
-        BoundNode::Stat(aggregate, x) => {
+        BoundNode::Stat(aggregate, x, dtype) => {
             let input = copy_boxed(x)?;
-            Ok(BoundNode::Stat(*aggregate, input))
+            let dtype = dtype.clone()?;
+            Ok(BoundNode::Stat(*aggregate, input, dtype))
         }
     }
 }
 
 #[cycle(copy)]
 fn copy_both(
-    left: &Box<BoundTree>,
-    right: &Box<BoundTree>,
-) -> Result<(Box<BoundTree>, Box<BoundTree>), AllocError>
+    left: &Box<BoundExpression>,
+    right: &Box<BoundExpression>,
+) -> Result<(Box<BoundExpression>, Box<BoundExpression>), AllocError>
     ensures left { IfOk result (λ copies. copies.0.value ≡ left.now.value) }
     ensures right { IfOk result (λ copies. copies.1.value ≡ right.now.value) }
 {
@@ -91,9 +95,9 @@ fn copy_both(
 }
 
 #[cycle(copy)]
-fn copy_boxed(tree: &Box<BoundTree>) -> Result<Box<BoundTree>, AllocError>
+fn copy_boxed(tree: &Box<BoundExpression>) -> Result<Box<BoundExpression>, AllocError>
     ensures { IfOk result (λ copy. copy.value ≡ tree.now.value) }
 {
     let node = copy_of(&tree.node)?;
-    Ok(Box::new(*Box::allocator(tree), BoundTree { node })?)
+    Ok(Box::new(*Box::allocator(tree), BoundExpression { node })?)
 }

@@ -4,5 +4,8 @@
 pub mod bind;
 pub mod bound;
 pub mod clone;
+pub mod laws;
+pub mod make;
 pub mod stats;
+pub mod types;
 pub mod value;

@@ -1,59 +1,71 @@
-//! Values for the placeholders of a bound proof, for a caller that looks at the proof without them.
-//! `BoundTree::holds` evaluates a proof in one walk that allocates nothing.
-ghost use Rattle.std.specs.Prelude.{◌≡◌, IfOk};
-ghost use Rattle.vortex_model.specs.Content.{Content};
+//! Placeholders replaced by what a source of statistics has for them.
+ghost use Rattle.std.specs.Prelude.{◌≡◌, IfOk, Option};
+ghost use Rattle.vortex_model.specs.LogicalType.{LogicalType};
 ghost use Rattle.vortex_model_table.specs.Expression.{Aggregate};
-ghost use Rattle.vortex_scalar_value.specs.View.{content_at};
-ghost use Rattle.vortex_stats_bind.specs.Bound.{Bound, fixed, place, range_test, placeholder};
-ghost use Rattle.vortex_stats_bind.specs.Stats.{IsAnswer, IsBinding};
+ghost use Rattle.vortex_dtype_core.specs.View.{type_of};
+ghost use Rattle.vortex_stats_bind.specs.Bound.{Bound, range_test, placeholder};
+ghost use Rattle.vortex_stats_bind.specs.Replaced.{answered, replaced, typed_null};
 ghost use Rattle.vortex_stats_expr.specs.Tree.{is_strict};
 ghost use Rattle.vortex_stats_expr.specs.Aggregate.{aggregate_of};
 
 use crate::bound::{
-    BoundNode, BoundTree, bound_and, bound_between, bound_compare, bound_is_not_null,
-    bound_is_null, bound_like, bound_literal, bound_not, bound_or, bound_row_count,
+    BoundExpression, BoundNode, bound_and, bound_between, bound_compare, bound_is_nan,
+    bound_is_not_null, bound_is_null, bound_like, bound_literal, bound_not, bound_or,
+    bound_row_count,
 };
 use std::alloc::{AllocError, Global};
-use vortex_scalar_value::clone::clone_value;
-use vortex_scalar_value::scalar_value::ScalarValue;
+use vortex_dtype_core::dtype::DType;
+use vortex_dtype_ptype::nullability::Nullability;
+use vortex_scalar_core::scalar::Scalar;
 use vortex_stats_expr::aggregate::AggregateFn;
 use vortex_stats_expr::options::BetweenOptions;
 
-/// A source of statistics of some rows, as Vortex's `StatBinder`. Literals carry no type here, so
-/// it is told none.
+/// A source of statistics of some rows, as Vortex's `StatBinder`: a zone map answers columns of its
+/// table of zones, a file's footer literals.
 pub trait StatBinder {
-    /// The value of a statistic of an expression, that of `missing` where it is not known.
-    ghost meaning: { Self → Bound → Aggregate → Content };
+    /// What it answers for a statistic of the values of an expression, if it has it.
+    ghost answers: { Self → Bound → Aggregate → Option Bound };
 
-    /// What stands for statistics that are not known.
-    ghost missing: { Self → Content };
+    /// What stands for statistics that it hasn't: null of their type.
+    ghost missing: { Self → LogicalType → Bound } = { λ _ k. typed_null k };
 
-    /// A literal of the statistic's value, and `None` where it isn't known.
+    /// The expression that has the statistic's value, which is of the type `stat_dtype`, and `None`
+    /// where it isn't known.
     fn bind_aggregate(
         &self,
         alloc: Global,
-        input: &BoundTree,
+        input: &BoundExpression,
         aggregate: AggregateFn,
-    ) -> Result<Option<BoundTree>, AllocError>
+        stat_dtype: &DType,
+    ) -> Result<Option<BoundExpression>, AllocError>
         ensures { IfOk result
-            (λ found. IsAnswer (missing self.now) found
-            (meaning self.now input.now (aggregate_of aggregate))) };
+            (λ found. found ≡ answers self.now input.now (aggregate_of aggregate)) };
 
-    /// A literal that stands for each statistic that isn't known. A source that has nothing better
-    /// answers null.
-    fn missing_stat(&self, alloc: Global) -> Result<BoundTree, AllocError>
-        ensures { IfOk result (λ literal. literal ≡ fixed (missing self.now)) };
+    /// The expression that stands for a statistic of this type that isn't known.
+    fn missing_stat(&self, alloc: Global, dtype: &DType) -> Result<BoundExpression, AllocError>
+        ensures { IfOk result (λ b. b ≡ missing self.now (type_of dtype.now)) };
 }
 
-/// The proof with each placeholder replaced by the binder's literal, or by its `missing_stat` where
-/// there is none, as Vortex's `bind_stats`. It asks the binder once for each placeholder, and looks
-/// for none in what it answers.
+/// Null of the type, made nullable: what a `StatBinder` answers for missing statistics unless it
+/// has something better.
+pub fn null_of(alloc: Global, dtype: &DType) -> Result<BoundExpression, AllocError>
+    ensures { IfOk result (λ b. b ≡ typed_null (type_of dtype.now)) }
+{
+    let dtype = dtype.with_nullability(Nullability::Nullable)?;
+    let bound = bound_literal(alloc, Scalar::null(dtype))?;
+    Ok(Box::into_inner(bound))
+}
+
+/// The proof with each placeholder replaced by what the binder answers, or by its `missing_stat`
+/// where it answers none, as Vortex's `bind_stats`. It asks the binder once for each placeholder,
+/// and looks for none in what it answers.
 pub fn bind_stats<B: StatBinder>(
     alloc: Global,
-    proof: &BoundTree,
+    proof: &BoundExpression,
     binder: &B,
-) -> Result<BoundTree, AllocError>
-    ensures { IfOk result (λ bound. IsBinding (B.meaning binder.now) proof.now bound) }
+) -> Result<BoundExpression, AllocError>
+    ensures { IfOk result (λ bound. bound
+        ≡ replaced (answered (B.answers binder.now) (B.missing binder.now)) proof.now) }
 {
     let bound = bind_boxed(alloc, proof, binder)?;
     Ok(Box::into_inner(bound))
@@ -62,14 +74,16 @@ pub fn bind_stats<B: StatBinder>(
 #[cycle(bind)]
 fn bind_boxed<B: StatBinder>(
     alloc: Global,
-    proof: &BoundTree,
+    proof: &BoundExpression,
     binder: &B,
-) -> Result<Box<BoundTree>, AllocError>
-    ensures { IfOk result (λ bound. IsBinding (B.meaning binder.now) proof.now bound.value) }
+) -> Result<Box<BoundExpression>, AllocError>
+    ensures { IfOk result (λ bound. bound.value
+        ≡ replaced (answered (B.answers binder.now) (B.missing binder.now)) proof.now) }
 {
     match &proof.node {
-        BoundNode::Literal(value) => copy_literal(alloc, value.as_ref()),
-        BoundNode::Column(path) => copy_column(alloc, path),
+        BoundNode::Literal(_) | BoundNode::Column(_) | BoundNode::RowCount => {
+            Ok(Box::new(alloc, proof.clone()?)?)
+        }
         BoundNode::Compare(comparison, x, y) => {
             let (left, right) = bind_both(alloc, x, y, binder)?;
             bound_compare(alloc, *comparison, left, right)
@@ -97,24 +111,31 @@ fn bind_boxed<B: StatBinder>(
         BoundNode::Between(x, lower, upper, options) => {
             bind_range(alloc, x, lower, upper, *options, binder)
         }
-        BoundNode::Like(x, pattern, negated) => {
+        BoundNode::Like(x, pattern, options) => {
             let (value, pattern) = bind_both(alloc, x, pattern, binder)?;
-            bound_like(alloc, value, pattern, *negated)
+            bound_like(alloc, value, pattern, *options)
         }
-        BoundNode::RowCount => bound_row_count(alloc),
-        BoundNode::Stat(aggregate, input) => bind_stat(alloc, *aggregate, input, binder),
+        BoundNode::IsNan(x) => {
+            let input = bind_boxed(alloc, x, binder)?;
+            bound_is_nan(alloc, input)
+        }
+        BoundNode::Stat(aggregate, input, dtype) => {
+            bind_stat(alloc, *aggregate, input, dtype, binder)
+        }
     }
 }
 
 #[cycle(bind)]
 fn bind_both<B: StatBinder>(
     alloc: Global,
-    x: &BoundTree,
-    y: &BoundTree,
+    x: &BoundExpression,
+    y: &BoundExpression,
     binder: &B,
-) -> Result<(Box<BoundTree>, Box<BoundTree>), AllocError>
-    ensures left { IfOk result (λ bound. IsBinding (B.meaning binder.now) x.now bound.0.value) }
-    ensures right { IfOk result (λ bound. IsBinding (B.meaning binder.now) y.now bound.1.value) }
+) -> Result<(Box<BoundExpression>, Box<BoundExpression>), AllocError>
+    ensures left { IfOk result (λ bound. bound.0.value
+        ≡ replaced (answered (B.answers binder.now) (B.missing binder.now)) x.now) }
+    ensures right { IfOk result (λ bound. bound.1.value
+        ≡ replaced (answered (B.answers binder.now) (B.missing binder.now)) y.now) }
 {
     let left = bind_boxed(alloc, x, binder)?;
     let right = bind_boxed(alloc, y, binder)?;
@@ -124,48 +145,36 @@ fn bind_both<B: StatBinder>(
 #[cycle(bind)]
 fn bind_range<B: StatBinder>(
     alloc: Global,
-    x: &BoundTree,
-    lower: &BoundTree,
-    upper: &BoundTree,
+    x: &BoundExpression,
+    lower: &BoundExpression,
+    upper: &BoundExpression,
     options: BetweenOptions,
     binder: &B,
-) -> Result<Box<BoundTree>, AllocError>
-    ensures { IfOk result (λ bound. IsBinding (B.meaning binder.now) (range_test x.now lower.now
-        upper.now (is_strict options.lower_strict) (is_strict options.upper_strict)) bound.value) }
+) -> Result<Box<BoundExpression>, AllocError>
+    ensures { IfOk result (λ bound. bound.value
+        ≡ replaced (answered (B.answers binder.now) (B.missing binder.now))
+        (range_test x.now lower.now upper.now (is_strict options.lower_strict)
+        (is_strict options.upper_strict))) }
 {
     let (lower, upper) = bind_both(alloc, lower, upper, binder)?;
     let value = bind_boxed(alloc, x, binder)?;
     bound_between(alloc, value, lower, upper, options)
 }
 
-fn copy_literal(alloc: Global, value: Option<&ScalarValue>) -> Result<Box<BoundTree>, AllocError>
-    ensures { IfOk result (λ bound. bound.value ≡ fixed (content_at value.entry)) }
-{
-    let value = clone_value(value)?;
-    Ok(Box::new(alloc, bound_literal(value))?)
-}
-
-fn copy_column(alloc: Global, path: &Vec<usize>) -> Result<Box<BoundTree>, AllocError>
-    ensures { IfOk result (λ bound. bound.value ≡ place path.now.items) }
-{
-    let bound = BoundTree {
-        node: BoundNode::Column(path.clone()?),
-    };
-    Ok(Box::new(alloc, bound)?)
-}
-
 fn bind_stat<B: StatBinder>(
     alloc: Global,
     aggregate: AggregateFn,
-    input: &BoundTree,
+    input: &BoundExpression,
+    dtype: &DType,
     binder: &B,
-) -> Result<Box<BoundTree>, AllocError>
-    ensures { IfOk result (λ bound. IsBinding (B.meaning binder.now)
-        (placeholder input.now (aggregate_of aggregate)) bound.value) }
+) -> Result<Box<BoundExpression>, AllocError>
+    ensures { IfOk result (λ bound. bound.value
+        ≡ replaced (answered (B.answers binder.now) (B.missing binder.now))
+        (placeholder input.now (aggregate_of aggregate) (type_of dtype.now))) }
 {
-    let found = match binder.bind_aggregate(alloc, input, aggregate)? {
+    let found = match binder.bind_aggregate(alloc, input, aggregate, dtype)? {
         Some(found) => found,
-        None => binder.missing_stat(alloc)?,
+        None => binder.missing_stat(alloc, dtype)?,
     };
     Ok(Box::new(alloc, found)?)
 }

@@ -1,7 +1,6 @@
 -- Tests of views by their heads, where null rows are not kept.
 use Rattle.std.proofs.Common.{◌≡◌, refl, sym, ap, ◌∙◌, ℕ, Bool, true, false, ◌&&◌, List, [], ◌∷◌, map, Option, Some, None}
 use Rattle.std.specs.List.{All, zip}
-use Rattle.std.specs.Borrow.{Bor}
 use Rattle.std.proofs.lemmas.List.Elements.{All-head, All-tail}
 use Rattle.vortex_model.specs.Order.{bytes_cmp}
 use Rattle.vortex_model_table.specs.Expression.{Comparison}
@@ -10,7 +9,7 @@ use Rattle.vortex_arrays_view.specs.Views.{value_of}
 use Rattle.vortex_stats_match.specs.Heads.{HasHead, cmp_by_head}
 use Rattle.vortex_stats_match.proofs.HeadLemmas.{cmp_is}
 use Rattle.vortex_stats_mask.specs.Columns.{kept, values_of}
-use Rattle.vortex_stats_mask.specs.Headed.{AllValid, rows_in, HaveHeads}
+use Rattle.vortex_stats_mask.specs.Headed.{AllValid, HaveHeads}
 use Rattle.vortex_stats_mask.specs.declared.column.Strings.{Strings}
 use Rattle.vortex_stats_mask.proofs.Through.{values_through}
 
@@ -35,11 +34,11 @@ module _ (op : Comparison) (buffers : List (List ℕ)) (text : List ℕ) where
       one false k = refl
 
 -- of valid rows the heads tell what the values do
-pub tested_by_head : (op : Comparison) (text : List ℕ) (valid : Option (Bor (List Bool))) (s : Strings) → HaveHeads (rows_in valid) s →
+pub tested_by_head : (op : Comparison) (text : List ℕ) (valid : Option (List Bool)) (s : Strings) → HaveHeads valid s →
     kept valid (map (λ v. test_of op (cmp_by_head v s.buffers.now text)) s.views.now)
     ≡ kept valid (map (λ bs. test_of op (bytes_cmp bs text)) (values_of s))
 tested_by_head op text None s h =
     all_same op s.buffers.now text s.views.now h ∙ sym (values_through (λ bs. test_of op (bytes_cmp bs text)) s)
 tested_by_head op text (Some rows) s h =
-    valid_same op s.buffers.now text rows.now s.views.now h
+    valid_same op s.buffers.now text rows s.views.now h
     ∙ ap (kept (Some rows)) (sym (values_through (λ bs. test_of op (bytes_cmp bs text)) s))

@@ -1,7 +1,6 @@
 -- Masks of which the valid rows are kept, run by run.
 use Rattle.std.proofs.Common.{◌≡◌, refl, sym, ap, ◌∙◌, subst, ℕ, zero, suc, ◌+◌, ◌-◌, ◌≤◌, Bool, true, false, ◌&&◌, ◌||◌, ◌<◌, List, [], ◌∷◌, ◌++◌, length, get_or, take, drop, map, arith, Option, Some, None}
 use Rattle.std.specs.List.{zip, list_any, slice_range}
-use Rattle.std.specs.Borrow.{Bor}
 use Rattle.std.proofs.lemmas.List.{take_more, get_or-drop, length-drop}
 use Rattle.vortex_stats_mask.specs.Columns.{both_rows, kept, kept_first}
 use Rattle.vortex_stats_mask.proofs.Changed.{changed_length, cut_beside}
@@ -70,7 +69,7 @@ and_swapped true false = refl
 and_swapped false true = refl
 and_swapped false false = refl
 
-swapped_beside : (ms vs : List Bool) → map (λ p. p.0 && p.1) (zip ms vs) ≡ map (λ p. p.0 && p.1) (zip vs ms)
+pub swapped_beside : (ms vs : List Bool) → map (λ p. p.0 && p.1) (zip ms vs) ≡ map (λ p. p.0 && p.1) (zip vs ms)
 swapped_beside [] [] = refl
 swapped_beside [] (v ∷ vs) = refl
 swapped_beside (m ∷ ms) [] = refl
@@ -92,9 +91,9 @@ kept_valid (v ∷ vs) (m ∷ ms) (r ∷ rows) = λ i. one v m r i ∷ kept_valid
     one false true r = refl
     one false false r = refl
 
-pub kept_both : (o : Option (Bor (List Bool))) (ms rows : List Bool) → kept o (both_rows ms rows) ≡ both_rows ms (kept o rows)
+pub kept_both : (o : Option (List Bool)) (ms rows : List Bool) → kept o (both_rows ms rows) ≡ both_rows ms (kept o rows)
 kept_both None ms rows = refl
-kept_both (Some vs) ms rows = kept_valid vs.now ms rows
+kept_both (Some vs) ms rows = kept_valid vs ms rows
 
 -- rows of a mask beyond what stands beside them have no part in it
 pub cut_both : {A : Type 0} (f : A → Bool) (ms : List Bool) (xs : List A) → both_rows (take (length xs) ms) (map f xs) ≡ both_rows ms (map f xs)

@@ -1,14 +1,14 @@
 -- The contents of a leaf column, and masks of its rows.
 use Rattle.std.specs.Prelude.{ℕ, List, map, take, drop, ◌++◌, Option, Some, None, Bool, true, false, cond, ◌&&◌}
 use Rattle.std.specs.List.{zip}
-use Rattle.std.specs.Borrow.{Bor}
 use Rattle.vortex_model.specs.Content.{Content, null, boolean, integer, text, byte_string}
 use Rattle.vortex_arrays_view.specs.Views.{value_of}
-use Rattle.vortex_arrays_buffer.specs.PrimitiveBuffers.{integers_of}
 use Rattle.vortex_stats_mask.specs.declared.column.Column.{Column}
 use Rattle.vortex_stats_mask.specs.declared.column.Items.{Items}
 use Rattle.vortex_stats_mask.specs.declared.column.Items.TheVariants.{Bools, Numbers, Texts, Binaries}
 use Rattle.vortex_stats_mask.specs.declared.column.Strings.{Strings}
+use Rattle.vortex_stats_mask.specs.Integers.{integers_in}
+use Rattle.vortex_stats_mask.specs.Valid.{valid_in}
 
 -- the values of views beside their buffers
 abbrev pub values_of : Strings → List (List ℕ)
@@ -17,7 +17,7 @@ values_of s = map (λ v. value_of v s.buffers.now) s.views.now
 -- what the items say, where none is null
 abbrev pub contents_of : Items → List Content
 contents_of (Bools bs) = map boolean bs.now
-contents_of (Numbers ns) = map integer (integers_of ns.now)
+contents_of (Numbers ns) = map integer (integers_in ns)
 contents_of (Texts s) = map text (values_of s)
 contents_of (Binaries s) = map byte_string (values_of s)
 
@@ -43,18 +43,18 @@ abbrev pub shown_at : Bool → Content → Content
 shown_at v c = cond v c null
 
 -- the contents, of which those that are not valid are null
-abbrev pub shown : Option (Bor (List Bool)) → List Content → List Content
+abbrev pub shown : Option (List Bool) → List Content → List Content
 shown None cs = cs
-shown (Some vs) cs = map (λ p. shown_at p.0 p.1) (zip vs.now cs)
+shown (Some vs) cs = map (λ p. shown_at p.0 p.1) (zip vs cs)
 
 -- the contents of a column
 abbrev pub column_of : Column → List Content
-column_of c = shown c.validity (contents_of c.items)
+column_of c = shown (valid_in c.validity) (contents_of c.items)
 
 -- the valid rows of a mask
-abbrev pub kept : Option (Bor (List Bool)) → List Bool → List Bool
+abbrev pub kept : Option (List Bool) → List Bool → List Bool
 kept None mask = mask
-kept (Some vs) mask = map (λ p. p.0 && p.1) (zip vs.now mask)
+kept (Some vs) mask = map (λ p. p.0 && p.1) (zip vs mask)
 
 -- a mask of which the first n rows are kept where they are valid
 abbrev pub kept_first : ℕ → List Bool → List Bool → List Bool

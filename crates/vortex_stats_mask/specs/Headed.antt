@@ -1,6 +1,5 @@
 -- Columns of which the views of valid rows have the first bytes of their values.
 use Rattle.std.specs.Prelude.{◌≡◌, ℕ, List, [], ◌∷◌, Option, Some, None, Bool, true, All}
-use Rattle.std.specs.Borrow.{Bor}
 use Rattle.vortex_stats_match.specs.Heads.{HasHead}
 use Rattle.vortex_stats_mask.specs.declared.column.Items.{Items}
 use Rattle.vortex_stats_mask.specs.declared.column.Items.TheVariants.{Texts, Binaries}
@@ -17,15 +16,11 @@ abbrev pub ViewsHaveHeads : Option (List Bool) → List (List ℕ) → List (Lis
 ViewsHaveHeads None views buffers = All (λ v. HasHead v buffers) views
 ViewsHaveHeads (Some rows) views buffers = AllValid (λ v. HasHead v buffers) rows views
 
-abbrev pub rows_in : Option (Bor (List Bool)) → Option (List Bool)
-rows_in None = None
-rows_in (Some rows) = Some rows.now
-
 abbrev pub HaveHeads : Option (List Bool) → Strings → Type 0
 HaveHeads valid s = ViewsHaveHeads valid s.views.now s.buffers.now
 
 -- numbers and truth values have no views
-abbrev pub AreHeaded : Items → Option (Bor (List Bool)) → Type 0
-AreHeaded (Texts s) valid = HaveHeads (rows_in valid) s
-AreHeaded (Binaries s) valid = HaveHeads (rows_in valid) s
+abbrev pub AreHeaded : Items → Option (List Bool) → Type 0
+AreHeaded (Texts s) valid = HaveHeads valid s
+AreHeaded (Binaries s) valid = HaveHeads valid s
 AreHeaded items valid = Unit {0}

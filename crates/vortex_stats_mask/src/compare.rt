@@ -1,24 +1,22 @@
 //! Comparisons of a column with a literal.
 ghost use Rattle.std.specs.Prelude.{◌≡◌, map, IfOk, List, Bool, Option};
-ghost use Rattle.std.specs.Borrow.{Bor};
 ghost use Rattle.std.specs.Ordering.{bool_cmp};
 ghost use Rattle.vortex_model.specs.Content.{boolean, integer, text, byte_string};
 ghost use Rattle.vortex_model_table.specs.Truth.{compared, is_true, test_of};
-ghost use Rattle.vortex_arrays_buffer.specs.PrimitiveBuffers.{integers_of};
+ghost use Rattle.vortex_stats_mask.specs.Integers.{integers_in};
 ghost use Rattle.vortex_scalar_value.specs.View.{content_at};
 ghost use Rattle.vortex_stats_expr.specs.Tree.{comparison_of};
 ghost use Rattle.vortex_stats_mask.specs.Columns.{values_of, contents_of, column_of, kept};
-ghost use Rattle.vortex_stats_mask.specs.Headed.{rows_in, HaveHeads, AreHeaded};
+ghost use Rattle.vortex_stats_mask.specs.Headed.{HaveHeads, AreHeaded};
 ghost use Rattle.vortex_stats_mask.specs.Wanted.{is_wanted};
 
-use crate::column::{Column, Items, Strings};
+use crate::column::{Column, Items, Numbers, Strings};
 use crate::literal;
 use crate::masks::{keep_valid, no_rows};
 use crate::numbers::compare_numbers;
 use crate::strings::test_views;
 use crate::turned::wanted;
 use std::alloc::{AllocError, Global};
-use vortex_arrays_buffer::primitive_buffer::PrimitiveBuffer;
 use vortex_scalar_value::scalar_value::ScalarValue;
 use vortex_stats_expr::operator::Comparison;
 
@@ -56,12 +54,12 @@ fn compare_bools(
 fn compare_integers(
     alloc: Global,
     comparison: Comparison,
-    numbers: &PrimitiveBuffer,
+    numbers: &Numbers<'_>,
     literal: Option<&ScalarValue>,
 ) -> Result<Vec<bool>, AllocError>
     ensures { IfOk result (λ mask. mask.items
         ≡ map (λ c. is_true (compared (comparison_of comparison) c (content_at literal.entry)))
-        (map integer (integers_of numbers.now))) }
+        (map integer (integers_in numbers.now))) }
 {
     match literal::number(literal) {
         Some(number) => compare_numbers(alloc, comparison, numbers, number),
@@ -75,7 +73,7 @@ fn compare_texts(
     strings: &Strings<'_>,
     literal: Option<&ScalarValue>,
 ) -> Result<Vec<bool>, AllocError>
-    ensures { (valid : Option (Bor (List Bool))) → HaveHeads (rows_in valid) strings.now →
+    ensures { (valid : Option (List Bool)) → HaveHeads valid strings.now →
         IfOk result (λ mask. kept valid mask.items ≡ kept valid
         (map (λ c. is_true (compared (comparison_of comparison) c (content_at literal.entry)))
         (map text (values_of strings.now)))) }
@@ -98,7 +96,7 @@ fn compare_binaries(
     strings: &Strings<'_>,
     literal: Option<&ScalarValue>,
 ) -> Result<Vec<bool>, AllocError>
-    ensures { (valid : Option (Bor (List Bool))) → HaveHeads (rows_in valid) strings.now →
+    ensures { (valid : Option (List Bool)) → HaveHeads valid strings.now →
         IfOk result (λ mask. kept valid mask.items ≡ kept valid
         (map (λ c. is_true (compared (comparison_of comparison) c (content_at literal.entry)))
         (map byte_string (values_of strings.now)))) }
@@ -116,7 +114,7 @@ fn compare_items(
     items: &Items<'_>,
     literal: Option<&ScalarValue>,
 ) -> Result<Vec<bool>, AllocError>
-    ensures { (valid : Option (Bor (List Bool))) → AreHeaded items.now valid →
+    ensures { (valid : Option (List Bool)) → AreHeaded items.now valid →
         IfOk result (λ mask. kept valid mask.items ≡ kept valid
         (map (λ c. is_true (compared (comparison_of comparison) c (content_at literal.entry)))
         (contents_of items.now))) }

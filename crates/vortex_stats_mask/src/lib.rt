@@ -3,7 +3,7 @@
 
 pub mod column;
 pub mod compare;
-mod items;
+pub mod items;
 pub mod laws;
 mod literal;
 pub mod masks;

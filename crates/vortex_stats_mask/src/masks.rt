@@ -1,8 +1,10 @@
 //! Masks: a truth value for each row, a byte each.
 ghost use Rattle.std.specs.Prelude.{◌≡◌, ◌≤◌, ◌<◌, ◌&&◌, ◌||◌, not, map, replicate, length, false, slice_index_or, List, Bool, IfOk};
 ghost use Rattle.std.specs.List.{zip, list_any, slice_range};
-ghost use Rattle.vortex_stats_mask.specs.Columns.{kept, kept_first};
+ghost use Rattle.vortex_stats_mask.specs.Columns.{both_rows, kept, kept_first};
+ghost use Rattle.vortex_stats_mask.specs.Valid.{valid_in};
 
+use crate::column::ValidRows;
 use std::alloc::{AllocError, Global};
 use vortex_arrays_buffer::bit_buffer::BitBuffer;
 
@@ -21,11 +23,18 @@ pub fn both_into(mask: Vec<bool>, rows: &[bool]) -> Vec<bool>
     ensures { result.items ≡ map (λ p. p.0 && p.1) (zip mask.items rows.now) }
 {
     let mut mask = mask;
+    keep_flags(&mut mask, rows);
+    mask
+}
+
+// Keeps the rows of a mask that another has too.
+fn keep_flags(mask: &mut Vec<bool>, rows: &[bool])
+    ensures { mask.new.items ≡ both_rows mask.old.items rows.now }
+{
     mask.truncate(rows.len());
     for i in 0..mask.len() {
         mask[i] = mask[i] & rows[i];
     }
-    mask
 }
 
 /// The rows that a mask or another has. The mask becomes the answer, with no new memory.
@@ -55,8 +64,8 @@ pub fn no_rows(alloc: Global, len: usize) -> Result<Vec<bool>, AllocError>
 }
 
 /// The valid rows of a mask. The mask becomes the answer, with no new memory.
-pub fn keep_valid(mask: Vec<bool>, validity: Option<&BitBuffer>) -> Vec<bool>
-    ensures { result.items ≡ kept validity.entry mask.items }
+pub fn keep_valid(mask: Vec<bool>, validity: ValidRows<'_>) -> Vec<bool>
+    ensures { result.items ≡ kept (valid_in validity.entry) mask.items }
 {
     let mut mask = mask;
     narrow_valid(&mut mask, validity);
@@ -64,15 +73,16 @@ pub fn keep_valid(mask: Vec<bool>, validity: Option<&BitBuffer>) -> Vec<bool>
 }
 
 /// Keeps the valid rows of a mask.
-pub fn narrow_valid(mask: &mut Vec<bool>, validity: Option<&BitBuffer>)
-    ensures { mask.new.items ≡ kept validity.entry mask.old.items }
+pub fn narrow_valid(mask: &mut Vec<bool>, validity: ValidRows<'_>)
+    ensures { mask.new.items ≡ kept (valid_in validity.entry) mask.old.items }
 {
     match validity {
-        Some(valid) => {
-            mask.truncate(valid.len());
-            keep_bits(mask, valid);
+        ValidRows::All => {}
+        ValidRows::Bits(bits) => {
+            mask.truncate(bits.len());
+            keep_bits(mask, bits);
         }
-        None => {}
+        ValidRows::Flags(flags) => keep_flags(mask, flags),
     }
 }
 

@@ -3,19 +3,18 @@ ghost use Rattle.std.specs.Prelude.{◌≡◌, ◌≤◌, length, map, cond};
 ghost use Rattle.std.specs.List.{zip};
 ghost use Rattle.std.specs.Ordering.{int_cmp};
 ghost use Rattle.vortex_model_table.specs.Truth.{compared, is_true, test_of};
-ghost use Rattle.vortex_arrays_buffer.specs.PrimitiveBuffers.{integers_of};
+ghost use Rattle.vortex_stats_mask.specs.Integers.{integers_in};
 ghost use Rattle.vortex_scalar_value.specs.Numbers.{integer_of};
 ghost use Rattle.vortex_scalar_value.specs.View.{content_at};
 ghost use Rattle.vortex_stats_expr.specs.Tree.{comparison_of};
 ghost use Rattle.vortex_stats_mask.specs.Columns.{both_rows, column_of};
 ghost use Rattle.vortex_stats_mask.specs.Wanted.{is_wanted, joined_by};
 
-use crate::column::Column;
+use crate::column::{Column, Numbers};
 use crate::literal;
 use crate::masks::narrow_valid;
 use crate::runs::retell_rows;
 use crate::turned::wanted;
-use vortex_arrays_buffer::primitive_buffer::PrimitiveBuffer;
 use vortex_dtype_native::native::NativePType;
 use vortex_scalar_value::pvalue::PValue;
 use vortex_scalar_value::scalar_value::ScalarValue;
@@ -80,22 +79,22 @@ fn narrow_any<T: NativePType>(
 fn narrow_numbers(
     mask: &mut Vec<bool>,
     comparison: Comparison,
-    numbers: &PrimitiveBuffer,
+    numbers: &Numbers<'_>,
     number: PValue,
 )
     ensures { mask.new.items ≡ both_rows mask.old.items
         (map (λ z. test_of (comparison_of comparison) (int_cmp z (integer_of number)))
-        (integers_of numbers.now)) }
+        (integers_in numbers.now)) }
 {
     match numbers {
-        PrimitiveBuffer::U8(xs) => narrow_any(mask, comparison, xs.as_slice(), number),
-        PrimitiveBuffer::U16(xs) => narrow_any(mask, comparison, xs.as_slice(), number),
-        PrimitiveBuffer::U32(xs) => narrow_any(mask, comparison, xs.as_slice(), number),
-        PrimitiveBuffer::U64(xs) => narrow_any(mask, comparison, xs.as_slice(), number),
-        PrimitiveBuffer::I8(xs) => narrow_any(mask, comparison, xs.as_slice(), number),
-        PrimitiveBuffer::I16(xs) => narrow_any(mask, comparison, xs.as_slice(), number),
-        PrimitiveBuffer::I32(xs) => narrow_any(mask, comparison, xs.as_slice(), number),
-        PrimitiveBuffer::I64(xs) => narrow_any(mask, comparison, xs.as_slice(), number),
+        Numbers::U8(xs) => narrow_any(mask, comparison, xs, number),
+        Numbers::U16(xs) => narrow_any(mask, comparison, xs, number),
+        Numbers::U32(xs) => narrow_any(mask, comparison, xs, number),
+        Numbers::U64(xs) => narrow_any(mask, comparison, xs, number),
+        Numbers::I8(xs) => narrow_any(mask, comparison, xs, number),
+        Numbers::I16(xs) => narrow_any(mask, comparison, xs, number),
+        Numbers::I32(xs) => narrow_any(mask, comparison, xs, number),
+        Numbers::I64(xs) => narrow_any(mask, comparison, xs, number),
     }
 }
 
@@ -116,7 +115,7 @@ fn narrow_literal(
     let Some(number) = literal::number(literal) else {
         return false;
     };
-    narrow_numbers(mask, comparison, numbers, number);
+    narrow_numbers(mask, comparison, &numbers, number);
     narrow_valid(mask, column.validity);
     true
 }

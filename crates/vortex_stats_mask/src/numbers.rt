@@ -3,13 +3,13 @@ ghost use Rattle.std.specs.Prelude.{◌≡◌, map, IfOk};
 ghost use Rattle.std.specs.Ordering.{int_cmp};
 ghost use Rattle.std.specs.List.{zip};
 ghost use Rattle.vortex_model_table.specs.Truth.{test_of};
-ghost use Rattle.vortex_arrays_buffer.specs.PrimitiveBuffers.{integers_of};
+ghost use Rattle.vortex_stats_mask.specs.Integers.{integers_in};
 ghost use Rattle.vortex_scalar_value.specs.Numbers.{integer_of};
 ghost use Rattle.vortex_stats_expr.specs.Tree.{comparison_of};
 
+use crate::column::Numbers;
 use crate::runs::test_rows;
 use std::alloc::{AllocError, Global};
-use vortex_arrays_buffer::primitive_buffer::PrimitiveBuffer;
 use vortex_dtype_native::native::NativePType;
 use vortex_scalar_value::pvalue::PValue;
 use vortex_stats_expr::operator::Comparison;
@@ -128,21 +128,21 @@ fn compare_any_long<T: NativePType>(
 pub fn compare_numbers(
     alloc: Global,
     comparison: Comparison,
-    numbers: &PrimitiveBuffer,
+    numbers: &Numbers<'_>,
     number: PValue,
 ) -> Result<Vec<bool>, AllocError>
     ensures { IfOk result (λ mask. mask.items
         ≡ map (λ z. test_of (comparison_of comparison) (int_cmp z (integer_of number)))
-        (integers_of numbers.now)) }
+        (integers_in numbers.now)) }
 {
     match numbers {
-        PrimitiveBuffer::U8(xs) => compare_any(alloc, comparison, xs.as_slice(), number),
-        PrimitiveBuffer::U16(xs) => compare_any(alloc, comparison, xs.as_slice(), number),
-        PrimitiveBuffer::U32(xs) => compare_any(alloc, comparison, xs.as_slice(), number),
-        PrimitiveBuffer::U64(xs) => compare_any_long(alloc, comparison, xs.as_slice(), number),
-        PrimitiveBuffer::I8(xs) => compare_any(alloc, comparison, xs.as_slice(), number),
-        PrimitiveBuffer::I16(xs) => compare_any(alloc, comparison, xs.as_slice(), number),
-        PrimitiveBuffer::I32(xs) => compare_any(alloc, comparison, xs.as_slice(), number),
-        PrimitiveBuffer::I64(xs) => compare_any_long(alloc, comparison, xs.as_slice(), number),
+        Numbers::U8(xs) => compare_any(alloc, comparison, xs, number),
+        Numbers::U16(xs) => compare_any(alloc, comparison, xs, number),
+        Numbers::U32(xs) => compare_any(alloc, comparison, xs, number),
+        Numbers::U64(xs) => compare_any_long(alloc, comparison, xs, number),
+        Numbers::I8(xs) => compare_any(alloc, comparison, xs, number),
+        Numbers::I16(xs) => compare_any(alloc, comparison, xs, number),
+        Numbers::I32(xs) => compare_any(alloc, comparison, xs, number),
+        Numbers::I64(xs) => compare_any_long(alloc, comparison, xs, number),
     }
 }

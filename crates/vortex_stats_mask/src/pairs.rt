@@ -5,19 +5,17 @@ ghost use Rattle.std.specs.Ordering.{int_cmp, bool_cmp};
 ghost use Rattle.vortex_model.specs.Content.{boolean, integer, text, byte_string};
 ghost use Rattle.vortex_model.specs.Order.{bytes_cmp};
 ghost use Rattle.vortex_model_table.specs.Truth.{compared, is_true, test_of};
-ghost use Rattle.vortex_arrays_buffer.specs.PrimitiveBuffers.{integers_of};
+ghost use Rattle.vortex_stats_mask.specs.Integers.{integers_in};
 ghost use Rattle.vortex_arrays_view.specs.Views.{value_of};
 ghost use Rattle.vortex_stats_expr.specs.Tree.{comparison_of};
 ghost use Rattle.vortex_stats_mask.specs.Columns.{values_of, contents_of, column_of};
 
-use crate::column::{Column, Items, Strings};
+use crate::column::{Column, Items, Numbers, Strings};
 use crate::masks::{keep_valid, no_rows};
 use crate::numbers::compare_each;
 use crate::strings::order;
 use bytes::Bytes;
 use std::alloc::{AllocError, Global};
-use vortex_arrays_buffer::element::Element;
-use vortex_arrays_buffer::primitive_buffer::PrimitiveBuffer;
 use vortex_arrays_view::view::BinaryView;
 use vortex_dtype_native::native::NativePType;
 use vortex_stats_expr::operator::Comparison;
@@ -44,76 +42,73 @@ fn widened<T: NativePType>(alloc: Global, xs: &[T]) -> Result<Vec<i128>, AllocEr
     xs.iter().map(|x| x.get()).collect(alloc)
 }
 
-fn wide(alloc: Global, numbers: &PrimitiveBuffer) -> Result<Vec<i128>, AllocError>
-    ensures { IfOk result (λ all. all.items ≡ integers_of numbers.now) }
+fn wide(alloc: Global, numbers: &Numbers<'_>) -> Result<Vec<i128>, AllocError>
+    ensures { IfOk result (λ all. all.items ≡ integers_in numbers.now) }
 {
     match numbers {
-        PrimitiveBuffer::U8(xs) => widened(alloc, xs.as_slice()),
-        PrimitiveBuffer::U16(xs) => widened(alloc, xs.as_slice()),
-        PrimitiveBuffer::U32(xs) => widened(alloc, xs.as_slice()),
-        PrimitiveBuffer::U64(xs) => widened(alloc, xs.as_slice()),
-        PrimitiveBuffer::I8(xs) => widened(alloc, xs.as_slice()),
-        PrimitiveBuffer::I16(xs) => widened(alloc, xs.as_slice()),
-        PrimitiveBuffer::I32(xs) => widened(alloc, xs.as_slice()),
-        PrimitiveBuffer::I64(xs) => widened(alloc, xs.as_slice()),
+        Numbers::U8(xs) => widened(alloc, xs),
+        Numbers::U16(xs) => widened(alloc, xs),
+        Numbers::U32(xs) => widened(alloc, xs),
+        Numbers::U64(xs) => widened(alloc, xs),
+        Numbers::I8(xs) => widened(alloc, xs),
+        Numbers::I16(xs) => widened(alloc, xs),
+        Numbers::I32(xs) => widened(alloc, xs),
+        Numbers::I64(xs) => widened(alloc, xs),
     }
 }
 
 // Of numbers of two kinds, which no predicate that is bound to a type compares.
-fn pair_wide<T: NativePType>(
+fn pair_wide(
     alloc: Global,
     comparison: Comparison,
-    xs: &[T],
-    ys: &[i128],
-) -> Result<Vec<bool>, AllocError>
-    ensures { IfOk result (λ mask. mask.items
-        ≡ map (λ p. test_of (comparison_of comparison) (int_cmp (T.integer p.0) p.1))
-        (zip xs.now ys.now)) }
-{
-    xs.iter()
-        .zip(ys.iter())
-        .map(|(x, y)| comparison.holds(x.get().cmp(y)))
-        .collect(alloc)
-}
-
-fn pair_with<T: Element>(
-    alloc: Global,
-    comparison: Comparison,
-    xs: &[T],
-    numbers: &PrimitiveBuffer,
-) -> Result<Vec<bool>, AllocError>
-    ensures { IfOk result (λ mask. mask.items
-        ≡ map (λ p. test_of (comparison_of comparison) (int_cmp (T.integer p.0) p.1))
-        (zip xs.now (integers_of numbers.now))) }
-{
-    match numbers.as_slice::<T>() {
-        Some(ys) => compare_each(alloc, comparison, xs, ys),
-        None => {
-            let ys = wide(alloc, numbers)?;
-            pair_wide(alloc, comparison, xs, &ys)
-        }
-    }
-}
-
-fn pair_numbers(
-    alloc: Global,
-    comparison: Comparison,
-    left: &PrimitiveBuffer,
-    right: &PrimitiveBuffer,
+    left: &Numbers<'_>,
+    right: &Numbers<'_>,
 ) -> Result<Vec<bool>, AllocError>
     ensures { IfOk result (λ mask. mask.items
         ≡ map (λ p. test_of (comparison_of comparison) (int_cmp p.0 p.1))
-        (zip (integers_of left.now) (integers_of right.now))) }
+        (zip (integers_in left.now) (integers_in right.now))) }
 {
-    match left {
-        PrimitiveBuffer::U8(xs) => pair_with(alloc, comparison, xs.as_slice(), right),
-        PrimitiveBuffer::U16(xs) => pair_with(alloc, comparison, xs.as_slice(), right),
-        PrimitiveBuffer::U32(xs) => pair_with(alloc, comparison, xs.as_slice(), right),
-        PrimitiveBuffer::U64(xs) => pair_with(alloc, comparison, xs.as_slice(), right),
-        PrimitiveBuffer::I8(xs) => pair_with(alloc, comparison, xs.as_slice(), right),
-        PrimitiveBuffer::I16(xs) => pair_with(alloc, comparison, xs.as_slice(), right),
-        PrimitiveBuffer::I32(xs) => pair_with(alloc, comparison, xs.as_slice(), right),
-        PrimitiveBuffer::I64(xs) => pair_with(alloc, comparison, xs.as_slice(), right),
+    let xs = wide(alloc, left)?;
+    let ys = wide(alloc, right)?;
+    compare_wide(alloc, comparison, &xs, &ys)
+}
+
+fn compare_wide(
+    alloc: Global,
+    comparison: Comparison,
+    xs: &[i128],
+    ys: &[i128],
+) -> Result<Vec<bool>, AllocError>
+    ensures { IfOk result (λ mask. mask.items
+        ≡ map (λ p. test_of (comparison_of comparison) (int_cmp p.0 p.1)) (zip xs.now ys.now)) }
+{
+    xs.iter()
+        .zip(ys.iter())
+        .map(|(x, y)| comparison.holds(x.cmp(y)))
+        .collect(alloc)
+}
+
+// Numbers of one kind are compared as they stand.
+fn pair_numbers(
+    alloc: Global,
+    comparison: Comparison,
+    left: &Numbers<'_>,
+    right: &Numbers<'_>,
+) -> Result<Vec<bool>, AllocError>
+    ensures { IfOk result (λ mask. mask.items
+        ≡ map (λ p. test_of (comparison_of comparison) (int_cmp p.0 p.1))
+        (zip (integers_in left.now) (integers_in right.now))) }
+{
+    match (left, right) {
+        (Numbers::U8(xs), Numbers::U8(ys)) => compare_each(alloc, comparison, xs, ys),
+        (Numbers::U16(xs), Numbers::U16(ys)) => compare_each(alloc, comparison, xs, ys),
+        (Numbers::U32(xs), Numbers::U32(ys)) => compare_each(alloc, comparison, xs, ys),
+        (Numbers::U64(xs), Numbers::U64(ys)) => compare_each(alloc, comparison, xs, ys),
+        (Numbers::I8(xs), Numbers::I8(ys)) => compare_each(alloc, comparison, xs, ys),
+        (Numbers::I16(xs), Numbers::I16(ys)) => compare_each(alloc, comparison, xs, ys),
+        (Numbers::I32(xs), Numbers::I32(ys)) => compare_each(alloc, comparison, xs, ys),
+        (Numbers::I64(xs), Numbers::I64(ys)) => compare_each(alloc, comparison, xs, ys),
+        _ => pair_wide(alloc, comparison, left, right),
     }
 }
 
@@ -175,15 +170,15 @@ fn bools_with(
 fn numbers_with(
     alloc: Global,
     comparison: Comparison,
-    xs: &PrimitiveBuffer,
+    xs: &Numbers<'_>,
     right: &Items<'_>,
 ) -> Result<Vec<bool>, AllocError>
     ensures { IfOk result (λ mask. mask.items
         ≡ map (λ p. is_true (compared (comparison_of comparison) p.0 p.1))
-        (zip (map integer (integers_of xs.now)) (contents_of right.now))) }
+        (zip (map integer (integers_in xs.now)) (contents_of right.now))) }
 {
     match right.as_numbers() {
-        Some(others) => pair_numbers(alloc, comparison, xs, others),
+        Some(others) => pair_numbers(alloc, comparison, xs, &others),
         None => no_rows(alloc, xs.len().min(right.len())),
     }
 }

@@ -1,15 +1,21 @@
 -- Answers of rules behind proofs.
-use Rattle.std.proofs.Common.{◌≡◌, ◌+◌, ◌<◌, ◌≤◌, ℕ, suc, add-one, length, get_or, drop, drop-cons, List, [], ◌∷◌, ◌++◌, map, Option, Some, None, Result, true, false, if◌then◌else◌, refl, sym, ap, ◌∙◌, subst}
+use Rattle.std.proofs.Common.{◌≡◌, ◌+◌, ◌<◌, ◌≤◌, ℕ, suc, add-one, length, get_or, drop, drop-cons, List, [], ◌∷◌, ◌++◌, map, Option, Some, None, Result, Ok, true, false, if◌then◌else◌, IfSome, option_map, refl, sym, ap, ◌∙◌, subst}
 use Rattle.std.proofs.lemmas.List.{drop_all}
-use Rattle.std.specs.List.{list_any}
+use Rattle.std.specs.List.{list_any, AllByRecursion}
 use Rattle.vortex_model.specs.LogicalType.{LogicalType}
 use Rattle.vortex_model_table.specs.Expression.{Expression}
-use Rattle.vortex_model_table.specs.Rewrite.{as_list, joined_proofs}
+use Rattle.vortex_model_table.specs.Rewrite.{joined_proofs}
 use Rattle.vortex_model_rules.specs.Rules.{Answer, no_proof, proof, fault, is_fault, proofs_in, answer_of, joined_answers}
 use Rattle.vortex_stats_expr.specs.declared.error.StatsError.{StatsError}
 use Rattle.vortex_stats_expr.specs.declared.error.StatsError.TheVariants as error
 use Rattle.vortex_stats_rules.specs.declared.answers.Claim.{Claim}
-use Rattle.vortex_stats_rules.specs.Meanings.{SoundRule, rules_of, IsFault, IsJudged, asked_of, answers_to}
+use Rattle.vortex_stats_bind.specs.Bound.{Bound, expression_of}
+use Rattle.vortex_stats_bind.specs.Bindings.{IsBoundTo}
+use Rattle.vortex_stats_bind.proofs.Alike.{expression_of_bound, bound_to}
+use Rattle.vortex_stats_rules.specs.Meanings.{SoundRule, rules_of, IsFault, IsBoundTruth, AreProofs, expressions_in, IsProofIn, expression_in, IsJudged, AreJoined, IsPushed, asked_of, answers_to}
+use Rattle.vortex_stats_rules.specs.Table as table
+use Rattle.vortex_stats_rules.specs.Table.{Boxed, unboxed, all_unboxed}
+use Rattle.vortex_stats_rules.proofs.Same.{IsProofOf, AreProofsOf, IsProofIf, joined_so}
 
 abbrev behind : List Expression → List Answer → Answer
 behind ps rest = joined_answers (map proof ps ++ rest)
@@ -60,15 +66,90 @@ a_fault ps a rest error.Memory h = tt
 a_fault ps a rest error.RuleFault h = ap (λ b. behind ps (b ∷ rest)) h ∙ faulty ps rest
 a_fault ps a rest e h = absurd h
 
-pub ruleset pushed = (one_more, passed_over, a_fault)
+-- ---- one more proof
 
--- one built-in proof, or none
-pub in_front : (r : Result (Option Expression) StatsError) (o : Option Expression) (ps : List Expression) (answers : List Answer) → ps ≡ as_list o →
-    IsJudged r (behind ps answers) → IsJudged r (joined_answers (answer_of o ∷ answers))
-in_front r None ps answers h j = subst (λ qs. IsJudged r (behind qs answers)) h j
-in_front r (Some p) ps answers h j = subst (λ qs. IsJudged r (behind qs answers)) h j
+none_more : (ps : List Expression) → ps ≡ ps ++ []
+none_more [] = refl
+none_more (p ∷ ps) = ap (λ qs. p ∷ qs) (none_more ps)
 
-pub ruleset joined = (joined_only, in_front)
+-- where the answer is no fault
+moved : (ps qs : List Expression) (a : Answer) (rest : List Answer) → is_fault a ≡ false → qs ≡ ps ++ proofs_in (a ∷ []) → behind ps (a ∷ rest) ≡ behind qs rest
+moved ps qs (proof p) rest u e = one_more ps p (proof p) rest refl ∙ ap (λ os. behind os rest) (sym e)
+moved ps qs no_proof rest u e = passed_over ps no_proof rest refl ∙ ap (λ os. behind os rest) (none_more ps ∙ sym e)
+moved ps qs fault rest u e = absurd (cc (u))
+
+all_behind : {P : Bound → Type 0} (bs : List Bound) (b : Bound) → AllByRecursion P bs → P b → AllByRecursion P (bs ++ (b ∷ []))
+all_behind [] b h p = (p, tt)
+all_behind (c ∷ bs) b h p = (h.0, all_behind bs b h.1 p)
+
+unboxed_behind : (bs : List Boxed) (b : Boxed) → all_unboxed (bs ++ (b ∷ [])) ≡ all_unboxed bs ++ (b.value ∷ [])
+unboxed_behind [] b = refl
+unboxed_behind (c ∷ bs) b = ap (λ cs. c.value ∷ cs) (unboxed_behind bs b)
+
+expressions_behind : (bs : List Bound) (b : Bound) → map expression_of (bs ++ (b ∷ [])) ≡ map expression_of bs ++ (expression_of b ∷ [])
+expressions_behind [] b = refl
+expressions_behind (c ∷ bs) b = ap (λ es. expression_of c ∷ es) (expressions_behind bs b)
+
+pub pushed_some : (k : LogicalType) (a : Answer) (old new : List Boxed) (b : Boxed) → new ≡ old ++ (b ∷ []) → AreProofs k old →
+    IsJudged k (Ok (Some b)) a → IsPushed k old new a
+pushed_some k a old new b is h j = (
+  ap is_fault j.0,
+  ap expressions_in is ∙ ap (map expression_of) (unboxed_behind old b) ∙ expressions_behind (all_unboxed old) b
+      ∙ ap (λ c. expressions_in old ++ proofs_in (c ∷ [])) (sym j.0),
+  subst (AllByRecursion (IsBoundTruth k)) (sym (ap all_unboxed is ∙ unboxed_behind old b)) (all_behind (all_unboxed old) b.value h j.1),
+)
+
+pub pushed_none : (k : LogicalType) (a : Answer) (old : List Boxed) → AreProofs k old → IsJudged k (Ok None) a → IsPushed k old old a
+pushed_none k a old h j = (
+  ap is_fault j.0,
+  none_more (expressions_in old) ∙ ap (λ c. expressions_in old ++ proofs_in (c ∷ [])) (sym j.0),
+  h,
+)
+
+-- ---- what is joined is the answer
+
+themselves : (k : LogicalType) (bs : List Bound) → AllByRecursion (IsBoundTruth k) bs → AreProofsOf k (map expression_of bs) bs
+themselves k [] h = tt
+themselves k (b ∷ bs) h = (record { bound = h.0.bound; boolean = h.0.boolean }, themselves k bs h.1)
+
+pub itself : (k : LogicalType) (p : Expression) (b : Bound) → IsProofOf k p b → (p ≡ expression_of b) × IsBoundTruth k b
+itself k p b h =
+    (sym (expression_of_bound k p b h.bound), record { bound = bound_to k p b h.bound; boolean = h.boolean })
+
+pub listed_proofs : (k : LogicalType) (ps : List Expression) (bs : List Bound) → AreProofsOf k ps bs → (map expression_of bs ≡ ps) × AllByRecursion (IsBoundTruth k) bs
+listed_proofs k [] [] h = (refl, tt)
+listed_proofs k (p ∷ ps) (b ∷ bs) h =
+    let one = itself k p b h.0 in
+    let rest = listed_proofs k ps bs h.1 in
+    ((λ i. sym one.0 i ∷ rest.0 i), (one.1, rest.1))
+listed_proofs k ps bs h = absurd h
+
+pub itself_in : (k : LogicalType) (p : Option Expression) (o : Option Boxed) → IsProofIf k p (unboxed o) → (answer_of p ≡ answer_of (expression_in o)) × IsProofIn k o
+itself_in k None None h = (refl, tt)
+itself_in k (Some p) (Some b) h = let is = itself k p b.value h in (ap proof is.0, is.1)
+itself_in k p o h = absurd h
+
+pub joined_judged : (k : LogicalType) (bs : List Boxed) (o : Option Boxed) (a : Answer) → AreJoined k bs a → unboxed o ≡ table.joined_proofs (all_unboxed bs) → IsJudged k (Ok o) a
+joined_judged k bs o a j is =
+    let one = itself_in k (joined_proofs (expressions_in bs)) o
+    (subst (IsProofIf k (joined_proofs (expressions_in bs))) (sym is) (joined_so k (expressions_in bs) (all_unboxed bs) (themselves k (all_unboxed bs) j.1))) in
+    (sym j.0 ∙ one.0, one.1)
+
+-- one built-in proof, or none, as a list
+pub listed : (k : LogicalType) (o : Option Boxed) (bs : List Boxed) → all_unboxed bs ≡ table.as_list (unboxed o) → IsProofIn k o → AreProofs k bs
+listed k o bs is h = subst (AllByRecursion (IsBoundTruth k)) (sym is) (by_cases (unboxed o) h)
+  where
+    by_cases : (o : Option Bound) → IfSome o (IsBoundTruth k) → AllByRecursion (IsBoundTruth k) (table.as_list o)
+    by_cases None h = tt
+    by_cases (Some b) h = (h, tt)
+
+pub in_front : (o : Option Boxed) (bs : List Boxed) (answers : List Answer) → all_unboxed bs ≡ table.as_list (unboxed o) →
+    joined_answers (map proof (expressions_in bs) ++ answers) ≡ joined_answers (answer_of (expression_in o) ∷ answers)
+in_front o bs answers is = ap (λ cs. behind (map expression_of cs) answers) is ∙ by_cases (unboxed o)
+  where
+    by_cases : (o : Option Bound) → behind (map expression_of (table.as_list o)) answers ≡ joined_answers (answer_of (option_map expression_of o) ∷ answers)
+    by_cases None = refl
+    by_cases (Some b) = refl
 
 -- ---- a walk along the rules
 
@@ -80,18 +161,19 @@ module _ {B : Type 0} (meaning : B → SoundRule) (c : Claim) (k : LogicalType) 
   left_of ps bs = behind ps (answers_to c k e (rules_of meaning bs))
 
   -- past a rule that answers a proof or none
-  pub passes : (ps qs : List Expression) (ds : List B) (i : ℕ) (b : B) (whole : Answer) → i < length ds → b ≡ get_or ds i b →
-      ((rest : List Answer) → behind ps (asked_of c k e (meaning b).rule ∷ rest) ≡ behind qs rest) →
-      left_of ps (drop i ds) ≡ whole → left_of qs (drop (i + 1) ds) ≡ whole
-  passes ps qs ds i b whole within at pushed left =
-      sym (pushed (answers_to c k e (rules_of meaning (drop (i + 1) ds)))) ∙ sym (ap (left_of ps) (first_of ds i b within at)) ∙ left
+  pub passes : (old new : List Boxed) (ds : List B) (i : ℕ) (b : B) (whole : Answer) → i < length ds → b ≡ get_or ds i b →
+      IsPushed k old new (asked_of c k e (meaning b).rule) → left_of (expressions_in old) (drop i ds) ≡ whole → left_of (expressions_in new) (drop (i + 1) ds) ≡ whole
+  passes old new ds i b whole within at pushed left =
+      sym (moved (expressions_in old) (expressions_in new) (asked_of c k e (meaning b).rule) (answers_to c k e (rules_of meaning (drop (i + 1) ds))) pushed.0 pushed.1)
+      ∙ sym (ap (left_of (expressions_in old)) (first_of ds i b within at)) ∙ left
 
   -- at one that fails
   pub fails : (error : StatsError) (ps : List Expression) (ds : List B) (i : ℕ) (b : B) (whole : Answer) → i < length ds → b ≡ get_or ds i b →
-      ((rest : List Answer) → IsFault error (behind ps (asked_of c k e (meaning b).rule ∷ rest))) →
+      IsFault error (asked_of c k e (meaning b).rule) →
       left_of ps (drop i ds) ≡ whole → IsFault error whole
   fails error ps ds i b whole within at failed left =
-      subst (IsFault error) (sym (ap (left_of ps) (first_of ds i b within at)) ∙ left) (failed (answers_to c k e (rules_of meaning (drop (i + 1) ds))))
+      subst (IsFault error) (sym (ap (left_of ps) (first_of ds i b within at)) ∙ left)
+      (a_fault ps (asked_of c k e (meaning b).rule) (answers_to c k e (rules_of meaning (drop (i + 1) ds))) error failed)
 
   -- behind the last one
   pub ends : (ps : List Expression) (ds : List B) (i : ℕ) (whole : Answer) → length ds ≤ i → left_of ps (drop i ds) ≡ whole → answer_of (joined_proofs ps) ≡ whole

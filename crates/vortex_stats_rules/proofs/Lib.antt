@@ -1,3 +1,4 @@
+pub mod Comparisons
 pub mod Counts
 pub mod Handed
 pub mod Joining
@@ -5,5 +6,13 @@ pub mod Judging
 pub mod Keeping
 pub mod Nodes
 pub mod NotLiterals
+pub mod OfLiterals
+pub mod Outside
+pub mod Parts
+pub mod Pushed
 pub mod Roots
+pub mod Rounds
 pub mod Said
+pub mod Same
+pub mod Signs
+pub mod Views

@@ -1,20 +1,30 @@
 -- Nodes with sides, and how many are visited.
-use Rattle.std.proofs.Common.{◌≡◌, ℕ, ◌+◌, List, ◌∷◌, ◌++◌, length, map, Option, Some, None, Result, Bool, true, false, refl, sym, ap, ◌∙◌, subst, arith}
+use Rattle.std.proofs.Common.{◌≡◌, ℕ, ◌+◌, List, [], ◌∷◌, ◌++◌, length, map, Option, Some, None, Result, Ok, Err, Bool, true, false, IfSome, option_map, refl, sym, ap, ◌∙◌, subst, arith}
 use Rattle.std.proofs.lemmas.List.{length-append}
+use Rattle.std.specs.List.{AllByRecursion}
 use Rattle.vortex_model.specs.LogicalType.{LogicalType}
-use Rattle.vortex_model_table.specs.Expression.{Expression, compare, both, either, between}
+use Rattle.vortex_model_table.specs.Expression.{Expression, both, either}
 use Rattle.vortex_model_table.specs.Truth.{end_of}
-use Rattle.vortex_model_table.specs.Rewrite.{falsifiers, satisfiers, either_there, both_there}
+use Rattle.vortex_model_table.specs.Rewrite.{either_there, both_there}
 use Rattle.vortex_model_table.specs.Scan.{saturated}
-use Rattle.vortex_model_rules.specs.Rules.{Rule, Answer, no_proof, proof, fault, answer_of, joined_answers, either_answer, both_answers, falsifier_alone, falsifier_of_and, fals, sat, handed_over}
+use Rattle.vortex_model_rules.specs.Rules.{Rule, Answer, no_proof, proof, fault, answer_of, joined_answers, either_answer, both_answers, falsifier_alone, fals, sat, handed_over}
+use Rattle.vortex_dtype_core.specs.Parts.{is_boolean_type}
+use Rattle.vortex_stats_bind.specs.Bound.{Bound, fixed, each, some, range_test, value_type, expression_of}
+use Rattle.vortex_stats_bind.specs.Bindings.{IsBoundTo}
+use Rattle.vortex_stats_bind.proofs.Made.{truth_by, compare_judged, both_judged}
 use Rattle.vortex_stats_expr.specs.declared.error.StatsError.{StatsError}
 use Rattle.vortex_stats_expr.specs.declared.error.StatsError.TheVariants as error
 use Rattle.vortex_stats_rules.specs.declared.answers.Claim.TheVariants as claim
 use Rattle.vortex_stats_rules.specs.declared.meter.Meter.{Meter}
-use Rattle.vortex_stats_rules.specs.Meanings.{IsFault, IsJudged, answers_to}
+use Rattle.vortex_stats_rules.specs.Meanings.{IsFault, IsBoundTruth, AreProofs, expressions_in, IsProofIn, expression_in, IsJudged, answers_to}
 use Rattle.vortex_stats_rules.specs.Refusals.{IsPredicate, IsRefusal}
+use Rattle.vortex_stats_rules.specs.Table as table
+use Rattle.vortex_stats_rules.specs.Table.{Boxed, unboxed, all_unboxed, range_of}
 use Rattle.vortex_stats_rules.specs.Visits.{visited}
 use Rattle.vortex_stats_rules.proofs.Counts.{saturated_twice}
+use Rattle.vortex_stats_rules.proofs.Joining.{itself, listed_proofs}
+use Rattle.vortex_stats_rules.proofs.Parts.{of_each, of_some, of_range}
+use Rattle.vortex_stats_rules.proofs.Same.{IsProofOf, AreProofsOf, IsProofIf, anded, ored, same_falsifiers, same_satisfiers}
 
 -- ---- two answers
 
@@ -47,141 +57,163 @@ both_right (proof p) = refl
 both_right fault = refl
 
 -- a fault of a side is one of the whole
-pub either_left_fault : (e : StatsError) (a b : Answer) → IsFault e a → IsFault e (either_answer a b)
-either_left_fault error.Memory a b h = tt
-either_left_fault error.RuleFault a b h = ap (λ c. either_answer c b) h
-either_left_fault e a b h = absurd h
+in_whole : (f : Answer → Answer) (e : StatsError) (a : Answer) → f fault ≡ fault → IsFault e a → IsFault e (f a)
+in_whole f error.Memory a is h = tt
+in_whole f error.RuleFault a is h = ap f h ∙ is
+in_whole f e a is h = absurd h
 
-pub both_left_fault : (e : StatsError) (a b : Answer) → IsFault e a → IsFault e (both_answers a b)
-both_left_fault error.Memory a b h = tt
-both_left_fault error.RuleFault a b h = ap (λ c. both_answers c b) h
-both_left_fault e a b h = absurd h
+-- ---- the proofs of two sides
 
-pub either_right_fault : (e : StatsError) (a b : Answer) → IsFault e b → IsFault e (either_answer a b)
-either_right_fault error.Memory a b h = tt
-either_right_fault error.RuleFault a b h = ap (λ c. either_answer a c) h ∙ either_right a
-either_right_fault e a b h = absurd h
+module _ (k : LogicalType) where
+  pub either_proofs : (o p : Option Boxed) (q : Option Boxed) → unboxed q ≡ table.either_there (unboxed o) (unboxed p) → IsProofIn k o → IsProofIn k p →
+      (answer_of (either_there (expression_in o) (expression_in p)) ≡ answer_of (expression_in q)) × IsProofIn k q
+  either_proofs o p q is h g = (
+    by_expression (unboxed o) (unboxed p) ∙ ap (λ b. answer_of (option_map expression_of b)) (sym is),
+    subst (λ b. IfSome b (IsBoundTruth k)) (sym is) (by_cases (unboxed o) (unboxed p) h g),
+  )
+    where
+      by_expression : (o p : Option Bound) → answer_of (either_there (option_map expression_of o) (option_map expression_of p)) ≡ answer_of (option_map expression_of (table.either_there o p))
+      by_expression None p = refl
+      by_expression (Some b) None = refl
+      by_expression (Some b) (Some c) = refl
 
-pub both_right_fault : (e : StatsError) (a b : Answer) → IsFault e b → IsFault e (both_answers a b)
-both_right_fault error.Memory a b h = tt
-both_right_fault error.RuleFault a b h = ap (λ c. both_answers a c) h ∙ both_right a
-both_right_fault e a b h = absurd h
+      by_cases : (o p : Option Bound) → IfSome o (IsBoundTruth k) → IfSome p (IsBoundTruth k) → IfSome (table.either_there o p) (IsBoundTruth k)
+      by_cases None p h g = g
+      by_cases (Some b) None h g = h
+      by_cases (Some b) (Some c) h g = (itself k _ _ (ored k _ _ b c record { bound = h.bound; boolean = h.boolean } record { bound = g.bound; boolean = g.boolean })).1
 
--- an error in what the built-in rules answer at a node
-pub fault_in_front : (e : StatsError) (a : Answer) (answers : List Answer) → IsFault e a → IsFault e (joined_answers (a ∷ answers))
-fault_in_front error.Memory a answers h = tt
-fault_in_front error.RuleFault a answers h = ap (λ c. joined_answers (c ∷ answers)) h
-fault_in_front e a answers h = absurd h
+  pub both_proofs : (o p : Option Boxed) (q : Option Boxed) → unboxed q ≡ table.both_there (unboxed o) (unboxed p) → IsProofIn k o → IsProofIn k p →
+      (answer_of (both_there (expression_in o) (expression_in p)) ≡ answer_of (expression_in q)) × IsProofIn k q
+  both_proofs o p q is h g = (
+    by_expression (unboxed o) (unboxed p) ∙ ap (λ b. answer_of (option_map expression_of b)) (sym is),
+    subst (λ b. IfSome b (IsBoundTruth k)) (sym is) (by_cases (unboxed o) (unboxed p) h g),
+  )
+    where
+      by_expression : (o p : Option Bound) → answer_of (both_there (option_map expression_of o) (option_map expression_of p)) ≡ answer_of (option_map expression_of (table.both_there o p))
+      by_expression None p = refl
+      by_expression (Some b) None = refl
+      by_expression (Some b) (Some c) = refl
+
+      by_cases : (o p : Option Bound) → IfSome o (IsBoundTruth k) → IfSome p (IsBoundTruth k) → IfSome (table.both_there o p) (IsBoundTruth k)
+      by_cases None p h g = tt
+      by_cases (Some b) None h g = tt
+      by_cases (Some b) (Some c) h g = (itself k _ _ (anded k _ _ b c record { bound = h.bound; boolean = h.boolean } record { bound = g.bound; boolean = g.boolean })).1
 
 -- ---- nodes
 
+-- what a node weighs in the walk over it: a BETWEEN more than the AND of its comparisons
+abbrev pub weight : Bound → ℕ
+weight (each x y) = weight x + weight y + 1
+weight (some x y) = weight x + weight y + 1
+weight (range_test x lo hi s t) = 4
+weight b = 1
+
 -- no AND, OR or BETWEEN
-abbrev pub is_alone : Expression → Bool
-is_alone (both x y) = false
-is_alone (either x y) = false
-is_alone (between x lo hi s t) = false
+abbrev pub is_alone : Bound → Bool
+is_alone (each x y) = false
+is_alone (some x y) = false
+is_alone (range_test x lo hi s t) = false
 is_alone e = true
 
 module _ (k : LogicalType) (rules : List Rule) where
-  abbrev behind : Expression → Answer → Answer
-  behind e a = joined_answers (a ∷ answers_to claim.NoRow k e rules)
+  abbrev pub behind : Bound → Answer → Answer
+  behind e a = joined_answers (a ∷ answers_to claim.NoRow k (expression_of e) rules)
 
-  abbrev of_ends : Expression → Expression → Answer
-  of_ends x y = falsifier_of_and k rules x y (falsifier_alone k rules x) (falsifier_alone k rules y)
+  abbrev pub proved : Bound → Answer
+  proved e = fals k rules (expression_of e)
 
-  alone_so : (e : Expression) → is_alone e ≡ true → falsifier_alone k rules e ≡ fals k rules e
-  alone_so (both x y) h = cc
-  alone_so (either x y) h = cc
-  alone_so (between x lo hi s t) h = cc
+  -- at a node, where its built-in proof is this one
+  pub of_built_in : (r : Result (Option Boxed) StatsError) (e : Bound) (a : Answer) (o : Option Boxed) → proved e ≡ behind e a →
+      (a ≡ answer_of (expression_in o)) × IsProofIn k o → (IsProofIn k o → IsJudged k r (behind e (answer_of (expression_in o)))) → IsJudged k r (proved e)
+  of_built_in r e a o is p j = subst (IsJudged k r) (sym (is ∙ ap (behind e) p.0)) (j p.1)
+
+  pub at_and : (r : Result (Option Boxed) StatsError) (e x y : Bound) (o p q : Option Boxed) → e ≡ each x y → IsBoundTo k e →
+      (IsBoundTo k x → IsJudged k (Ok o) (proved x)) → (IsBoundTo k y → IsJudged k (Ok p) (proved y)) → unboxed q ≡ table.either_there (unboxed o) (unboxed p) →
+      (IsProofIn k q → IsJudged k r (behind e (answer_of (expression_in q)))) → IsJudged k r (proved e)
+  at_and r e x y o p q is h left right joined j =
+      let s = of_each k x y (subst (IsBoundTo k) is h) in
+      let l = left s.0.bound in
+      let g = right s.1.bound in
+      let u = either_proofs k o p q joined l.1 g.1 in
+      of_built_in r e (either_answer (proved x) (proved y)) q (ap proved is ∙ ap (λ c. behind c (either_answer (proved x) (proved y))) (sym is))
+      (either_so _ _ _ _ l.0 g.0 ∙ u.0, u.1) j
+
+  pub at_or : (r : Result (Option Boxed) StatsError) (e x y : Bound) (o p q : Option Boxed) → e ≡ some x y → IsBoundTo k e →
+      (IsBoundTo k x → IsJudged k (Ok o) (proved x)) → (IsBoundTo k y → IsJudged k (Ok p) (proved y)) → unboxed q ≡ table.both_there (unboxed o) (unboxed p) →
+      (IsProofIn k q → IsJudged k r (behind e (answer_of (expression_in q)))) → IsJudged k r (proved e)
+  at_or r e x y o p q is h left right joined j =
+      let s = of_some k x y (subst (IsBoundTo k) is h) in
+      let l = left s.0.bound in
+      let g = right s.1.bound in
+      let u = both_proofs k o p q joined l.1 g.1 in
+      of_built_in r e (both_answers (proved x) (proved y)) q (ap proved is ∙ ap (λ c. behind c (both_answers (proved x) (proved y))) (sym is))
+      (both_so _ _ _ _ l.0 g.0 ∙ u.0, u.1) j
+
+  -- the AND of a BETWEEN is bound
+  pub range_bound : (e x lo hi r : Bound) (s t : Bool) → e ≡ range_test x lo hi s t → r ≡ range_of x lo hi s t → IsBoundTo k e → IsBoundTo k r
+  range_bound e x lo hi r s t is made h =
+      let ends = of_range k x lo hi s t (subst (IsBoundTo k) is h) in
+      subst (IsBoundTo k) (sym made)
+      ((both_judged k _ _ _ _ ((compare_judged k _ _ lo x ends.0.left ends.0.right (end_of s)).passed ends.0.same)
+      ((compare_judged k _ _ x hi ends.1.left ends.1.right (end_of t)).passed ends.1.same)).passed refl)
+
+  pub at_between : (r : Result (Option Boxed) StatsError) (e x lo hi range : Bound) (s t : Bool) (o : Option Boxed) → e ≡ range_test x lo hi s t →
+      range ≡ range_of x lo hi s t → IsBoundTo k e → (IsBoundTo k range → IsJudged k (Ok o) (proved range)) →
+      (IsProofIn k o → IsJudged k r (behind e (answer_of (expression_in o)))) → IsJudged k r (proved e)
+  at_between r e x lo hi range s t o is made h ends j =
+      of_built_in r e (proved range) o (ap proved is ∙ (λ i. behind (sym is i) (proved (sym made i)))) (ends (range_bound e x lo hi range s t is made h)) j
+
+  alone_so : (e : Bound) → is_alone e ≡ true → falsifier_alone k rules (expression_of e) ≡ proved e
+  alone_so (each x y) h = cc (h)
+  alone_so (some x y) h = cc (h)
+  alone_so (range_test x lo hi s t) h = cc (h)
   alone_so e h = refl
 
-  pub at_alone : (r : Result (Option Expression) StatsError) (e : Expression) → is_alone e ≡ true → IsJudged r (falsifier_alone k rules e) → IsJudged r (fals k rules e)
-  at_alone r e h j = subst (IsJudged r) (alone_so e h) j
+  -- at one that is none of these
+  pub at_alone : (r : Result (Option Boxed) StatsError) (e : Bound) (bs : List Boxed) → is_alone e ≡ true → IsBoundTo k e → all_unboxed bs ≡ table.falsifiers e →
+      (AreProofs k bs → IsJudged k r (joined_answers (map proof (expressions_in bs) ++ answers_to claim.NoRow k (expression_of e) rules))) → IsJudged k r (proved e)
+  at_alone r e bs alone h is j =
+      let u = listed_proofs k _ _ (same_falsifiers k e h) in
+      subst (IsJudged k r) (ap (λ ps. joined_answers (map proof ps ++ answers_to claim.NoRow k (expression_of e) rules)) (ap (map expression_of) is ∙ u.0) ∙ alone_so e alone)
+      (j (subst (AllByRecursion (IsBoundTruth k)) (sym is) u.1))
 
-  of_sides : (r : Result (Option Expression) StatsError) (e : Expression) (a : Answer) (o : Option Expression) → a ≡ answer_of o → IsJudged r (behind e (answer_of o)) → IsJudged r (behind e a)
-  of_sides r e a o h j = subst (λ c. IsJudged r (behind e c)) (sym h) j
+  pub satisfied : (r : Result (Option Boxed) StatsError) (e : Bound) (bs : List Boxed) → IsBoundTo k e → all_unboxed bs ≡ table.satisfiers e →
+      (AreProofs k bs → IsJudged k r (joined_answers (map proof (expressions_in bs) ++ answers_to claim.EveryRow k (expression_of e) rules))) → IsJudged k r (sat k rules (expression_of e))
+  satisfied r e bs h is j =
+      let u = listed_proofs k _ _ (same_satisfiers k e h) in
+      subst (IsJudged k r) (ap (λ ps. joined_answers (map proof ps ++ answers_to claim.EveryRow k (expression_of e) rules)) (ap (map expression_of) is ∙ u.0))
+      (j (subst (AllByRecursion (IsBoundTruth k)) (sym is) u.1))
 
-  pub at_and : (r : Result (Option Expression) StatsError) (e x y : Expression) (o p : Option Expression) → e ≡ both x y → fals k rules x ≡ answer_of o → fals k rules y ≡ answer_of p →
-      IsJudged r (behind e (answer_of (either_there o p))) → IsJudged r (fals k rules e)
-  at_and r e x y o p is h g j =
-      subst (λ c. IsJudged r (fals k rules c)) (sym is)
-      (of_sides r (both x y) (either_answer (fals k rules x) (fals k rules y)) (either_there o p) (either_so (fals k rules x) (fals k rules y) o p h g)
-      (subst (λ c. IsJudged r (behind c (answer_of (either_there o p)))) is j))
+  -- ---- faults of sides
 
-  pub at_or : (r : Result (Option Expression) StatsError) (e x y : Expression) (o p : Option Expression) → e ≡ either x y → fals k rules x ≡ answer_of o → fals k rules y ≡ answer_of p →
-      IsJudged r (behind e (answer_of (both_there o p))) → IsJudged r (fals k rules e)
-  at_or r e x y o p is h g j =
-      subst (λ c. IsJudged r (fals k rules c)) (sym is)
-      (of_sides r (either x y) (both_answers (fals k rules x) (fals k rules y)) (both_there o p) (both_so (fals k rules x) (fals k rules y) o p h g)
-      (subst (λ c. IsJudged r (behind c (answer_of (both_there o p)))) is j))
+  fault_in_front : (e : Bound) (a : Answer) (f : Answer → Answer) (err : StatsError) → f fault ≡ fault → IsFault err a → IsFault err (behind e (f a))
+  fault_in_front e a f err is h = in_whole (λ c. behind e (f c)) err a (ap (behind e) is) h
 
-  pub at_ends : (r : Result (Option Expression) StatsError) (e x y : Expression) (o p : Option Expression) → e ≡ both x y → falsifier_alone k rules x ≡ answer_of o → falsifier_alone k rules y ≡ answer_of p →
-      IsJudged r (behind e (answer_of (either_there o p))) → IsJudged r (of_ends x y)
-  at_ends r e x y o p is h g j =
-      of_sides r (both x y) (either_answer (falsifier_alone k rules x) (falsifier_alone k rules y)) (either_there o p)
-      (either_so (falsifier_alone k rules x) (falsifier_alone k rules y) o p h g)
-      (subst (λ c. IsJudged r (behind c (answer_of (either_there o p)))) is j)
+  pub and_left : (e x y : Bound) (err : StatsError) → e ≡ each x y → IsBoundTo k e → (IsBoundTo k x → IsFault err (proved x)) → IsFault err (proved e)
+  and_left e x y err is h j =
+      subst (λ c. IsFault err (proved c)) (sym is)
+      (fault_in_front (each x y) (proved x) (λ c. either_answer c (proved y)) err refl (j (of_each k x y (subst (IsBoundTo k) is h)).0.bound))
 
-  pub at_between : (r : Result (Option Expression) StatsError) (e x lo hi low high : Expression) (s t : Bool) (o : Option Expression) → e ≡ between x lo hi s t →
-      low ≡ compare (end_of s) lo x → high ≡ compare (end_of t) x hi → of_ends low high ≡ answer_of o →
-      IsJudged r (behind e (answer_of o)) → IsJudged r (fals k rules e)
-  at_between r e x lo hi low high s t o is f g h j =
-      subst (λ c. IsJudged r (fals k rules c)) (sym is)
-      (of_sides r (between x lo hi s t) (of_ends (compare (end_of s) lo x) (compare (end_of t) x hi)) o
-      (sym (λ i. of_ends (f i) (g i)) ∙ h)
-      (subst (λ c. IsJudged r (behind c (answer_of o))) is j))
+  pub and_right : (e x y : Bound) (err : StatsError) → e ≡ each x y → IsBoundTo k e → (IsBoundTo k y → IsFault err (proved y)) → IsFault err (proved e)
+  and_right e x y err is h j =
+      subst (λ c. IsFault err (proved c)) (sym is)
+      (fault_in_front (each x y) (proved y) (either_answer (proved x)) err (either_right (proved x)) (j (of_each k x y (subst (IsBoundTo k) is h)).1.bound))
 
-  -- faults of sides
-  pub and_left : (e x y : Expression) (error : StatsError) → e ≡ both x y → IsFault error (fals k rules x) → IsFault error (fals k rules e)
-  and_left e x y error is h =
-      subst (λ c. IsFault error (fals k rules c)) (sym is)
-      (fault_in_front error (either_answer (fals k rules x) (fals k rules y)) (answers_to claim.NoRow k (both x y) rules) (either_left_fault error (fals k rules x) (fals k rules y) h))
+  pub or_left : (e x y : Bound) (err : StatsError) → e ≡ some x y → IsBoundTo k e → (IsBoundTo k x → IsFault err (proved x)) → IsFault err (proved e)
+  or_left e x y err is h j =
+      subst (λ c. IsFault err (proved c)) (sym is)
+      (fault_in_front (some x y) (proved x) (λ c. both_answers c (proved y)) err refl (j (of_some k x y (subst (IsBoundTo k) is h)).0.bound))
 
-  pub and_right : (e x y : Expression) (error : StatsError) → e ≡ both x y → IsFault error (fals k rules y) → IsFault error (fals k rules e)
-  and_right e x y error is h =
-      subst (λ c. IsFault error (fals k rules c)) (sym is)
-      (fault_in_front error (either_answer (fals k rules x) (fals k rules y)) (answers_to claim.NoRow k (both x y) rules) (either_right_fault error (fals k rules x) (fals k rules y) h))
+  pub or_right : (e x y : Bound) (err : StatsError) → e ≡ some x y → IsBoundTo k e → (IsBoundTo k y → IsFault err (proved y)) → IsFault err (proved e)
+  or_right e x y err is h j =
+      subst (λ c. IsFault err (proved c)) (sym is)
+      (fault_in_front (some x y) (proved y) (both_answers (proved x)) err (both_right (proved x)) (j (of_some k x y (subst (IsBoundTo k) is h)).1.bound))
 
-  pub or_left : (e x y : Expression) (error : StatsError) → e ≡ either x y → IsFault error (fals k rules x) → IsFault error (fals k rules e)
-  or_left e x y error is h =
-      subst (λ c. IsFault error (fals k rules c)) (sym is)
-      (fault_in_front error (both_answers (fals k rules x) (fals k rules y)) (answers_to claim.NoRow k (either x y) rules) (both_left_fault error (fals k rules x) (fals k rules y) h))
-
-  pub or_right : (e x y : Expression) (error : StatsError) → e ≡ either x y → IsFault error (fals k rules y) → IsFault error (fals k rules e)
-  or_right e x y error is h =
-      subst (λ c. IsFault error (fals k rules c)) (sym is)
-      (fault_in_front error (both_answers (fals k rules x) (fals k rules y)) (answers_to claim.NoRow k (either x y) rules) (both_right_fault error (fals k rules x) (fals k rules y) h))
-
-  pub ends_left : (x y : Expression) (error : StatsError) → IsFault error (falsifier_alone k rules x) → IsFault error (of_ends x y)
-  ends_left x y error h =
-      fault_in_front error (either_answer (falsifier_alone k rules x) (falsifier_alone k rules y)) (answers_to claim.NoRow k (both x y) rules)
-      (either_left_fault error (falsifier_alone k rules x) (falsifier_alone k rules y) h)
-
-  pub ends_right : (x y : Expression) (error : StatsError) → IsFault error (falsifier_alone k rules y) → IsFault error (of_ends x y)
-  ends_right x y error h =
-      fault_in_front error (either_answer (falsifier_alone k rules x) (falsifier_alone k rules y)) (answers_to claim.NoRow k (both x y) rules)
-      (either_right_fault error (falsifier_alone k rules x) (falsifier_alone k rules y) h)
-
-  pub between_fault : (e x lo hi low high : Expression) (s t : Bool) (error : StatsError) → e ≡ between x lo hi s t →
-      low ≡ compare (end_of s) lo x → high ≡ compare (end_of t) x hi → IsFault error (of_ends low high) → IsFault error (fals k rules e)
-  between_fault e x lo hi low high s t error is f g h =
-      subst (λ c. IsFault error (fals k rules c)) (sym is)
-      (fault_in_front error (of_ends (compare (end_of s) lo x) (compare (end_of t) x hi)) (answers_to claim.NoRow k (between x lo hi s t) rules)
-      (subst (IsFault error) (λ i. of_ends (f i) (g i)) h))
-
-  pub alone : (r : Result (Option Expression) StatsError) (e : Expression) (ps : List Expression) → ps ≡ falsifiers k e →
-      IsJudged r (joined_answers (map proof ps ++ answers_to claim.NoRow k e rules)) → IsJudged r (falsifier_alone k rules e)
-  alone r e ps h j = subst (λ qs. IsJudged r (joined_answers (map proof qs ++ answers_to claim.NoRow k e rules))) h j
-
-  pub satisfied : (r : Result (Option Expression) StatsError) (e : Expression) (ps : List Expression) → ps ≡ satisfiers k e →
-      IsJudged r (joined_answers (map proof ps ++ answers_to claim.EveryRow k e rules)) → IsJudged r (sat k rules e)
-  satisfied r e ps h j = subst (λ qs. IsJudged r (joined_answers (map proof qs ++ answers_to claim.EveryRow k e rules))) h j
-
--- a fault of a predicate
-pub refused : (k : LogicalType) (e : Expression) (a : Answer) (error : StatsError) → IsPredicate k e → IsFault error a → IsRefusal k e a error
-refused k e a error.Memory p h = tt
-refused k e a error.RuleFault p h = (p, h)
-refused k e a r p h = absurd h
+  pub between_fault : (e x lo hi range : Bound) (s t : Bool) (err : StatsError) → e ≡ range_test x lo hi s t → range ≡ range_of x lo hi s t → IsBoundTo k e →
+      (IsBoundTo k range → IsFault err (proved range)) → IsFault err (proved e)
+  between_fault e x lo hi range s t err is made h j =
+      subst (IsFault err) (sym (ap proved is ∙ (λ i. behind (sym is i) (proved (sym made i)))))
+      (fault_in_front e (proved range) (λ c. c) err refl (j (range_bound e x lo hi range s t is made h)))
 
 -- ---- visits
 
@@ -193,42 +225,56 @@ visited_twice m n meter =
 then_visited : (m n l : ℕ) (a b c : Meter) → b ≡ visited m a → c ≡ visited n b → m + n ≡ l → c ≡ visited l a
 then_visited m n l a b c h g is = g ∙ ap (visited n) h ∙ visited_twice m n a ∙ ap (λ i. visited i a) is
 
-thrice_visited : (m n o l : ℕ) (a b c d : Meter) → b ≡ visited m a → c ≡ visited n b → d ≡ visited o c → m + n + o ≡ l → d ≡ visited l a
-thrice_visited m n o l a b c d h g f is = then_visited (m + n) o l a c d (then_visited m n (m + n) a b c h g refl) f is
+abbrev node_visits : Bound → ℕ
+node_visits e = length (handed_over (expression_of e))
 
-pub and_visited : (e x y : Expression) (a b c d : Meter) → e ≡ both x y → b ≡ visited (length (handed_over x)) a → c ≡ visited (length (handed_over y)) b → d ≡ visited 1 c →
-    d ≡ visited (length (handed_over e)) a
+sides_visited : (l : ℕ) (x y : Bound) (a b c d : Meter) → node_visits x + node_visits y + 1 ≡ l → b ≡ visited (node_visits x) a → c ≡ visited (node_visits y) b → d ≡ visited 1 c →
+    d ≡ visited l a
+sides_visited l x y a b c d is h g f =
+    then_visited (node_visits x + node_visits y) 1 l a c d (then_visited (node_visits x) (node_visits y) (node_visits x + node_visits y) a b c h g refl) f is
+
+pub and_visited : (e x y : Bound) (a b c d : Meter) → e ≡ each x y → b ≡ visited (node_visits x) a → c ≡ visited (node_visits y) b → d ≡ visited 1 c → d ≡ visited (node_visits e) a
 and_visited e x y a b c d is h g f =
-    thrice_visited (length (handed_over x)) (length (handed_over y)) 1 (length (handed_over e)) a b c d h g f
-    (let j = length-append (handed_over x) (handed_over y) in let l : length (handed_over x) + length (handed_over y) + 1 ≡ length (handed_over (both x y)) = omega (arith, j) in
-    l ∙ ap (λ n. length (handed_over n)) (sym is))
+    sides_visited (node_visits e) x y a b c d
+    (let l : node_visits x + node_visits y + 1 ≡ node_visits (each x y) = omega (arith, length-append (handed_over (expression_of x)) (handed_over (expression_of y))) in
+    l ∙ ap node_visits (sym is)) h g f
 
-pub or_visited : (e x y : Expression) (a b c d : Meter) → e ≡ either x y → b ≡ visited (length (handed_over x)) a → c ≡ visited (length (handed_over y)) b → d ≡ visited 1 c →
-    d ≡ visited (length (handed_over e)) a
+pub or_visited : (e x y : Bound) (a b c d : Meter) → e ≡ some x y → b ≡ visited (node_visits x) a → c ≡ visited (node_visits y) b → d ≡ visited 1 c → d ≡ visited (node_visits e) a
 or_visited e x y a b c d is h g f =
-    thrice_visited (length (handed_over x)) (length (handed_over y)) 1 (length (handed_over e)) a b c d h g f
-    (let j = length-append (handed_over x) (handed_over y) in let l : length (handed_over x) + length (handed_over y) + 1 ≡ length (handed_over (either x y)) = omega (arith, j) in
-    l ∙ ap (λ n. length (handed_over n)) (sym is))
+    sides_visited (node_visits e) x y a b c d
+    (let l : node_visits x + node_visits y + 1 ≡ node_visits (some x y) = omega (arith, length-append (handed_over (expression_of x)) (handed_over (expression_of y))) in
+    l ∙ ap node_visits (sym is)) h g f
 
-pub between_visited : (e x lo hi : Expression) (s t : Bool) (a b c : Meter) → e ≡ between x lo hi s t → b ≡ visited 3 a → c ≡ visited 1 b → c ≡ visited (length (handed_over e)) a
-between_visited e x lo hi s t a b c is h g = then_visited 3 1 (length (handed_over e)) a b c h g (ap (λ n. length (handed_over n)) (sym is))
+pub between_visited : (e x lo hi range : Bound) (s t : Bool) (a b c : Meter) → e ≡ range_test x lo hi s t → range ≡ range_of x lo hi s t → b ≡ visited (node_visits range) a →
+    c ≡ visited 1 b → c ≡ visited (node_visits e) a
+between_visited e x lo hi range s t a b c is made h g =
+    then_visited 3 1 (node_visits e) a b c (h ∙ ap (λ r. visited (node_visits r) a) made) g (ap node_visits (sym is))
 
-one_alone : (e : Expression) → is_alone e ≡ true → 1 ≡ length (handed_over e)
-one_alone (both x y) h = cc
-one_alone (either x y) h = cc
-one_alone (between x lo hi s t) h = cc
+one_alone : (e : Bound) → is_alone e ≡ true → 1 ≡ node_visits e
+one_alone (each x y) h = cc (h)
+one_alone (some x y) h = cc (h)
+one_alone (range_test x lo hi s t) h = cc (h)
 one_alone e h = refl
 
-pub alone_visited : (e : Expression) (a b : Meter) → is_alone e ≡ true → b ≡ visited 1 a → b ≡ visited (length (handed_over e)) a
+pub alone_visited : (e : Bound) (a b : Meter) → is_alone e ≡ true → b ≡ visited 1 a → b ≡ visited (node_visits e) a
 alone_visited e a b h g = g ∙ ap (λ n. visited n a) (one_alone e h)
 
-pub ends_visited : (a b c d : Meter) → b ≡ visited 1 a → c ≡ visited 1 b → d ≡ visited 1 c → d ≡ visited 3 a
-ends_visited a b c d h g f = thrice_visited 1 1 1 3 a b c d h g f refl
+pub ruleset of_visits = (and_visited, or_visited, between_visited, alone_visited)
 
-pub ruleset of_nodes = (at_alone, at_and, at_or, at_between, and_left, and_right, or_left, or_right, between_fault, and_visited, or_visited, between_visited, alone_visited)
+-- ---- the whole
 
-pub ruleset of_two = (at_ends, ends_left, ends_right, ends_visited)
+pub is_predicate : (k : LogicalType) (e : Bound) → IsBoundTo k e → is_boolean_type (value_type e) ≡ true → IsPredicate k (expression_of e)
+is_predicate k e h t = truth_by k _ e h ∙ t
 
-pub ruleset of_alone = (alone)
+pub no_predicate : (k : LogicalType) (e : Bound) (a : Answer) → IsBoundTo k e → is_boolean_type (value_type e) ≡ false → IsRefusal k (expression_of e) a error.NotBoolean
+no_predicate k e a h t = truth_by k _ e h ∙ t
 
-pub ruleset of_whole = (satisfied, refused)
+-- a fault of a predicate
+pub refused : (k : LogicalType) (e : Bound) (a : Answer) (err : StatsError) → IsBoundTo k e → is_boolean_type (value_type e) ≡ true → IsFault err a → IsRefusal k (expression_of e) a err
+refused k e a error.Memory h t f = tt
+refused k e a error.RuleFault h t f = (is_predicate k e h t, f)
+refused k e a r h t f = absurd f
+
+pub all_bound : (k : LogicalType) (o : Option Bound) → IfSome o (IsBoundTruth k) → IfSome o (λ b. IsBoundTo k b)
+all_bound k None h = tt
+all_bound k (Some b) h = h.bound

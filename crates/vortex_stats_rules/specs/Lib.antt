@@ -2,5 +2,8 @@ pub mod Meanings
 pub mod Not
 pub mod NotLiterals
 pub mod OfModel
+pub mod Patterns
+pub mod PushedIn
 pub mod Refusals
+pub mod Table
 pub mod Visits

@@ -1,11 +1,18 @@
-//! Rewrite rules of callers, and the proofs that are made with them.
+//! Proofs over statistics, as they are made of predicates: by the built-in rules and by rules of
+//! callers.
 #![tactic(auto)]
 
 mod answers;
+mod comparison;
+mod joined;
 pub mod laws;
+mod like;
+mod like_variant;
 pub mod meter;
 pub mod negation;
 pub mod null_comparison;
+mod nulls;
 pub mod push_not;
 pub mod rewrite;
 pub mod rule;
+mod stats;

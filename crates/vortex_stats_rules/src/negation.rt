@@ -1,17 +1,15 @@
 //! Two rules for NOT, which has no built-in proofs: examples of rules that keep their law.
 ghost use Rattle.std.specs.Prelude.{◌≡◌};
-ghost use Rattle.vortex_model_table.specs.Rewrite.{boolean_literal};
 ghost use Rattle.vortex_scalar_core.specs.Scalar.{scalar_content};
+ghost use Rattle.vortex_stats_bind.specs.Bound.{expression_of};
 ghost use Rattle.vortex_stats_rules.specs.NotLiterals.{literal_truth, negated_truth, truth_in};
 
 use crate::rule::StatsRewriteRule;
+use crate::stats::truth;
 use std::alloc::Global;
-use vortex_dtype_core::dtype::DType;
-use vortex_dtype_ptype::nullability::Nullability;
 use vortex_scalar_core::scalar::Scalar;
-use vortex_scalar_value::scalar_value::ScalarValue;
+use vortex_stats_bind::bound::{BoundExpression, BoundNode};
 use vortex_stats_expr::error::StatsError;
-use vortex_stats_expr::expression::{Expression, Node, lit};
 use vortex_stats_expr::scalar_fn::ScalarFnId;
 
 /// Answers the literal false at each NOT: proofs that are never true.
@@ -29,20 +27,20 @@ impl StatsRewriteRule for Never {
 
     fn falsify(
         &self,
-        _alloc: Global,
-        _dtype: &DType,
-        _expr: &Expression,
-    ) -> Result<Option<Expression>, StatsError> {
-        Ok(Some(truth(false)))
+        alloc: Global,
+        _expr: &BoundExpression,
+    ) -> Result<Option<BoundExpression>, StatsError> {
+        let proof = truth(alloc, false)?;
+        Ok(Some(Box::into_inner(proof)))
     }
 
     fn satisfy(
         &self,
-        _alloc: Global,
-        _dtype: &DType,
-        _expr: &Expression,
-    ) -> Result<Option<Expression>, StatsError> {
-        Ok(Some(truth(false)))
+        alloc: Global,
+        _expr: &BoundExpression,
+    ) -> Result<Option<BoundExpression>, StatsError> {
+        let proof = truth(alloc, false)?;
+        Ok(Some(Box::into_inner(proof)))
     }
 }
 
@@ -60,87 +58,60 @@ impl StatsRewriteRule for NotLiteral {
         ScalarFnId::Not
     }
 
-    #[tactic(auto, using(crate::proofs::NotLiterals::by_truth))]
     fn falsify(
         &self,
-        _alloc: Global,
-        _dtype: &DType,
-        expr: &Expression,
-    ) -> Result<Option<Expression>, StatsError> {
-        match negated_truth(expr) {
-            Some(value) => Ok(Some(truth(value))),
-            None => Ok(None),
-        }
+        alloc: Global,
+        expr: &BoundExpression,
+    ) -> Result<Option<BoundExpression>, StatsError> {
+        let Some(value) = negated_truth(expr) else {
+            return Ok(None);
+        };
+        let proof = truth(alloc, value)?;
+        Ok(Some(Box::into_inner(proof)))
     }
 
-    #[tactic(auto, using(crate::proofs::NotLiterals::by_truth))]
     fn satisfy(
         &self,
-        _alloc: Global,
-        _dtype: &DType,
-        expr: &Expression,
-    ) -> Result<Option<Expression>, StatsError> {
-        match negated_truth(expr) {
-            Some(value) => Ok(Some(truth(!value))),
-            None => Ok(None),
-        }
+        alloc: Global,
+        expr: &BoundExpression,
+    ) -> Result<Option<BoundExpression>, StatsError> {
+        let Some(value) = negated_truth(expr) else {
+            return Ok(None);
+        };
+        let proof = truth(alloc, !value)?;
+        Ok(Some(Box::into_inner(proof)))
     }
-}
-
-// A literal truth value, of the type without null.
-#[tactic(auto, using(crate::proofs::NotLiterals::one_level))]
-pub(crate) fn truth(value: bool) -> Expression
-    ensures { result ≡ boolean_literal value }
-{
-    lit(Scalar::new_unchecked(
-        DType::Bool(Nullability::NonNullable),
-        Some(ScalarValue::Bool(value)),
-    ))
 }
 
 // The truth value of which an expression is the NOT.
-fn negated_truth(e: &Expression) -> Option<bool>
-    ensures { result ≡ negated_truth e.now }
+fn negated_truth(e: &BoundExpression) -> Option<bool>
+    ensures { result ≡ negated_truth (expression_of e.now) }
 {
     match &e.node {
-        Node::Literal(_) => None,
-        Node::Column(_) => None,
-        Node::Compare(_, _, _) => None,
-        Node::And(_, _) => None,
-        Node::Or(_, _) => None,
-        Node::Not(input) => literal_truth(input),
-        Node::IsNull(_) => None,
-        Node::IsNotNull(_) => None,
-        Node::IsNan(_) => None,
-        Node::Between(_, _, _, _) => None,
-        Node::Like(_, _, _) => None,
-        Node::RowCount => None,
-        Node::Stat(_, _) => None,
+        BoundNode::Not(input) => literal_truth(input),
+        BoundNode::Literal(_)
+        | BoundNode::Column(_)
+        | BoundNode::Compare(_, _, _)
+        | BoundNode::And(_, _)
+        | BoundNode::Or(_, _)
+        | BoundNode::IsNull(_)
+        | BoundNode::IsNotNull(_)
+        | BoundNode::IsNan(_)
+        | BoundNode::Between(_, _, _, _)
+        | BoundNode::Like(_, _, _)
+        | BoundNode::RowCount
+        | BoundNode::Stat(_, _, _) => None,
     }
 }
 
 // The truth value that an expression is a literal of.
-fn literal_truth(e: &Expression) -> Option<bool>
-    ensures { result ≡ literal_truth e.now }
+fn literal_truth(e: &BoundExpression) -> Option<bool>
+    ensures { result ≡ literal_truth (expression_of e.now) }
 {
-    match &e.node {
-        Node::Literal(value) => truth_in(value),
-        Node::Column(_) => None,
-        Node::Compare(_, _, _) => None,
-        Node::And(_, _) => None,
-        Node::Or(_, _) => None,
-        Node::Not(_) => None,
-        Node::IsNull(_) => None,
-        Node::IsNotNull(_) => None,
-        Node::IsNan(_) => None,
-        Node::Between(_, _, _, _) => None,
-        Node::Like(_, _, _) => None,
-        Node::RowCount => None,
-        Node::Stat(_, _) => None,
-    }
+    truth_in(e.as_literal()?)
 }
 
-// The truth value, where it is one.
+/// The truth value, where it is one.
 #[tactic(auto, using(crate::proofs::NotLiterals::truth_said))]
 pub(crate) fn truth_in(value: &Scalar) -> Option<bool>
     ensures { result ≡ truth_in (scalar_content value.now) }

@@ -13,7 +13,7 @@ use Rattle.vortex_stats_mask.specs.Columns.{shown_at}
 use Rattle.vortex_stats_mask.specs.Headed.{AllValid, ViewsHaveHeads}
 use Rattle.vortex_stats_match.specs.Heads.{HasHead}
 use Rattle.vortex_stats_match.proofs.HeadLemmas.{has_head}
-use Rattle.vortex_stats_select.specs.Leaves.{shown_by}
+use Rattle.vortex_stats_mask.specs.Columns.{shown}
 use Rattle.vortex_stats_select.proofs.PairLemmas.{paired, through}
 
 by_position : {X Y : Type 0} (f : X → Y) (d : X) (xs : List X) → map f xs ≡ map (λ i. f (get_or xs i d)) (range_with_len 0 (length xs))
@@ -22,7 +22,7 @@ by_position f d xs = fill_by_all (λ i. f (get_or xs i d)) (map f xs) (length xs
 -- values that are null where they are not valid
 pub leaf_made : {X : Type 0} (f : X → Content) (d : X) (xs : List X) (v : Valid) (o : Option (List Bool)) →
     MatchOption o ((i : ℕ) → is_valid v i ≡ true) (λ rows. rows ≡ map (is_valid v) (range_with_len 0 (length xs))) →
-    shown_by o (map f xs) ≡ map (λ i. cond (is_valid v i) (f (get_or xs i d)) null) (range_with_len 0 (length xs))
+    shown o (map f xs) ≡ map (λ i. cond (is_valid v i) (f (get_or xs i d)) null) (range_with_len 0 (length xs))
 leaf_made f d xs v None h =
     by_position f d xs ∙ (λ j. map (λ i. cond (sym (h i) j) (f (get_or xs i d)) null) (range_with_len 0 (length xs)))
 leaf_made f d xs v (Some rows) h =
@@ -30,15 +30,15 @@ leaf_made f d xs v (Some rows) h =
     ∙ paired shown_at (is_valid v) (λ i. f (get_or xs i d)) (range_with_len 0 (length xs))
 
 module _ (v : Valid) (n : ℕ) (o : Option (List Bool)) (told : MatchOption o ((i : ℕ) → is_valid v i ≡ true) (λ rows. rows ≡ map (is_valid v) (range_with_len 0 n))) where
-  pub bools_shown : (bits : List Bool) → length bits ≡ n → shown_by o (map boolean bits) ≡ rows_of (bools bits v)
+  pub bools_shown : (bits : List Bool) → length bits ≡ n → shown o (map boolean bits) ≡ rows_of (bools bits v)
   bools_shown bits e = leaf_made boolean false bits v o (subst (λ n. MatchOption o ((i : ℕ) → is_valid v i ≡ true) (λ rows. rows ≡ map (is_valid v) (range_with_len 0 n))) (sym e) told)
 
-  pub numbers_shown : (k : IntKind) (zs : List ℤ) → length zs ≡ n → shown_by o (map integer zs) ≡ rows_of (numbers k zs v)
+  pub numbers_shown : (k : IntKind) (zs : List ℤ) → length zs ≡ n → shown o (map integer zs) ≡ rows_of (numbers k zs v)
   numbers_shown k zs e = leaf_made integer (pos 0) zs v o (subst (λ n. MatchOption o ((i : ℕ) → is_valid v i ≡ true) (λ rows. rows ≡ map (is_valid v) (range_with_len 0 n))) (sym e) told)
 
-  pub strings_shown : (s : Strings) (vs bs : List (List ℕ)) → length vs ≡ n → shown_by o (map (string_content s) (map (λ x. value_of x bs) vs)) ≡ rows_of (strings s vs bs v)
+  pub strings_shown : (s : Strings) (vs bs : List (List ℕ)) → length vs ≡ n → shown o (map (string_content s) (map (λ x. value_of x bs) vs)) ≡ rows_of (strings s vs bs v)
   strings_shown s vs bs e =
-      ap (shown_by o) (through (string_content s) (λ x. value_of x bs) vs)
+      ap (shown o) (through (string_content s) (λ x. value_of x bs) vs)
       ∙ leaf_made (λ x. string_content s (value_of x bs)) [] vs v o (subst (λ n. MatchOption o ((i : ℕ) → is_valid v i ≡ true) (λ rows. rows ≡ map (is_valid v) (range_with_len 0 n))) (sym e) told)
 
 -- what is told of a validity that can be shared

@@ -1,14 +1,19 @@
 -- Which rows are null, by a validity.
-use Rattle.std.proofs.Common.{◌≡◌, refl, sym, ap, ◌∙◌, ℕ, ℤ, Bool, true, false, not, cond, pos, List, [], length, map, replicate, ◌*◌}
+use Rattle.std.proofs.Common.{◌≡◌, refl, sym, ap, ◌∙◌, ℕ, zero, suc, ℤ, Bool, true, false, not, ◌&&◌, cond, pos, List, [], ◌∷◌, length, map, replicate, take, ◌*◌, Option}
 use Rattle.std.specs.Prelude.{slice_index_or}
-use Rattle.std.specs.List.{range_with_len}
+use Rattle.std.specs.List.{range_with_len, zip}
 use Rattle.std.proofs.lemmas.Simd.{splat_is_map}
 use Rattle.std.proofs.lemmas.List.FromFn.{length-range_with_len}
-use Rattle.vortex_model.specs.Content.{Content, null, boolean, integer, tuple, is_null}
+use Rattle.vortex_model.specs.Content.{Content, null, boolean, integer, text, byte_string, tuple, is_null}
 use Rattle.vortex_arrays_view.specs.Views.{value_of}
 use Rattle.vortex_arrays_model.specs.Layout.{Layout, Valid, bools, numbers, strings, fixed_lists, list_views, records, Columns, Strings, texts, byte_strings, string_content, content_at, rows_of, len_of, is_valid, span, number_in, row_at}
 use Rattle.vortex_model.specs.LogicalType.{IntKind}
+use Rattle.vortex_stats_mask.specs.Columns.{values_of, contents_of, shown, kept}
+use Rattle.vortex_stats_mask.specs.Integers.{integers_in}
 use Rattle.vortex_stats_mask.specs.Wanted.{is_wanted}
+use Rattle.vortex_stats_mask.specs.declared.column.Items.{Items}
+use Rattle.vortex_stats_mask.specs.declared.column.Items.TheVariants.{Bools, Numbers, Texts, Binaries}
+use Rattle.vortex_stats_mask.proofs.Shown.{tested_as_shown}
 use Rattle.vortex_stats_select.proofs.PairLemmas.{through}
 
 present : (b : Bool) (c : Content) → is_null c ≡ false → not (is_null (cond b c null)) ≡ b
@@ -57,3 +62,28 @@ not_not false = refl
 -- the rows that are not present
 pub absent : (cs : List Content) → map not (map (λ c. not (is_null c)) cs) ≡ map (λ c. is_wanted true (boolean (is_null c))) cs
 absent cs = through not (λ c. not (is_null c)) cs ∙ (λ i. map (λ c. not_not (is_null c) i) cs)
+
+-- ---- lent columns, of which no value is null
+
+values_present : {A : Type 0} (g : A → Content) → ((a : A) → is_null (g a) ≡ false) → (xs : List A) → map (λ c. not (is_null c)) (map g xs) ≡ replicate (length (map g xs)) true
+values_present g h [] = refl
+values_present g h (x ∷ xs) = λ i. not (h x i) ∷ values_present g h xs i
+
+pub items_present : (items : Items) → map (λ c. not (is_null c)) (contents_of items) ≡ replicate (length (contents_of items)) true
+items_present (Bools bs) = values_present boolean (λ b. refl) bs.now
+items_present (Numbers ns) = values_present integer (λ z. refl) (integers_in ns)
+items_present (Texts s) = values_present text (λ t. refl) (values_of s)
+items_present (Binaries s) = values_present byte_string (λ t. refl) (values_of s)
+
+pub shown_present : (v : Option (List Bool)) (items : Items) → map (λ c. not (is_null c)) (shown v (contents_of items)) ≡ kept v (replicate (length (contents_of items)) true)
+shown_present v items = tested_as_shown (λ c. not (is_null c)) refl v (contents_of items) ∙ ap (kept v) (items_present items)
+
+and_true : (b : Bool) → b ≡ (b && true)
+and_true true = refl
+and_true false = refl
+
+pub cut_by : (n : ℕ) (bs : List Bool) → take n bs ≡ map (λ p. p.0 && p.1) (zip bs (replicate n true))
+cut_by zero [] = refl
+cut_by zero (b ∷ bs) = refl
+cut_by (suc n) [] = refl
+cut_by (suc n) (b ∷ bs) = λ i. and_true b i ∷ cut_by n bs i

@@ -1,10 +1,9 @@
 -- The rows of leaf columns.
-use Rattle.std.specs.Prelude.{List, map, Option, Some, None, Bool}
-use Rattle.std.specs.List.{zip}
+use Rattle.std.specs.Prelude.{List, map}
 use Rattle.vortex_model.specs.Content.{Content, boolean, integer, text, byte_string}
 use Rattle.vortex_arrays_view.specs.Views.{value_of}
 use Rattle.vortex_arrays_buffer.specs.PrimitiveBuffers.{integers_of}
-use Rattle.vortex_stats_mask.specs.Columns.{shown_at}
+use Rattle.vortex_stats_mask.specs.Columns.{shown}
 use Rattle.vortex_stats_select.specs.declared.leaf.Leaf.{Leaf}
 use Rattle.vortex_stats_select.specs.declared.leaf.LeafItems.{LeafItems}
 use Rattle.vortex_stats_select.specs.declared.leaf.LeafItems.TheVariants.{Bools, Numbers, Texts, Binaries}
@@ -17,10 +16,5 @@ leaf_values (Texts views buffers) = map text (map (λ v. value_of v buffers.valu
 leaf_values (Binaries views buffers) =
     map byte_string (map (λ v. value_of v buffers.value.items) views)
 
--- the values, of which those that are not valid are null
-abbrev pub shown_by : Option (List Bool) → List Content → List Content
-shown_by None cs = cs
-shown_by (Some vs) cs = map (λ p. shown_at p.0 p.1) (zip vs cs)
-
 abbrev pub leaf_rows : Leaf → List Content
-leaf_rows leaf = shown_by leaf.validity (leaf_values leaf.items)
+leaf_rows leaf = shown leaf.validity (leaf_values leaf.items)

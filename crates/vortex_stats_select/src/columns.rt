@@ -3,12 +3,12 @@ ghost use Rattle.std.specs.Prelude.{◌≡◌, List, length, IfOk, IfSome};
 ghost use Rattle.vortex_model.specs.Content.{Content};
 ghost use Rattle.vortex_model_table.specs.ZoneMap.{values_at};
 ghost use Rattle.vortex_arrays_model.specs.Layout.{rows_of};
-ghost use Rattle.vortex_stats_select.specs.Leaves.{leaf_rows};
+ghost use Rattle.vortex_stats_mask.specs.Columns.{column_of};
 
-use crate::leaf::Leaf;
 use std::alloc::{AllocError, Global};
 use vortex_arrays_core::array::ArrayRef;
 use vortex_arrays_struct::part::part_at_positions;
+use vortex_stats_mask::column::Column;
 
 /// Rows whose columns can be told.
 pub trait Columns {
@@ -24,10 +24,10 @@ pub trait Columns {
         ensures { IfOk result (λ found. IfSome found
             (λ column. rows_of column ≡ values_at path.now (rows self.now))) };
 
-    /// The leaf column at these positions, where it is kept. `None` says nothing.
-    fn leaf(&self, path: &[usize]) -> Option<&Leaf>
+    /// The leaf column at these positions, where it can be lent. `None` says nothing.
+    fn leaf(&self, path: &[usize]) -> Option<Column<'_>>
         ensures { IfSome result
-            (λ leaf. leaf_rows leaf.now ≡ values_at path.now (rows self.now)) };
+            (λ column. column_of column ≡ values_at path.now (rows self.now)) };
 }
 
 /// The rows of an array.
@@ -51,7 +51,7 @@ impl Columns for ArrayColumns<'_> {
         part_at_positions(alloc, self.array, path)
     }
 
-    fn leaf(&self, _path: &[usize]) -> Option<&Leaf> {
+    fn leaf(&self, _path: &[usize]) -> Option<Column<'_>> {
         None
     }
 }

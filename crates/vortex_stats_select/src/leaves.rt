@@ -1,11 +1,10 @@
 //! Leaf columns of arrays, and as columns that are compared.
 ghost use Rattle.std.specs.Prelude.{◌≡◌, List, Bool, Option, map, IfOk, IfSome};
-ghost use Rattle.std.specs.Borrow.{Bor};
 ghost use Rattle.vortex_arrays_model.specs.Layout.{rows_of, string_content};
 ghost use Rattle.vortex_arrays_core.specs.LayoutOf.{strings_of};
 ghost use Rattle.vortex_arrays_view.specs.Views.{value_of};
 ghost use Rattle.vortex_stats_mask.specs.Columns.{contents_of, column_of};
-ghost use Rattle.vortex_stats_mask.specs.Headed.{rows_in, AreHeaded, ViewsHaveHeads};
+ghost use Rattle.vortex_stats_mask.specs.Headed.{AreHeaded, ViewsHaveHeads};
 ghost use Rattle.vortex_stats_select.specs.Headed.{IsHeaded};
 ghost use Rattle.vortex_stats_select.specs.Leaves.{leaf_values, leaf_rows};
 
@@ -17,17 +16,18 @@ use std::rc::Rc;
 use vortex_arrays_buffer::Buffer;
 use vortex_arrays_core::array::{ArrayLayout, ArrayRef, StringKind};
 use vortex_arrays_view::view::BinaryView;
-use vortex_stats_mask::column::{Column, Items, Strings};
+use vortex_stats_mask::column::{Column, Items, Strings, ValidRows};
+use vortex_stats_mask::items::numbers_of;
 
 impl LeafItems {
     fn as_items(&self) -> Items<'_>
         ensures values { contents_of result ≡ leaf_values self.now }
-        ensures headed { (valid : Option (Bor (List Bool))) → IsHeaded self.now (rows_in valid)
+        ensures headed { (valid : Option (List Bool)) → IsHeaded self.now valid
             → AreHeaded result valid }
     {
         match self {
             LeafItems::Bools(items) => Items::Bools(items),
-            LeafItems::Numbers(numbers) => Items::Numbers(numbers),
+            LeafItems::Numbers(numbers) => Items::Numbers(numbers_of(numbers)),
             LeafItems::Texts(views, buffers) => Items::Texts(Strings {
                 views: views.as_slice(),
                 buffers: buffers.as_slice(),
@@ -41,12 +41,13 @@ impl LeafItems {
 }
 
 impl Leaf {
-    pub(crate) fn as_column(&self) -> Column<'_>
+    /// The column, lent.
+    pub fn as_column(&self) -> Column<'_>
         ensures { column_of result ≡ leaf_rows self.now }
     {
         let validity = match &self.validity {
-            Some(rows) => Some(rows),
-            None => None,
+            Some(rows) => ValidRows::Bits(rows),
+            None => ValidRows::All,
         };
         Column {
             items: self.items.as_items(),

@@ -24,6 +24,7 @@ use vortex_arrays_core::array::{ArrayLayout, ArrayRef, StringKind, Validity};
 use vortex_arrays_view::view::BinaryView;
 use vortex_scalar_value::scalar_value::ScalarValue;
 use vortex_stats_bind::bound::{BoundNode, BoundTree};
+use vortex_stats_mask::column::ValidRows;
 use vortex_stats_mask::masks::{keep_valid, opposite};
 use vortex_stats_match::like::has_backslash;
 
@@ -68,7 +69,7 @@ fn like_texts(
     let valid = valid_rows_of(alloc, validity, views.len())?;
     match valid {
         None => Ok(mask),
-        Some(rows) => Ok(keep_valid(mask, Some(&rows))),
+        Some(rows) => Ok(keep_valid(mask, ValidRows::Bits(&rows))),
     }
 }
 

@@ -1,4 +1,4 @@
-//! Masks narrowed in place, by tests of kept columns beside literals.
+//! Masks narrowed in place, by tests of lent columns beside literals.
 ghost use Rattle.std.specs.Prelude.{◌≡◌, map, cond};
 ghost use Rattle.std.specs.List.{zip};
 ghost use Rattle.vortex_model_table.specs.Truth.{compared};
@@ -9,7 +9,7 @@ ghost use Rattle.vortex_stats_mask.specs.Wanted.{is_wanted, joined_by};
 ghost use Rattle.vortex_stats_select.specs.Wants.{wanted_rows};
 
 use crate::columns::Columns;
-use crate::operand::{kept_leaf, literal_of};
+use crate::operand::{lent_column, literal_of};
 use vortex_scalar_value::scalar_value::ScalarValue;
 use vortex_stats_bind::bound::{BoundNode, BoundTree};
 use vortex_stats_expr::operator::Comparison;
@@ -30,8 +30,8 @@ fn narrow_beside<S: Columns>(
         (bound_value input.now row) (content_at literal.entry))) (S.rows columns.now))))
         mask.old.items }
 {
-    match kept_leaf(input, columns) {
-        Some(leaf) => narrow_wanted(mask, at, comparison, want, &leaf.as_column(), literal),
+    match lent_column(input, columns) {
+        Some(column) => narrow_wanted(mask, at, comparison, want, &column, literal),
         None => false,
     }
 }

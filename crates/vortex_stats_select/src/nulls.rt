@@ -6,16 +6,19 @@ ghost use Rattle.vortex_arrays_model.specs.Layout.{dictionary, rows_of, content_
 ghost use Rattle.vortex_arrays_model.specs.Parts.{AreWithin};
 ghost use Rattle.vortex_arrays_core.specs.LayoutOf.{valid_of};
 ghost use Rattle.vortex_stats_bind.specs.Bound.{bound_value};
+ghost use Rattle.vortex_stats_mask.specs.Columns.{column_of};
 ghost use Rattle.vortex_stats_mask.specs.Wanted.{is_wanted};
 
 use crate::columns::Columns;
+use crate::compare::told;
 use crate::leaves::leaf_of;
 use crate::spread::spread;
 use crate::validity::valid_rows_of;
 use std::alloc::{AllocError, Global};
 use vortex_arrays_core::array::{ArrayLayout, ArrayRef, Validity};
 use vortex_stats_bind::bound::BoundTree;
-use vortex_stats_mask::masks::opposite;
+use vortex_stats_mask::column::{Column, ValidRows};
+use vortex_stats_mask::masks::{both_into, opposite};
 
 // Each row of so many.
 fn all_rows(alloc: Global, len: usize) -> Result<Vec<bool>, AllocError>
@@ -87,6 +90,37 @@ fn present_rows(alloc: Global, column: &ArrayRef) -> Result<Vec<bool>, AllocErro
     }
 }
 
+// Which rows of a lent column are not null.
+fn present_in(alloc: Global, column: &Column<'_>) -> Result<Vec<bool>, AllocError>
+    ensures { IfOk result
+        (λ mask. mask.items ≡ map (λ c. not (is_null c)) (column_of column.now)) }
+{
+    match column.validity {
+        ValidRows::All => all_rows(alloc, column.items.len()),
+        ValidRows::Bits(bits) => {
+            let mut rows = bits.to_bools(alloc)?;
+            rows.truncate(column.items.len());
+            Ok(rows)
+        }
+        ValidRows::Flags(flags) => {
+            let rows = all_rows(alloc, column.items.len())?;
+            Ok(both_into(rows, flags))
+        }
+    }
+}
+
+fn test_lent(alloc: Global, want: bool, column: &Column<'_>) -> Result<Vec<bool>, AllocError>
+    ensures { IfOk result (λ mask. mask.items
+        ≡ map (λ c. is_wanted want (boolean (is_null c))) (column_of column.now)) }
+{
+    let mask = present_in(alloc, column)?;
+    if want {
+        opposite(alloc, &mask)
+    } else {
+        Ok(mask)
+    }
+}
+
 fn test_nulls(alloc: Global, want: bool, column: &ArrayRef) -> Result<Vec<bool>, AllocError>
     ensures { IfOk result (λ mask. mask.items
         ≡ map (λ c. is_wanted want (boolean (is_null c))) (rows_of column.now)) }
@@ -113,6 +147,9 @@ pub(crate) fn null_test<S: Columns>(
     let Some(path) = input.as_column() else {
         return Ok(None);
     };
+    if let Some(column) = columns.leaf(path) {
+        return told(test_lent(alloc, want, &column));
+    }
     let Some(column) = columns.column(alloc, path)? else {
         return Ok(None);
     };

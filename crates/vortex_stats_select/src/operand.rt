@@ -5,7 +5,7 @@ ghost use Rattle.vortex_arrays_model.specs.Parts.{AreWithin};
 ghost use Rattle.vortex_model_table.specs.ZoneMap.{values_at};
 ghost use Rattle.vortex_scalar_value.specs.View.{content_at};
 ghost use Rattle.vortex_stats_bind.specs.Bound.{fixed, bound_value};
-ghost use Rattle.vortex_stats_select.specs.Leaves.{leaf_rows};
+ghost use Rattle.vortex_stats_mask.specs.Columns.{column_of};
 ghost use Rattle.vortex_stats_select.specs.Operands.{operand_rows};
 
 use crate::columns::Columns;
@@ -17,6 +17,7 @@ use vortex_scalar_core::scalar::Scalar;
 use vortex_scalar_value::clone::clone_value;
 use vortex_scalar_value::scalar_value::ScalarValue;
 use vortex_stats_bind::bound::{BoundNode, BoundTree};
+use vortex_stats_mask::column::Column;
 
 // A value that each row has, where `None` is null, a leaf column, or the codes and the values of a
 // dictionary.
@@ -46,10 +47,10 @@ pub(crate) fn literal_of(e: &BoundTree) -> Option<Option<&ScalarValue>>
     }
 }
 
-// The leaf column that an expression is, where it is kept.
-pub(crate) fn kept_leaf<'a, S: Columns>(e: &BoundTree, columns: &'a S) -> Option<&'a Leaf>
+// The leaf column that an expression is, where it can be lent.
+pub(crate) fn lent_column<'a, S: Columns>(e: &BoundTree, columns: &'a S) -> Option<Column<'a>>
     ensures { IfSome result
-        (λ leaf. leaf_rows leaf.now ≡ map (bound_value e.now) (S.rows columns.now)) }
+        (λ column. column_of column ≡ map (bound_value e.now) (S.rows columns.now)) }
 {
     match &e.node {
         BoundNode::Column(path) => columns.leaf(path),

@@ -15,14 +15,15 @@ use crate::compare::{compare_wanted, compare_wanted_with, join, told};
 use crate::like::like_test;
 use crate::narrow::{narrow, narrow_comparison};
 use crate::nulls::null_test;
-use crate::operand::{Operand, kept_leaf, literal_of, operand_of};
+use crate::operand::{Operand, lent_column, literal_of, operand_of};
 use std::alloc::{AllocError, Global};
 use vortex_scalar_value::scalar_value::ScalarValue;
 use vortex_stats_bind::bound::{BoundNode, BoundTree};
 use vortex_stats_expr::operator::Comparison;
 use vortex_stats_expr::options::BetweenOptions;
 use vortex_stats_mask::compare;
-use vortex_stats_mask::turned::swapped;
+use vortex_stats_mask::pairs::compare_columns;
+use vortex_stats_mask::turned::{swapped, wanted};
 
 // A comparison of two expressions. A literal is read where it stands.
 fn comparison<S: Columns>(
@@ -58,8 +59,8 @@ fn literal_comparison<S: Columns>(
         ≡ map (λ row. is_wanted want (compared (comparison_of comparison)
         (bound_value input.now row) (content_at literal.entry))) (S.rows columns.now))) }
 {
-    if let Some(leaf) = kept_leaf(input, columns) {
-        return told(compare::compare_wanted(alloc, comparison, want, &leaf.as_column(), literal));
+    if let Some(column) = lent_column(input, columns) {
+        return told(compare::compare_wanted(alloc, comparison, want, &column, literal));
     }
     let Some(operand) = operand_of(alloc, input, columns)? else {
         return Ok(None);
@@ -80,6 +81,9 @@ fn operand_comparison<S: Columns>(
         ≡ map (λ row. is_wanted want (compared (comparison_of comparison)
         (bound_value left.now row) (bound_value right.now row))) (S.rows columns.now))) }
 {
+    if let (Some(x), Some(y)) = (lent_column(left, columns), lent_column(right, columns)) {
+        return told(compare_columns(alloc, wanted(comparison, want), &x, &y));
+    }
     let Some(left) = operand_of(alloc, left, columns)? else {
         return Ok(None);
     };
@@ -100,6 +104,10 @@ fn truth<S: Columns>(
     ensures { IfOk result (λ found. IfSome found
         (λ mask. mask.items ≡ wanted_rows want e.now (S.rows columns.now))) }
 {
+    if let Some(column) = lent_column(e, columns) {
+        let wanted = ScalarValue::Bool(want);
+        return told(compare::compare_literal(alloc, Comparison::Eq, &column, Some(&wanted)));
+    }
     let Some(operand) = operand_of(alloc, e, columns)? else {
         return Ok(None);
     };
@@ -109,7 +117,7 @@ fn truth<S: Columns>(
     Ok(found)
 }
 
-// BETWEEN is AND of two comparisons. A value that isn't kept is read once between literals.
+// BETWEEN is AND of two comparisons. A value that isn't lent is read once between literals.
 fn range_test<S: Columns>(
     alloc: Global,
     want: bool,
@@ -126,7 +134,7 @@ fn range_test<S: Columns>(
         (compared (end_of (is_strict options.upper_strict)) (bound_value value.now row)
         (bound_value upper.now row)))) (S.rows columns.now))) }
 {
-    if kept_leaf(value, columns).is_some() {
+    if lent_column(value, columns).is_some() {
         return operand_range(alloc, want, value, lower, upper, options, columns);
     }
     match (literal_of(lower), literal_of(upper)) {

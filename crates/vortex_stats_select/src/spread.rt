@@ -1,14 +1,13 @@
 //! What is told of the values of a dictionary, told of its rows.
 ghost use Rattle.std.specs.Prelude.{◌≡◌, map, IfOk};
 ghost use Rattle.vortex_model.specs.Content.{integer};
-ghost use Rattle.vortex_arrays_buffer.specs.PrimitiveBuffers.{integers_of};
 ghost use Rattle.vortex_stats_mask.specs.Columns.{column_of, contents_of};
+ghost use Rattle.vortex_stats_mask.specs.Integers.{integers_in};
 ghost use Rattle.vortex_stats_select.specs.Coded.{is_marked};
 
 use std::alloc::{AllocError, Global};
-use vortex_arrays_buffer::PrimitiveBuffer;
 use vortex_dtype_native::native::NativePType;
-use vortex_stats_mask::column::{Column, Items};
+use vortex_stats_mask::column::{Column, Items, Numbers};
 use vortex_stats_mask::masks::{keep_valid, no_rows};
 
 // Whether the mask has the value of the code. A null row may have any number.
@@ -41,20 +40,20 @@ fn spread_kind<T: NativePType>(
 fn spread_numbers(
     alloc: Global,
     mask: &[bool],
-    codes: &PrimitiveBuffer,
+    codes: &Numbers<'_>,
 ) -> Result<Vec<bool>, AllocError>
     ensures { IfOk result (λ rows. rows.items
-        ≡ map (is_marked mask.now) (map integer (integers_of codes.now))) }
+        ≡ map (is_marked mask.now) (map integer (integers_in codes.now))) }
 {
     match codes {
-        PrimitiveBuffer::U8(codes) => spread_kind(alloc, mask, codes.as_slice()),
-        PrimitiveBuffer::U16(codes) => spread_kind(alloc, mask, codes.as_slice()),
-        PrimitiveBuffer::U32(codes) => spread_kind(alloc, mask, codes.as_slice()),
-        PrimitiveBuffer::U64(codes) => spread_kind(alloc, mask, codes.as_slice()),
-        PrimitiveBuffer::I8(codes) => spread_kind(alloc, mask, codes.as_slice()),
-        PrimitiveBuffer::I16(codes) => spread_kind(alloc, mask, codes.as_slice()),
-        PrimitiveBuffer::I32(codes) => spread_kind(alloc, mask, codes.as_slice()),
-        PrimitiveBuffer::I64(codes) => spread_kind(alloc, mask, codes.as_slice()),
+        Numbers::U8(codes) => spread_kind(alloc, mask, codes),
+        Numbers::U16(codes) => spread_kind(alloc, mask, codes),
+        Numbers::U32(codes) => spread_kind(alloc, mask, codes),
+        Numbers::U64(codes) => spread_kind(alloc, mask, codes),
+        Numbers::I8(codes) => spread_kind(alloc, mask, codes),
+        Numbers::I16(codes) => spread_kind(alloc, mask, codes),
+        Numbers::I32(codes) => spread_kind(alloc, mask, codes),
+        Numbers::I64(codes) => spread_kind(alloc, mask, codes),
     }
 }
 
@@ -64,7 +63,7 @@ fn spread_items(alloc: Global, mask: &[bool], items: &Items<'_>) -> Result<Vec<b
         (λ rows. rows.items ≡ map (is_marked mask.now) (contents_of items.now)) }
 {
     match items.as_numbers() {
-        Some(numbers) => spread_numbers(alloc, mask, numbers),
+        Some(numbers) => spread_numbers(alloc, mask, &numbers),
         None => no_rows(alloc, items.len()),
     }
 }

@@ -10,6 +10,7 @@ use crate::chunk::Chunk;
 use std::alloc::{AllocError, Global};
 use vortex_arrays_core::array::ArrayRef;
 use vortex_arrays_struct::part::part_at_positions;
+use vortex_stats_mask::column::Column;
 use vortex_stats_select::columns::Columns;
 use vortex_stats_select::leaf::Leaf;
 use vortex_stats_select::leaves::shared_leaf;
@@ -83,6 +84,20 @@ fn kept_at<'a>(chunk: &'a Chunk, index: usize, positions: &[usize]) -> Option<&'
     }
 }
 
+// In a type with no record inside, a leaf has the index of its field.
+fn kept_leaf<'a>(chunk: &'a Chunk, path: &[usize]) -> Option<&'a Leaf>
+    ensures { IfSome result
+        (λ leaf. leaf_rows leaf.now ≡ values_at path.now (chunk_rows chunk.now)) }
+{
+    let Some(field) = path.first() else {
+        return None;
+    };
+    if let Some(leaf) = kept_at(chunk, *field, path) {
+        return Some(leaf);
+    }
+    kept_at(chunk, first_behind(&chunk.leaves, path), path)
+}
+
 impl Columns for Chunk {
     ghost use Rattle.vortex_table_chunk.specs.Chunk.{chunk_rows};
 
@@ -97,14 +112,10 @@ impl Columns for Chunk {
         part_at_positions(alloc, &self.array, path)
     }
 
-    // In a type with no record inside, a leaf has the index of its field.
-    fn leaf(&self, path: &[usize]) -> Option<&Leaf> {
-        let Some(field) = path.first() else {
-            return None;
-        };
-        if let Some(leaf) = kept_at(self, *field, path) {
-            return Some(leaf);
+    fn leaf(&self, path: &[usize]) -> Option<Column<'_>> {
+        match kept_leaf(self, path) {
+            Some(leaf) => Some(leaf.as_column()),
+            None => None,
         }
-        kept_at(self, first_behind(&self.leaves, path), path)
     }
 }

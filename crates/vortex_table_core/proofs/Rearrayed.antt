@@ -20,7 +20,7 @@ use Rattle.vortex_table_chunk.specs.declared.chunk.Chunk.{Chunk}
 use Rattle.vortex_table_chunk.specs.declared.zones.bounds.ColumnBounds.{ColumnBounds}
 use Rattle.vortex_table_chunk.proofs.Formed.{of_type}
 use Rattle.vortex_table_chunk.proofs.TypedRows.{chunk_counted}
-use Rattle.vortex_table_zonemaps.specs.Zones.{zone_of}
+use Rattle.vortex_table_zonemaps.specs.Stats.{zone_of}
 use Rattle.vortex_table_layout.specs.Compacted.{HasTooManyItems, IsCompactedAs}
 use Rattle.vortex_table_layout.specs.TooManyElements.{HasTooManyElements, AnyHasTooManyElements}
 use Rattle.vortex_table_core.specs.Arrays.{AreAllCompacted}

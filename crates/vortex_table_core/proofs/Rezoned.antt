@@ -19,7 +19,8 @@ use Rattle.vortex_table_chunk.specs.declared.zones.bounds.ColumnBounds.{ColumnBo
 use Rattle.vortex_table_chunk.proofs.Formed.{led, as_long}
 use Rattle.vortex_table_chunk.proofs.TypedRows.{chunk_counted}
 use Rattle.vortex_table_zonemaps.specs.Column.{IsColumnOf}
-use Rattle.vortex_table_zonemaps.specs.Zones.{Zone, zone_of, leaf_stat, rows_stat, AreZoneMaps}
+use Rattle.vortex_table_zonemaps.specs.Stats.{Zone, zone_of, leaf_stat, rows_stat}
+use Rattle.vortex_table_zonemaps.specs.Zones.{AreZoneMaps}
 use Rattle.vortex_table_zonemaps.specs.declared.zone_maps.ZoneMaps.{ZoneMaps}
 
 -- what is held of the leaf at an index is the same in both

@@ -8,9 +8,8 @@ use Rattle.vortex_table_schema.specs.Cut.{paths_of}
 use Rattle.vortex_table_plan.specs.Prepared.{IsPreparedFor}
 use Rattle.vortex_table_select.specs.Selected.{answer_cut}
 use Rattle.vortex_table_select.specs.declared.selection.ScanSelection.{ScanSelection}
-use Rattle.vortex_table_zonemaps.specs.Stretch.{proved_at}
-use Rattle.vortex_table_zonemaps.specs.Zones.{zone_of}
-use Rattle.vortex_table_zonemaps.specs.Zone.{IsResolved}
+use Rattle.vortex_table_zonemaps.specs.Proved.{proved_at, IsResolved}
+use Rattle.vortex_table_zonemaps.specs.Stats.{zone_of}
 use Rattle.vortex_table_core.specs.Progress.{Question}
 use Rattle.vortex_table_core.specs.TableView.{table_of}
 use Rattle.vortex_table_core.specs.declared.plan.Scan.{Scan}
@@ -48,8 +47,7 @@ stretch_of plan first count = take count (drop first plan.table.now.chunks.items
 
 -- whether the statistics of a chunk make the falsifier true
 abbrev pub falsified_by : Scan → Chunk → Bool
-falsified_by plan chunk =
-    proved_at (leaf_positions (table_in plan).kind) plan.falsifier (zone_of chunk)
+falsified_by plan chunk = proved_at plan.falsifier (zone_of chunk)
 
 -- the same of each
 abbrev pub falsified_in : Scan → List Chunk → List Bool

@@ -14,8 +14,9 @@ use vortex_table_chunk::zones::bounds::ColumnBounds;
 use vortex_table_plan::plan::ScanPlan;
 use vortex_table_select::select::{select_rows, take_rows};
 use vortex_table_select::selection::{ScanSelection, Selection};
-use vortex_table_zonemaps::operands::ZoneOperands;
-use vortex_table_zonemaps::proof::{ZoneProof, is_proved};
+use vortex_table_zonemaps::bind::is_proved;
+use vortex_table_zonemaps::operands::ZoneRow;
+use vortex_table_zonemaps::predicate::ZonePredicate;
 
 /// The way a scan treats a chunk.
 #[derive(Clone, Copy)]
@@ -35,33 +36,31 @@ pub struct Scan<'a> {
     pub paths: &'a [FieldPath],
     pub predicate: &'a Expression,
     pub prepared: &'a ScanPlan<'a>,
-    pub falsifier: Option<ZoneProof<'a>>,
-    pub satisfier: Option<ZoneProof<'a>>,
+    pub falsifier: Option<ZonePredicate>,
+    pub satisfier: Option<ZonePredicate>,
 }
 
 impl Scan<'_> {
     ghost use Rattle.std.specs.Prelude.{◌≡◌, ◌++◌, OnOk, IsTrue, is_some};
     ghost use Rattle.vortex_model_table.specs.Table.{bound_length};
-    ghost use Rattle.vortex_table_schema.specs.Leaves.{leaf_positions};
     ghost use Rattle.vortex_table_chunk.specs.Chunk.{chunk_rows};
     ghost use Rattle.vortex_table_select.specs.Selected.{rows_in, cut_rows, AreOfType};
-    ghost use Rattle.vortex_table_zonemaps.specs.Zone.{zone_proved};
+    ghost use Rattle.vortex_table_zonemaps.specs.Proved.{zone_proved};
     ghost use Rattle.vortex_table_core.specs.Outcome.{outcome_of};
     ghost use Rattle.vortex_table_core.specs.Plan.{IsPlan, table_in, question_in, answer_by, falsified_by};
     ghost use Rattle.vortex_table_core.specs.Progress.{outcome_to, with_chunk, found_rows, proofs_at};
     ghost use Rattle.vortex_table_chunk.specs.Formed.{is_formed};
 
     /// Whether the statistics of the table's leaf columns in so many rows make the proof true.
-    pub fn proves(&self, bounds: &[ColumnBounds], rows: usize, proof: &Option<ZoneProof>) -> bool
-        ensures { result ≡ zone_proved (leaf_positions (table_in self.now).kind) bounds.now rows
-            proof.now }
+    pub fn proves(
+        &self,
+        bounds: &[ColumnBounds],
+        rows: usize,
+        proof: &Option<ZonePredicate>,
+    ) -> bool
+        ensures { result ≡ zone_proved bounds.now rows proof.now }
     {
-        let zone = ZoneOperands {
-            leaves: self.table.leaves.as_slice(),
-            bounds,
-            rows,
-        };
-        is_proved(proof, &zone)
+        is_proved(proof, &ZoneRow { bounds, rows })
     }
 
     // The satisfier is asked only where the falsifier fails.

@@ -103,7 +103,6 @@ impl Scan<'_> {
             ≡ falsified_in self.now (stretch_of self.now first count)) }
     {
         let stretch = Stretch {
-            leaves: self.table.leaves.as_slice(),
             maps: &self.table.zones,
             chunks: self.table.chunks.as_slice(),
             first,

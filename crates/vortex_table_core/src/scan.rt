@@ -16,7 +16,7 @@ use vortex_table_schema::cut::RowProjection;
 use vortex_table_schema::error::TableError;
 use vortex_table_select::read::read_answer;
 use vortex_table_select::selection::{LazyAnswer, ScanSelection};
-use vortex_table_zonemaps::proof::resolve;
+use vortex_table_zonemaps::bind::resolve;
 
 // The cut of what is prepared. As a function of its own it lets go of the trees beside it.
 fn cut_of(prepared: ScanPlan) -> RowProjection

@@ -8,7 +8,8 @@ ghost use Rattle.vortex_table_schema.specs.Leaves.{leaf_positions};
 ghost use Rattle.vortex_table_core.specs.Group.{AreGroups, AreGroups-prop};
 ghost use Rattle.vortex_table_chunk.specs.Formed.{is_formed, eq_leaves, are_lengths_of};
 ghost use Rattle.vortex_table_schema.specs.Lengths.{length_in};
-ghost use Rattle.vortex_table_zonemaps.specs.Zones.{zone_of, AreZoneMaps, AreZoneMaps-prop};
+ghost use Rattle.vortex_table_zonemaps.specs.Stats.{zone_of};
+ghost use Rattle.vortex_table_zonemaps.specs.Zones.{AreZoneMaps, AreZoneMaps-prop};
 
 use crate::group::Group;
 use std::alloc::{AllocError, Global};

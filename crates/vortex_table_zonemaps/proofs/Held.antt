@@ -8,29 +8,30 @@ use Rattle.vortex_model.specs.Content.{Content}
 use Rattle.vortex_model_table.specs.Expression.{Aggregate}
 use Rattle.vortex_table_chunk.specs.BoundStat.{stat_value_or_null}
 use Rattle.vortex_table_chunk.specs.declared.zones.bounds.ColumnBounds.{ColumnBounds}
-use Rattle.vortex_table_zonemaps.specs.Column.{IsColumnOf, IsEntryOf, AreNumbers}
-use Rattle.vortex_table_zonemaps.specs.Stretch.{IsStretch, zones_in}
-use Rattle.vortex_table_zonemaps.specs.Zones.{Zone, zone_of, leaf_stat, IsLeaf, AreLeaves}
-use Rattle.vortex_table_zonemaps.specs.declared.column.Entry.{Entry}
-use Rattle.vortex_table_zonemaps.specs.declared.column.StatColumn.{StatColumn}
-use Rattle.vortex_table_zonemaps.specs.declared.column.StatColumn.TheVariants as column
+use Rattle.vortex_table_chunk.specs.declared.chunk.Chunk.{Chunk}
+use Rattle.vortex_table_zonemaps.specs.Column.{IsColumnOf}
+use Rattle.vortex_table_zonemaps.specs.Stats.{Zone, zone_of, leaf_stat}
+use Rattle.vortex_table_zonemaps.specs.Stretch.{zones_in}
+use Rattle.vortex_table_zonemaps.specs.Zones.{IsLeaf, AreLeaves}
+use Rattle.vortex_table_zonemaps.specs.declared.column.ZoneColumn.{ZoneColumn}
+use Rattle.vortex_table_zonemaps.specs.declared.column.ZoneColumn.TheVariants as column
 use Rattle.vortex_table_zonemaps.specs.declared.leaf.LeafZones.{LeafZones}
-use Rattle.vortex_table_zonemaps.specs.declared.proved.Stretch.{Stretch}
 
 -- ---- columns of a statistic
 
-abbrev Kept : ℕ → StatColumn → StatColumn → Type 0
+abbrev Kept : ℕ → ZoneColumn → ZoneColumn → Type 0
 Kept n old new = (cs : List Content) → length cs ≡ n → IsColumnOf old cs → IsColumnOf new cs
 
-abbrev Put : ℕ → Entry → StatColumn → StatColumn → Type 0
-Put n e old new = (cs : List Content) (c : Content) → length cs ≡ n → IsEntryOf e c → IsColumnOf old cs → IsColumnOf new (cs ++ c ∷ [])
+abbrev Put : ℕ → Content → ZoneColumn → ZoneColumn → Type 0
+Put n c old new = (cs : List Content) → length cs ≡ n → IsColumnOf old cs → IsColumnOf new (cs ++ c ∷ [])
 
-module _ (f : Zone → Content) (n : ℕ) (old new : StatColumn) (zones : List Zone) (many : length zones ≡ n) where
+module _ (f : Zone → Content) (n : ℕ) (old new : ZoneColumn) (zones : List Zone) (many : length zones ≡ n) where
   pub zones_kept : Kept n old new → IsColumnOf old (map f zones) → IsColumnOf new (map f zones)
   zones_kept h is = h (map f zones) (length-map zones f ∙ many) is
 
-  pub zone_put : (e : Entry) (zone : Zone) → Put n e old new → IsEntryOf e (f zone) → IsColumnOf old (map f zones) → IsColumnOf new (map f (zones ++ zone ∷ []))
-  zone_put e zone h says is = subst (IsColumnOf new) (sym (map-append f zones (zone ∷ []))) (h (map f zones) (f zone) (length-map zones f ∙ many) says is)
+  pub zone_put : (c : Content) (zone : Zone) → Put n c old new → c ≡ f zone → IsColumnOf old (map f zones) → IsColumnOf new (map f (zones ++ zone ∷ []))
+  zone_put c zone h says is =
+      subst (IsColumnOf new) ((λ i. map f zones ++ says i ∷ []) ∙ sym (map-append f zones (zone ∷ []))) (h (map f zones) (length-map zones f ∙ many) is)
 
 -- ---- leaves
 
@@ -99,30 +100,27 @@ module _ (n : ℕ) (bounds : List ColumnBounds) (rows : ℕ) where
 
 -- ---- stretches
 
-module _ (f : Zone → Content) (s : Stretch) (is : IsStretch s) where
+module _ (f : Zone → Content) (chunks : List Chunk) (first count : ℕ) (within : first + count ≤ length chunks) where
   abbrev all : List Content
-  all = map f (map zone_of s.chunks.now)
+  all = map f (map zone_of chunks)
 
-  pub long_enough : s.first + s.count ≤ length all
+  pub long_enough : first + count ≤ length all
   long_enough =
-      let chunks = length-map s.chunks.now zone_of in let zones = length-map (map zone_of s.chunks.now) f in let within = is.within in
-      omega (arith, chunks, zones, within)
+      let many = length-map chunks zone_of in let zones = length-map (map zone_of chunks) f in
+      omega (arith, many, zones, within)
 
-  part : take s.count (drop s.first all) ≡ map f (zones_in s)
+  pub part : take count (drop first all) ≡ map f (zones_in chunks first count)
   part =
-      ap (take s.count) (drop-map f s.first (map zone_of s.chunks.now)) ∙ take-map f s.count (drop s.first (map zone_of s.chunks.now))
-      ∙ ap (map f) (ap (take s.count) (drop-map zone_of s.first s.chunks.now) ∙ take-map zone_of s.count (drop s.first s.chunks.now))
-
-  pub within_all : (held : StatColumn) → IsColumnOf held all → (cs : List Content) × IsColumnOf held cs × (s.first + s.count ≤ length cs)
-  within_all held h = (all, h, long_enough)
-
-  pub of_part : (ns : List ℤ) (ks : List Bool) → AreNumbers ns ks (take s.count (drop s.first all)) → AreNumbers ns ks (map f (zones_in s))
-  of_part ns ks h = subst (AreNumbers ns ks) part h
+      ap (take count) (drop-map f first (map zone_of chunks)) ∙ take-map f count (drop first (map zone_of chunks))
+      ∙ ap (map f) (ap (take count) (drop-map zone_of first chunks) ∙ take-map zone_of count (drop first chunks))
 
 -- ---- of no zones anything is held
 
-nothing : (held : StatColumn) → IsColumnOf held []
-nothing (column.Numbers numbers known) = record { numbers = refl; known = refl; plain = refl }
+nothing : (held : ZoneColumn) → IsColumnOf held []
+nothing (column.Bools flags known) = refl
+nothing (column.Integers numbers known) = refl
+nothing (column.Texts views known) = (∣ tt ∣₁, refl)
+nothing (column.Binaries views known) = (∣ tt ∣₁, refl)
 nothing column.Other = tt
 
 pub no_leaves : (leaves : List LeafZones) → AreLeaves leaves []
@@ -133,10 +131,10 @@ no_leaves leaves = λ j leaf l.
       null_counts = nothing held.null_counts;
     }
 
--- ---- entries
+-- ---- values
 
-pub as_told : (e : Entry) (j : ℕ) (zone : Zone) (bounds : Option ColumnBounds) (rows : ℕ) (a : Aggregate) → slice_get zone.0 j ≡ bounds → zone.1 ≡ rows → IsEntryOf e (stat_value_or_null bounds rows a) → IsEntryOf e (leaf_stat j a zone)
-as_told e j zone bounds rows a at many says = subst (IsEntryOf e) (λ i. stat_value_or_null (sym at i) (sym many i) a) says
+pub as_told : (c : Content) (j : ℕ) (zone : Zone) (bounds : Option ColumnBounds) (rows : ℕ) (a : Aggregate) → slice_get zone.0 j ≡ bounds → zone.1 ≡ rows → c ≡ stat_value_or_null bounds rows a → c ≡ leaf_stat j a zone
+as_told c j zone bounds rows a at many says = says ∙ (λ i. stat_value_or_null (sym at i) (sym many i) a)
 
 pub some_weaker : {A : Type 0} {P Q : A → Type 0} (o : Option A) → ((a : A) → P a → Q a) → IfSome o P → IfSome o Q
 some_weaker None f h = tt
@@ -157,8 +155,8 @@ pub found_at : {X : Type 0} (Q : Bor X → Type 0) (xs : List X) (i : ℕ) (o : 
 found_at Q xs i None m f = none_at xs i m
 found_at Q xs i (Some x) m f = some_at xs i x.now m.0 f
 
-pub counted : (s : Stretch) → IsStretch s → length (zones_in s) ≡ s.count
-counted s is =
-    let mapped = length-map (take s.count (drop s.first s.chunks.now)) zone_of in let taken = length-take s.count (drop s.first s.chunks.now) in
-    let left = length-drop s.first s.chunks.now in let within = is.within in
+pub counted : (chunks : List Chunk) (first count : ℕ) → first + count ≤ length chunks → length (zones_in chunks first count) ≡ count
+counted chunks first count within =
+    let mapped = length-map (take count (drop first chunks)) zone_of in let taken = length-take count (drop first chunks) in
+    let left = length-drop first chunks in
     omega (arith, mapped, taken, left, within)

@@ -1,5 +1,6 @@
-pub mod Columns
-pub mod Compared
-pub mod Held
-pub mod Paths
-pub mod Truths
+mod Binding
+mod Columns
+mod Held
+mod Paths
+mod Places
+mod ViewLemmas

@@ -1,5 +1,8 @@
 pub mod Column
-pub mod Side
+pub mod Held
+pub mod Proved
+pub mod Stats
 pub mod Stretch
-pub mod Zones
+pub mod Views
 pub mod Zone
+pub mod Zones

@@ -1,79 +1,95 @@
--- What proofs with resolved placeholders say of a zone.
-use Rattle.std.specs.Prelude.{◌≡◌, ℕ, pos, List, Option, Some, None, Bool, false, ◌&&◌, ◌||◌, slice_get}
-use Rattle.vortex_model.specs.Content.{Content, null, integer}
+-- Zones as rows, and what predicates over them say.
+use Rattle.std.specs.Prelude.{◌≡◌, ℕ, zero, suc, pos, List, [], ◌∷◌, map, Option, Some, None, Bool, slice_get}
+use Rattle.vortex_model.specs.Content.{Content, null, tuple, contents_from}
 use Rattle.vortex_model.specs.Path.{Positions}
-use Rattle.vortex_model_table.specs.Truth.{compared, is_true}
-use Rattle.vortex_scalar_value.specs.View.{content_at}
-use Rattle.vortex_stats_bind.specs.Bound.{Bound, Provided, evaluate_bound}
-use Rattle.vortex_stats_expr.specs.Tree.{comparison_of}
-use Rattle.vortex_stats_expr.specs.Aggregate.{aggregate_of}
-use Rattle.vortex_table_chunk.specs.BoundStat.{zone_provided, stat_value_or_null}
-use Rattle.vortex_table_chunk.specs.Proved.{proved_in}
+use Rattle.vortex_model_table.specs.Expression.{Aggregate, min, max, null_count}
+use Rattle.vortex_model_table.specs.Truth.{is_true}
+use Rattle.vortex_stats_bind.specs.Bound.{Bound, Provided, evaluate_bound, bound_value}
+use Rattle.vortex_table_chunk.specs.BoundStat.{zone_provided}
+use Rattle.vortex_table_chunk.specs.zones.StatValue.{stat_value}
 use Rattle.vortex_table_chunk.specs.declared.zones.bounds.ColumnBounds.{ColumnBounds}
-use Rattle.vortex_table_zonemaps.specs.declared.operands.ZoneOperands.{ZoneOperands}
-use Rattle.vortex_table_zonemaps.specs.declared.proof.Operand.{Operand}
-use Rattle.vortex_table_zonemaps.specs.declared.proof.Operand.TheVariants as operand
-use Rattle.vortex_table_zonemaps.specs.declared.proof.ZoneProof.{ZoneProof, fold-ZoneProof}
-use Rattle.vortex_table_zonemaps.specs.declared.proof.ZoneProof.TheOpen.{ZoneProof-F}
+use Rattle.vortex_table_zonemaps.specs.Stats.{Zone, leaf_stat, rows_stat}
+use Rattle.vortex_table_zonemaps.specs.declared.operands.ZoneRow.{ZoneRow}
+use Rattle.vortex_table_zonemaps.specs.declared.place.ZoneStat.{ZoneStat}
+use Rattle.vortex_table_zonemaps.specs.declared.place.ZoneStat.TheVariants as stat
 
-abbrev pub provided_by : ZoneOperands → Provided
-provided_by zone = zone_provided zone.leaves.now zone.bounds.now zone.rows
+-- what a column of the zone maps has in a zone
+abbrev pub stat_in : ZoneStat → Zone → Content
+stat_in (stat.Low j) zone = leaf_stat j min zone
+stat_in (stat.High j) zone = leaf_stat j max zone
+stat_in (stat.NullCount j) zone = leaf_stat j null_count zone
+stat_in stat.Rows zone = rows_stat zone
+
+-- ---- a zone as a row
+
+-- the low, the high and the null count of a leaf
+abbrev pub leaf_row : ℕ → ColumnBounds → Content
+leaf_row rows b = tuple (contents_from
+    (stat_value b rows min ∷ stat_value b rows max ∷ stat_value b rows null_count ∷ []))
+
+-- a record of the leaves, and the number of rows
+abbrev pub zone_row : Zone → Content
+zone_row zone = tuple (contents_from
+    (tuple (contents_from (map (leaf_row zone.1) zone.0)) ∷ rows_stat zone ∷ []))
+
+-- where a column stands in a row
+abbrev pub positions_of : ZoneStat → Positions
+positions_of (stat.Low j) = 0 ∷ j ∷ 0 ∷ []
+positions_of (stat.High j) = 0 ∷ j ∷ 1 ∷ []
+positions_of (stat.NullCount j) = 0 ∷ j ∷ 2 ∷ []
+positions_of stat.Rows = 1 ∷ []
+
+-- the column that stands there
+abbrev pub stat_of : Positions → Option ZoneStat
+stat_of (zero ∷ j ∷ zero ∷ []) = Some (stat.Low j)
+stat_of (zero ∷ j ∷ suc zero ∷ []) = Some (stat.High j)
+stat_of (zero ∷ j ∷ suc (suc zero) ∷ []) = Some (stat.NullCount j)
+stat_of (suc zero ∷ []) = Some stat.Rows
+stat_of is = None
+
+-- ---- a zone by its columns
+
+abbrev pub stat_or_null : Option ZoneStat → Zone → Content
+stat_or_null None zone = null
+stat_or_null (Some s) zone = stat_in s zone
+
+-- its columns alone, and no placeholder
+abbrev pub columns_of : Zone → Provided
+columns_of zone = record {
+  columns = λ is. stat_or_null (stat_of is) zone;
+  statistics = λ x a. null;
+  rows = 1;
+}
+
+abbrev pub provided_by : ZoneRow → Provided
+provided_by row = columns_of (row.bounds.now, row.rows)
+
+-- the zone's columns are among those that are provided
+abbrev pub Tells : Provided → Zone → Type 0
+Tells p zone = (s : ZoneStat) → p.columns (positions_of s) ≡ stat_in s zone
+
+-- ---- predicates over zones
+
+-- whatever is told of a zone, the bound expression says of its columns what the proof says of the
+-- statistics of these leaves
+abbrev pub IsBoundTo : List Positions → Bound → Bound → Type 0
+IsBoundTo leaves proof bound = (p : Provided) (zone : Zone) → Tells p zone →
+    evaluate_bound p bound ≡ evaluate_bound (zone_provided leaves zone.0 zone.1) proof
+
+-- the same of a statistic of the leaf at an index
+abbrev pub IsStatOf : ℕ → Aggregate → Bound → Type 0
+IsStatOf j a bound = (p : Provided) (zone : Zone) → Tells p zone →
+    evaluate_bound p bound ≡ leaf_stat j a zone
 
 -- the bounds of the leaf at an index
 abbrev pub bounds_of_leaf : List ColumnBounds → Option ℕ → Option ColumnBounds
 bounds_of_leaf bounds None = None
 bounds_of_leaf bounds (Some i) = slice_get bounds i
 
--- ---- in a zone of these leaves and bounds, and of so many rows
+-- it says the same of a zone as a row and of its columns alone
+abbrev pub ReadsZones : Bound → Type 0
+ReadsZones bound = (zone : Zone) →
+    bound_value bound (zone_row zone) ≡ evaluate_bound (columns_of zone) bound
 
-abbrev pub operand_content : List Positions → List ColumnBounds → ℕ → Operand → Content
-operand_content leaves bounds rows (operand.Literal v) = content_at v
-operand_content leaves bounds rows (operand.Known i f) =
-    stat_value_or_null (slice_get bounds i) rows (aggregate_of f)
-operand_content leaves bounds rows operand.RowCount = integer (pos rows)
-operand_content leaves bounds rows (operand.Other e) =
-    evaluate_bound (zone_provided leaves bounds rows) e.now
-
--- a truth for each zone
-abbrev pub Truth : Type 0
-Truth = List Positions → List ColumnBounds → ℕ → Bool
-
-abbrev pub proof_step : ZoneProof-F Truth → Truth
-proof_step (ZoneProof-F.And x y) = λ ls bs n. x.value ls bs n && y.value ls bs n
-proof_step (ZoneProof-F.Or x y) = λ ls bs n. x.value ls bs n || y.value ls bs n
-proof_step (ZoneProof-F.Compare op x y) = λ ls bs n.
-    is_true (compared (comparison_of op) (operand_content ls bs n x) (operand_content ls bs n y))
-proof_step (ZoneProof-F.Other e) = λ ls bs n. is_true (evaluate_bound (zone_provided ls bs n) e.now)
-
-abbrev pub proof_truth : ZoneProof → Truth
-proof_truth = fold-ZoneProof Truth proof_step
-
-abbrev pub operand_in : ZoneOperands → Operand → Content
-operand_in zone o = operand_content zone.leaves.now zone.bounds.now zone.rows o
-
-abbrev pub truth_in : ZoneOperands → ZoneProof → Bool
-truth_in zone proof = proof_truth proof zone.leaves.now zone.bounds.now zone.rows
-
--- no proof is never true
-abbrev pub zone_proved : List Positions → List ColumnBounds → ℕ → Option ZoneProof → Bool
-zone_proved leaves bounds rows None = false
-zone_proved leaves bounds rows (Some proof) = proof_truth proof leaves bounds rows
-
-abbrev pub proved_by : ZoneOperands → Option ZoneProof → Bool
-proved_by zone proof = zone_proved zone.leaves.now zone.bounds.now zone.rows proof
-
--- ---- in every zone of these leaves
-
-abbrev pub IsOperandOf : List Positions → Bound → Operand → Type 0
-IsOperandOf leaves e o = (bounds : List ColumnBounds) (rows : ℕ) →
-    operand_content leaves bounds rows o ≡ evaluate_bound (zone_provided leaves bounds rows) e
-
-abbrev pub IsProofOf : List Positions → Bound → ZoneProof → Type 0
-IsProofOf leaves e proof = (bounds : List ColumnBounds) (rows : ℕ) →
-    proof_truth proof leaves bounds rows
-    ≡ is_true (evaluate_bound (zone_provided leaves bounds rows) e)
-
--- it proves what the proof does
-abbrev pub IsResolved : List Positions → Option Bound → Option ZoneProof → Type 0
-IsResolved leaves proof resolved = (bounds : List ColumnBounds) (rows : ℕ) →
-    zone_proved leaves bounds rows resolved ≡ proved_in (zone_provided leaves bounds rows) proof
+abbrev pub is_proved_by : Zone → Bound → Bool
+is_proved_by zone bound = is_true (evaluate_bound (columns_of zone) bound)

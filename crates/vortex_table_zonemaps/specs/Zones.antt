@@ -1,28 +1,10 @@
--- Zones of rows, and what is held of them by leaf.
-use Rattle.std.specs.Prelude.{◌≡◌, ◌<◌, ℕ, pos, List, length, map, slice_get, slice_index_or}
-use Rattle.vortex_model.specs.Content.{Content, integer}
-use Rattle.vortex_model_table.specs.Expression.{Aggregate, min, max, null_count}
-use Rattle.vortex_arrays_model.specs.Layout.{len_of}
-use Rattle.vortex_table_chunk.specs.BoundStat.{stat_value_or_null}
-use Rattle.vortex_table_chunk.specs.declared.chunk.Chunk.{Chunk}
-use Rattle.vortex_table_chunk.specs.declared.zones.bounds.ColumnBounds.{ColumnBounds}
+-- What is held of zones by leaf.
+use Rattle.std.specs.Prelude.{◌<◌, ℕ, List, length, map, slice_index_or}
+use Rattle.vortex_model_table.specs.Expression.{min, max, null_count}
 use Rattle.vortex_table_zonemaps.specs.Column.{IsColumnOf, IsColumnOf-prop}
+use Rattle.vortex_table_zonemaps.specs.Stats.{Zone, leaf_stat, rows_stat}
 use Rattle.vortex_table_zonemaps.specs.declared.leaf.LeafZones.{LeafZones}
 use Rattle.vortex_table_zonemaps.specs.declared.zone_maps.ZoneMaps.{ZoneMaps}
-
--- the statistics of each leaf column, and the number of rows
-abbrev pub Zone : Type 0
-Zone = List ColumnBounds × ℕ
-
-abbrev pub zone_of : Chunk → Zone
-zone_of chunk = (chunk.bounds.items, len_of chunk.array)
-
--- what a statistic of the leaf at an index says
-abbrev pub leaf_stat : ℕ → Aggregate → Zone → Content
-leaf_stat j a zone = stat_value_or_null (slice_get zone.0 j) zone.1 a
-
-abbrev pub rows_stat : Zone → Content
-rows_stat zone = integer (pos zone.1)
 
 -- the columns are of the leaf at this index in these zones
 pub record IsLeaf (j : ℕ) (leaf : LeafZones) (zones : List Zone) : Type 0 where

@@ -1,13 +1,13 @@
-//! Zone maps held by leaf column, a zone after the other, so that a proof is evaluated over many
-//! zones by loops over slices.
-//!
-//! Proofs over the statistics of zones of rows, with their placeholders resolved to leaf columns.
+//! Zone maps as a table: a row for each zone of rows, such as a chunk, and of each leaf column a low,
+//! a high and a null count. Proofs are bound to its columns, and what selects rows selects zones.
 #![tactic(auto)]
 
+pub mod bind;
 pub mod column;
-mod compare;
 pub mod leaf;
 pub mod operands;
-pub mod proof;
+pub mod place;
+pub mod predicate;
 pub mod proved;
+pub mod views;
 pub mod zone_maps;

@@ -1,17 +1,17 @@
-//! The statistics of a zone of rows as answers to placeholders.
-ghost use Rattle.std.specs.Prelude.{◌≡◌};
+//! The statistics of a zone of rows, by themselves and as a row of zone maps.
+ghost use Rattle.std.specs.Prelude.{◌≡◌, option_map};
 ghost use Rattle.vortex_model_table.specs.Statistics.{shown};
 ghost use Rattle.vortex_stats_bind.specs.OperandValue.{operand_value};
 ghost use Rattle.vortex_stats_expr.specs.Aggregate.{aggregate_of};
+ghost use Rattle.vortex_table_chunk.specs.BoundStat.{stat_value_or_null};
 ghost use Rattle.vortex_table_chunk.specs.zones.Bounds.{bound_in};
 ghost use Rattle.vortex_table_chunk.specs.zones.StatValue.{stat_value};
 
+use crate::place::{ZoneStat, stat_at};
 use vortex_stats_bind::bound::{BoundTree, Operands};
 use vortex_stats_bind::value::Value;
 use vortex_stats_expr::aggregate::AggregateFn;
-use vortex_table_chunk::chunk::bounds_at;
 use vortex_table_chunk::zones::bounds::{Bound, ColumnBounds};
-use vortex_table_schema::leaves::LeafPath;
 
 fn bound_operand<'a>(bound: &'a Option<Bound>) -> Value<'a>
     ensures { operand_value result ≡ shown (bound_in bound.now) }
@@ -41,39 +41,64 @@ pub fn statistic<'a>(bounds: &'a ColumnBounds, rows: usize, aggregate: Aggregate
     }
 }
 
-/// What is known of a zone of rows, such as a chunk: of each leaf column a bound from below, one
-/// from above and the null count, and so whether all or none are null. It knows nothing of other
-/// expressions, and no column.
+// The same, and null where the zone has no statistics of the leaf.
+pub(crate) fn statistic_in<'a>(
+    bounds: Option<&'a ColumnBounds>,
+    rows: usize,
+    aggregate: AggregateFn,
+) -> Value<'a>
+    ensures { operand_value result
+        ≡ stat_value_or_null (option_map (λ b. b.now) bounds.entry) rows (aggregate_of aggregate) }
+{
+    match bounds {
+        Some(bounds) => statistic(bounds, rows, aggregate),
+        None => Value::Null,
+    }
+}
+
+/// A zone of rows, such as a chunk, as a row of zone maps.
 #[derive(Clone, Copy, Drop)]
-pub struct ZoneOperands<'z> {
-    /// The paths of the leaf columns.
-    pub leaves: &'z [LeafPath],
-    /// The statistics of each leaf column, in the order of `leaves`.
+pub struct ZoneRow<'z> {
+    /// The statistics of each leaf column, in order.
     pub bounds: &'z [ColumnBounds],
     /// The number of rows of the zone.
     pub rows: usize,
 }
 
-impl Operands for ZoneOperands<'_> {
+impl ZoneRow<'_> {
+    ghost use Rattle.std.specs.Prelude.{◌≡◌};
+    ghost use Rattle.vortex_stats_bind.specs.OperandValue.{operand_value};
+    ghost use Rattle.vortex_stats_expr.specs.Aggregate.{aggregate_of};
+    ghost use Rattle.vortex_table_zonemaps.specs.Stats.{leaf_stat};
+
+    fn leaf<'a>(&'a self, leaf: usize, aggregate: AggregateFn) -> Value<'a>
+        ensures { operand_value result
+            ≡ leaf_stat leaf (aggregate_of aggregate) (self.now.bounds.now, self.now.rows) }
+    {
+        statistic_in(self.bounds.get(leaf), self.rows, aggregate)
+    }
+}
+
+impl Operands for ZoneRow<'_> {
     ghost use Rattle.vortex_table_zonemaps.specs.Zone.{provided_by};
 
     ghost provided = { provided_by };
 
-    fn column<'a>(&'a self, _path: &[usize]) -> Value<'a> {
-        Value::Null
-    }
-
-    fn statistic<'a>(&'a self, input: &BoundTree, aggregate: AggregateFn) -> Value<'a> {
-        let Some(path) = input.as_column() else {
-            return Value::Null;
-        };
-        match bounds_at(self.leaves, self.bounds, path) {
-            Some(bounds) => statistic(bounds, self.rows, aggregate),
+    fn column<'a>(&'a self, path: &[usize]) -> Value<'a> {
+        match stat_at(path) {
+            Some(ZoneStat::Low(leaf)) => self.leaf(leaf, AggregateFn::Min),
+            Some(ZoneStat::High(leaf)) => self.leaf(leaf, AggregateFn::Max),
+            Some(ZoneStat::NullCount(leaf)) => self.leaf(leaf, AggregateFn::NullCount),
+            Some(ZoneStat::Rows) => Value::Count(self.rows as u64),
             None => Value::Null,
         }
     }
 
+    fn statistic<'a>(&'a self, _input: &BoundTree, _aggregate: AggregateFn) -> Value<'a> {
+        Value::Null
+    }
+
     fn rows(&self) -> u64 {
-        self.rows as u64
+        1
     }
 }

@@ -1,30 +1,27 @@
-//! Proofs over neighbouring zones, evaluated for all of them at once.
-ghost use Rattle.std.specs.Prelude.{◌≡◌, map, IfOk, IfSome};
-ghost use Rattle.vortex_model.specs.Content.{integer};
-ghost use Rattle.vortex_scalar_value.specs.View.{content_at};
+//! Predicates over neighbouring zones, evaluated for all of them at once.
+ghost use Rattle.std.specs.Prelude.{◌≡◌, ◌≤◌, ◌+◌, Some, length, map, IfOk, IfSome};
 ghost use Rattle.vortex_arrays_model.specs.Layout.{len_of};
-ghost use Rattle.vortex_table_zonemaps.specs.Zone.{proof_truth};
-ghost use Rattle.vortex_table_zonemaps.specs.Stretch.{IsStretch, zones_in, truth_at, proved_at};
+ghost use Rattle.vortex_table_zonemaps.specs.Proved.{zone_proved, proved_at};
+ghost use Rattle.vortex_table_zonemaps.specs.Stats.{zone_of};
+ghost use Rattle.vortex_table_zonemaps.specs.Stretch.{zones_in};
+ghost use Rattle.vortex_table_zonemaps.specs.Zones.{AreZoneMaps, AreZoneMaps-prop};
 
-use crate::column::NumberSlice;
-use crate::compare::{Side, compare_sides};
-use crate::operands::ZoneOperands;
-use crate::proof::{Operand, ZoneProof, number_of};
+use crate::bind::is_proved;
+use crate::operands::ZoneRow;
+use crate::place::{ZoneStat, stat_at};
+use crate::predicate::ZonePredicate;
 use crate::zone_maps::ZoneMaps;
 use std::alloc::{AllocError, Global};
-use vortex_scalar_value::scalar_value::ScalarValue;
-use vortex_stats_bind::value::read;
-use vortex_stats_expr::aggregate::AggregateFn;
-use vortex_stats_expr::operator::Comparison;
-use vortex_stats_mask::masks::{both_into, either_into, no_rows};
+use vortex_arrays_core::array::ArrayRef;
+use vortex_stats_mask::column::Column;
+use vortex_stats_mask::masks::no_rows;
+use vortex_stats_select::columns::Columns;
+use vortex_stats_select::select::select;
 use vortex_table_chunk::chunk::Chunk;
-use vortex_table_schema::leaves::LeafPath;
 
-/// Neighbouring chunks of a table.
+/// Neighbouring chunks of a table, each a row of its zone maps.
 #[derive(Clone, Copy)]
 pub struct Stretch<'s> {
-    /// The paths of the leaf columns.
-    pub leaves: &'s [LeafPath],
     /// What is held of all chunks.
     pub maps: &'s ZoneMaps,
     /// All chunks of the table.
@@ -33,166 +30,110 @@ pub struct Stretch<'s> {
     pub first: usize,
     /// The number of its chunks.
     pub count: usize,
+    pub ghost held: { AreZoneMaps maps.now (map zone_of chunks.now) } by { AreZoneMaps-prop maps.now
+        (map zone_of chunks.now) },
+    pub ghost within: { first + count ≤ length chunks.now },
 }
 
-fn literal_number(value: Option<&ScalarValue>) -> Option<i64>
-    ensures { IfSome result (λ number. content_at value.entry ≡ integer number) }
-{
-    let number = number_of(read(value))?;
-    match i64::try_from(number.get()) {
-        Ok(number) => Some(number),
-        Err(_) => None,
+impl Stretch<'_> {
+    ghost use Rattle.std.specs.Prelude.{◌≡◌, map, IfSome, IfOk};
+    ghost use Rattle.vortex_stats_mask.specs.Columns.{column_of};
+    ghost use Rattle.vortex_table_zonemaps.specs.Proved.{proved_at};
+    ghost use Rattle.vortex_table_zonemaps.specs.Stretch.{zones_in};
+    ghost use Rattle.vortex_table_zonemaps.specs.Zone.{stat_in};
+
+    // A column of the zone maps, where it is held.
+    fn column_of<'a>(&'a self, stat: ZoneStat) -> Option<Column<'a>>
+        ensures { IfSome result (λ column. column_of column
+            ≡ map (stat_in stat) (zones_in self.now.chunks.now self.now.first self.now.count)) }
+    {
+        let column = self.maps.column(stat)?;
+        column.slice(self.first, self.count)
+    }
+
+    // Zone by zone, from the statistics that the chunks have.
+    fn hold(&self, alloc: Global, proof: &Option<ZonePredicate>) -> Result<Vec<bool>, AllocError>
+        ensures { IfOk result (λ mask. mask.items ≡ map (proved_at proof.now)
+            (zones_in self.now.chunks.now self.now.first self.now.count)) }
+    {
+        let chunks = &self.chunks[self.first..self.first + self.count];
+        hold_all(alloc, proof, chunks)
     }
 }
 
-fn holds_of(proof: &ZoneProof, leaves: &[LeafPath], chunk: &Chunk) -> bool
-    ensures { result ≡ proof_truth proof.now leaves.now chunk.now.bounds.items
-        (len_of chunk.now.array) }
+impl Columns for Stretch<'_> {
+    ghost use Rattle.std.specs.Prelude.{map};
+    ghost use Rattle.vortex_table_zonemaps.specs.Stretch.{zones_in};
+    ghost use Rattle.vortex_table_zonemaps.specs.Zone.{zone_row};
+
+    ghost rows = { λ s. map zone_row (zones_in s.chunks.now s.first s.count) };
+
+    fn len(&self) -> usize {
+        self.count
+    }
+
+    fn column(&self, _alloc: Global, _path: &[usize]) -> Result<Option<ArrayRef>, AllocError> {
+        Ok(None)
+    }
+
+    fn leaf(&self, path: &[usize]) -> Option<Column<'_>> {
+        self.column_of(stat_at(path)?)
+    }
+}
+
+fn holds_of(proof: &Option<ZonePredicate>, chunk: &Chunk) -> bool
+    ensures { result ≡ zone_proved chunk.now.bounds.items (len_of chunk.now.array) proof.now }
 {
-    let zone = ZoneOperands {
-        leaves,
+    let zone = ZoneRow {
         bounds: chunk.bounds.as_slice(),
         rows: chunk.array.len(),
     };
-    proof.holds(&zone)
+    is_proved(proof, &zone)
 }
 
 fn hold_all(
     alloc: Global,
-    proof: &ZoneProof,
-    leaves: &[LeafPath],
+    proof: &Option<ZonePredicate>,
     chunks: &[Chunk],
 ) -> Result<Vec<bool>, AllocError>
     ensures { IfOk result (λ mask. mask.items
-        ≡ map (λ c. proof_truth proof.now leaves.now c.bounds.items (len_of c.array)) chunks.now) }
+        ≡ map (λ c. zone_proved c.bounds.items (len_of c.array) proof.now) chunks.now) }
 {
     chunks
         .iter()
-        .map(|chunk| holds_of(proof, leaves, chunk))
+        .map(|chunk| holds_of(proof, chunk))
         .collect(alloc)
 }
 
-impl Stretch<'_> {
-    ghost use Rattle.std.specs.Prelude.{◌≡◌, map, IfOk, IfSome};
-    ghost use Rattle.vortex_model_table.specs.Truth.{compared, is_true};
-    ghost use Rattle.vortex_stats_expr.specs.Tree.{comparison_of};
-    ghost use Rattle.vortex_stats_expr.specs.Aggregate.{aggregate_of};
-    ghost use Rattle.vortex_table_zonemaps.specs.Column.{AreNumbers};
-    ghost use Rattle.vortex_table_zonemaps.specs.Side.{IsSideOf};
-    ghost use Rattle.vortex_table_zonemaps.specs.Stretch.{IsStretch, zones_in, operand_at, truth_at};
-    ghost use Rattle.vortex_table_zonemaps.specs.Zones.{leaf_stat, rows_stat};
-
-    // A statistic of the leaf at an index, where it is held as numbers.
-    fn statistic<'a>(&'a self, leaf: usize, aggregate: AggregateFn) -> Option<NumberSlice<'a>>
-        requires { IsStretch self.now }
-        ensures { IfSome result (λ slice. AreNumbers slice.numbers.now slice.known.now
-            (map (leaf_stat leaf (aggregate_of aggregate)) (zones_in self.now))) }
-    {
-        let column = self.maps.column(leaf, aggregate)?;
-        column.slice(self.first, self.count)
-    }
-
-    fn row_counts<'a>(&'a self) -> Option<NumberSlice<'a>>
-        requires { IsStretch self.now }
-        ensures { IfSome result (λ slice. AreNumbers slice.numbers.now slice.known.now
-            (map rows_stat (zones_in self.now))) }
-    {
-        self.maps.rows.slice(self.first, self.count)
-    }
-
-    // The operand in each zone, where it is told by columns.
-    fn side<'a>(&'a self, operand: &Operand) -> Option<Side<'a>>
-        requires { IsStretch self.now }
-        ensures { IfSome result (λ side.
-            IsSideOf side (operand_at self.now.leaves.now operand.now) (zones_in self.now)) }
-    {
-        match operand {
-            Operand::Literal(value) => Some(Side::Number(literal_number(*value)?)),
-            Operand::Known(leaf, aggregate) => {
-                Some(Side::Column(self.statistic(*leaf, *aggregate)?))
-            }
-            Operand::RowCount => Some(Side::Column(self.row_counts()?)),
-            Operand::Other(_) => None,
-        }
-    }
-
-    // In which zones the comparison is true, where columns tell it.
-    fn compare(
-        &self,
-        alloc: Global,
-        comparison: Comparison,
-        left: &Operand,
-        right: &Operand,
-    ) -> Result<Option<Vec<bool>>, AllocError>
-        requires { IsStretch self.now }
-        ensures { IfOk result (λ found. IfSome found (λ mask. mask.items
-            ≡ map (λ z. is_true (compared (comparison_of comparison)
-            (operand_at self.now.leaves.now left.now z)
-            (operand_at self.now.leaves.now right.now z))) (zones_in self.now))) }
-    {
-        let Some(left) = self.side(left) else {
-            return Ok(None);
-        };
-        let Some(right) = self.side(right) else {
-            return Ok(None);
-        };
-        compare_sides(alloc, comparison, &left, &right)
-    }
-
-    // Zone by zone, from the statistics that the chunks have.
-    fn hold(&self, alloc: Global, proof: &ZoneProof) -> Result<Vec<bool>, AllocError>
-        requires { IsStretch self.now }
-        ensures { IfOk result (λ mask. mask.items
-            ≡ map (truth_at self.now.leaves.now proof.now) (zones_in self.now)) }
-    {
-        let chunks = &self.chunks[self.first..self.first + self.count];
-        hold_all(alloc, proof, self.leaves, chunks)
-    }
-}
-
-#[tactic(auto, using(crate::proofs::Truths::one_level))]
-fn proof_mask(alloc: Global, proof: &ZoneProof, stretch: &Stretch) -> Result<Vec<bool>, AllocError>
-    requires { IsStretch stretch.now }
-    ensures { IfOk result (λ mask. mask.items
-        ≡ map (truth_at stretch.now.leaves.now proof.now) (zones_in stretch.now)) }
+fn selected(
+    alloc: Global,
+    proof: &ZonePredicate,
+    stretch: &Stretch,
+) -> Result<Option<Vec<bool>>, AllocError>
+    ensures { IfOk result (λ found. IfSome found (λ mask. mask.items ≡ map
+        (proved_at (Some proof.now))
+        (zones_in stretch.now.chunks.now stretch.now.first stretch.now.count))) }
 {
-    match proof {
-        ZoneProof::And(x, y) => {
-            let left = proof_mask(alloc, x, stretch)?;
-            let right = proof_mask(alloc, y, stretch)?;
-            Ok(both_into(left, &right))
-        }
-        ZoneProof::Or(x, y) => {
-            let left = proof_mask(alloc, x, stretch)?;
-            let right = proof_mask(alloc, y, stretch)?;
-            Ok(either_into(left, &right))
-        }
-        ZoneProof::Compare(comparison, x, y) => {
-            match stretch.compare(alloc, *comparison, x, y)? {
-                Some(mask) => Ok(mask),
-                None => stretch.hold(alloc, proof),
-            }
-        }
-        ZoneProof::Other(_) => stretch.hold(alloc, proof),
-    }
+    select(alloc, &proof.bound, true, stretch)
 }
 
-/// In which zones of a stretch their statistics make the proof true, a byte a zone. No proof is
-/// never true.
+/// In which zones of a stretch the predicate is true, a byte a zone. No predicate is never true.
 ///
-/// Comparisons of bounds and counts that are held as numbers are loops over slices. All others look
-/// at the chunks one by one.
+/// It is evaluated by loops over the columns of the zone maps, and zone by zone where some part of
+/// it isn't told by whole columns.
 pub fn proved_zones(
     alloc: Global,
-    proof: &Option<ZoneProof>,
+    proof: &Option<ZonePredicate>,
     stretch: &Stretch,
 ) -> Result<Vec<bool>, AllocError>
-    requires { IsStretch stretch.now }
-    ensures { IfOk result (λ mask. mask.items
-        ≡ map (proved_at stretch.now.leaves.now proof.now) (zones_in stretch.now)) }
+    ensures { IfOk result (λ mask. mask.items ≡ map (proved_at proof.now)
+        (zones_in stretch.now.chunks.now stretch.now.first stretch.now.count)) }
 {
-    match proof {
-        Some(proof) => proof_mask(alloc, proof, stretch),
-        None => no_rows(alloc, stretch.count),
+    let Some(predicate) = proof else {
+        return no_rows(alloc, stretch.count);
+    };
+    match selected(alloc, predicate, stretch)? {
+        Some(mask) => Ok(mask),
+        None => stretch.hold(alloc, proof),
     }
 }

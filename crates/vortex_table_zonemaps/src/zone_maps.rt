@@ -2,12 +2,14 @@
 ghost use Rattle.std.specs.Prelude.{◌≡◌, ◌∷◌, ◌++◌, [], List, length, OnOk};
 ghost use Rattle.vortex_table_chunk.specs.Formed.{eq_leaves};
 ghost use Rattle.vortex_table_chunk.specs.declared.zones.bounds.ColumnBounds.{ColumnBounds};
-ghost use Rattle.vortex_table_zonemaps.specs.Zones.{Zone, AreLeaves};
+ghost use Rattle.vortex_table_zonemaps.specs.Stats.{Zone};
+ghost use Rattle.vortex_table_zonemaps.specs.Zones.{AreLeaves};
 
-use crate::column::StatColumn;
-use crate::leaf::{LeafZones, count_entry};
+use crate::column::ZoneColumn;
+use crate::leaf::LeafZones;
+use crate::place::ZoneStat;
 use std::alloc::{AllocError, Global};
-use vortex_stats_expr::aggregate::AggregateFn;
+use vortex_stats_bind::value::Value;
 use vortex_table_chunk::chunk::Chunk;
 use vortex_table_chunk::zones::bounds::ColumnBounds;
 use vortex_table_schema::leaves::LeafPath;
@@ -18,7 +20,7 @@ use vortex_table_schema::leaves::LeafPath;
 #[derive(Drop)]
 pub struct ZoneMaps {
     pub leaves: Vec<LeafZones>,
-    pub rows: StatColumn,
+    pub rows: ZoneColumn,
 }
 
 // Puts the statistics of a zone of so many rows behind those of `count` zones.
@@ -60,9 +62,10 @@ fn are_leaves(found: &[LeafPath], wanted: &[LeafPath]) -> bool
 impl ZoneMaps {
     ghost use Rattle.std.specs.Prelude.{◌≡◌, ◌∷◌, ◌++◌, [], List, length, map, is_none, IfOk, OnOk, IfSome};
     ghost use Rattle.vortex_table_chunk.specs.Formed.{eq_leaves};
-    ghost use Rattle.vortex_stats_expr.specs.Aggregate.{aggregate_of};
     ghost use Rattle.vortex_table_zonemaps.specs.Column.{IsColumnOf};
-    ghost use Rattle.vortex_table_zonemaps.specs.Zones.{Zone, zone_of, leaf_stat, AreZoneMaps};
+    ghost use Rattle.vortex_table_zonemaps.specs.Stats.{Zone, zone_of};
+    ghost use Rattle.vortex_table_zonemaps.specs.Zone.{stat_in};
+    ghost use Rattle.vortex_table_zonemaps.specs.Zones.{IsLeaf, AreZoneMaps};
 
     /// Of no zones with so many leaf columns.
     pub fn new(alloc: Global, leaves: usize) -> Result<ZoneMaps, AllocError>
@@ -80,7 +83,7 @@ impl ZoneMaps {
             let leaf = LeafZones::with_capacity(alloc, zones)?;
             held.push(leaf)?;
         }
-        let rows = StatColumn::with_capacity(alloc, zones)?;
+        let rows = ZoneColumn::with_capacity(alloc, zones)?;
         Ok(ZoneMaps { leaves: held, rows })
     }
 
@@ -100,7 +103,7 @@ impl ZoneMaps {
             → AreZoneMaps self.new (zones ++ (bounds.now, rows) ∷ [])) }
     {
         put_leaves(&mut self.leaves, count, bounds, rows)?;
-        self.rows.put(count, count_entry(rows as u64))?;
+        self.rows.put(count, Value::Count(rows as u64))?;
         Ok(())
     }
 
@@ -135,16 +138,26 @@ impl ZoneMaps {
         Ok(Some(maps))
     }
 
-    /// A statistic of the leaf column at an index, and `None` where none is held.
-    pub fn column(&self, leaf: usize, aggregate: AggregateFn) -> Option<&StatColumn>
+    /// The column of a statistic, and `None` where the leaf isn't there.
+    pub fn column(&self, stat: ZoneStat) -> Option<&ZoneColumn>
         ensures { (zones : List Zone) → AreZoneMaps self.now zones → IfSome result
-            (λ column. IsColumnOf column.now
-            (map (leaf_stat leaf (aggregate_of aggregate)) zones)) }
+            (λ column. IsColumnOf column.now (map (stat_in stat) zones)) }
     {
-        if leaf >= self.leaves.len() {
+        match stat {
+            ZoneStat::Low(leaf) => Some(&self.leaf(leaf)?.lows),
+            ZoneStat::High(leaf) => Some(&self.leaf(leaf)?.highs),
+            ZoneStat::NullCount(leaf) => Some(&self.leaf(leaf)?.null_counts),
+            ZoneStat::Rows => Some(&self.rows),
+        }
+    }
+
+    fn leaf(&self, index: usize) -> Option<&LeafZones>
+        ensures { (zones : List Zone) → AreZoneMaps self.now zones → IfSome result
+            (λ leaf. IsLeaf index leaf.now zones) }
+    {
+        if index >= self.leaves.len() {
             return None;
         }
-        let held = &self.leaves[leaf];
-        held.column(aggregate)
+        Some(&self.leaves[index])
     }
 }

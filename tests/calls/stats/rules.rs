@@ -7,12 +7,14 @@ use vortex_dtype::{DType, FieldName, FieldNames, Nullability};
 use vortex_scalar::{Scalar, ScalarError, ScalarValue};
 use vortex_stats::{
     Expression, LikeOptions, Meter, Never, NotLiteral, ScalarFnId, StatsError, StatsRewriteRule,
-    StatsRewriteRuleRef, and, between, col, falsify, gt, like, lit, not, or, satisfy,
+    StatsRewriteRuleRef, and, between, col, falsify, gt, lit, not, or, satisfy,
     BetweenOptions, StrictComparison,
 };
-use vortex_stats_expr::expression::Node;
+use vortex_stats_bind::bind::bind;
+use vortex_stats_bind::bound::{BoundExpression, BoundNode};
+use vortex_stats_bind::make;
 
-type Answer = Result<Option<Expression>, StatsError>;
+type Answer = Result<Option<BoundExpression>, StatsError>;
 
 /// What a faulty rule answers.
 #[derive(Clone, Copy, Drop)]
@@ -30,11 +32,20 @@ struct Faulty {
 }
 
 impl Faulty {
-    fn answer(&self, alloc: Global) -> Result<Option<Expression>, StatsError> {
+    fn answer(&self, alloc: Global, expr: &BoundExpression) -> Answer {
         match self.fault {
             Fault::Error(error) => Err(error),
-            Fault::Number => Ok(Some(of_value(constant(7))?)),
-            Fault::Column => Ok(Some(column(alloc, "b")?)),
+            Fault::Number => {
+                let number = of_value(Scalar::try_new(numbers(WITHOUT), number(7)))?;
+                Ok(Some(Box::into_inner(make::lit(alloc, number)?)))
+            }
+            Fault::Column => match &expr.node {
+                BoundNode::Not(input) => {
+                    let column: &BoundExpression = input;
+                    Ok(Some(column.clone()?))
+                }
+                _ => Ok(None),
+            },
             Fault::Backslash => Ok(Some(escaped(alloc)?)),
         }
     }
@@ -53,23 +64,21 @@ impl StatsRewriteRule for Faulty {
     fn falsify(
         &self,
         alloc: Global,
-        _dtype: &DType,
-        _expr: &Expression,
-    ) -> Result<Option<Expression>, StatsError> {
-        self.answer(alloc)
+        expr: &BoundExpression,
+    ) -> Answer {
+        self.answer(alloc, expr)
     }
 
     fn satisfy(
         &self,
         alloc: Global,
-        _dtype: &DType,
-        _expr: &Expression,
-    ) -> Result<Option<Expression>, StatsError> {
-        self.answer(alloc)
+        expr: &BoundExpression,
+    ) -> Answer {
+        self.answer(alloc, expr)
     }
 }
 
-fn of_value(made: Result<Expression, ScalarError>) -> Result<Expression, StatsError> {
+fn of_value(made: Result<Scalar, ScalarError>) -> Result<Scalar, StatsError> {
     match made {
         Ok(made) => Ok(made),
         Err(ScalarError::Memory) => Err(StatsError::Memory),
@@ -91,20 +100,25 @@ fn truth(value: bool) -> Expression {
     lit(Scalar::from(value))
 }
 
-/// A LIKE whose pattern holds a backslash.
-fn escaped(alloc: Global) -> Result<Expression, StatsError> {
-    let value = Scalar::try_new(DType::Utf8(WITHOUT), text("a"));
-    let pattern = Scalar::try_new(DType::Utf8(WITHOUT), text("\\a"));
-    match (value, pattern) {
-        (Ok(value), Ok(pattern)) => {
-            let options = LikeOptions {
-                negated: false,
-                case_insensitive: false,
-            };
-            Ok(like(alloc, lit(value), lit(pattern), options)?)
-        }
-        _ => Err(StatsError::Memory),
+/// A predicate over rows of the type.
+fn bound(alloc: Global, e: Expression, dtype: &DType) -> Result<BoundExpression, ScalarError> {
+    match bind(alloc, &e, dtype) {
+        Ok(bound) => Ok(bound),
+        Err(_) => Err(ScalarError::Memory),
     }
+}
+
+/// A LIKE whose pattern holds a backslash.
+fn escaped(alloc: Global) -> Result<BoundExpression, StatsError> {
+    let value = of_value(Scalar::try_new(DType::Utf8(WITHOUT), text("a")))?;
+    let pattern = of_value(Scalar::try_new(DType::Utf8(WITHOUT), text("\\a")))?;
+    let options = LikeOptions {
+        negated: false,
+        case_insensitive: false,
+    };
+    let value = make::lit(alloc, value)?;
+    let pattern = make::lit(alloc, pattern)?;
+    Ok(Box::into_inner(make::like(alloc, value, pattern, options)?))
 }
 
 /// The rules for NOT, in this order.
@@ -116,18 +130,18 @@ fn two_rules(alloc: Global) -> Result<Vec<StatsRewriteRuleRef>, AllocError> {
 }
 
 /// Whether it is the literal of the truth value.
-fn is_truth(e: &Expression, wanted: bool) -> bool {
+fn is_truth(e: &BoundExpression, wanted: bool) -> bool {
     match &e.node {
-        Node::Literal(value) => value.value().and_then(|v| v.as_bool()) == Some(wanted),
+        BoundNode::Literal(value) => value.value().and_then(|v| v.as_bool()) == Some(wanted),
         _ => false,
     }
 }
 
 /// Whether it is `false OR true`.
-fn is_false_or_true(answer: &Result<Option<Expression>, StatsError>) -> bool {
+fn is_false_or_true(answer: &Answer) -> bool {
     match answer {
         Ok(Some(proof)) => match &proof.node {
-            Node::Or(x, y) => is_truth(x, false) && is_truth(y, true),
+            BoundNode::Or(x, y) => is_truth(x, false) && is_truth(y, true),
             _ => false,
         },
         _ => false,
@@ -135,7 +149,7 @@ fn is_false_or_true(answer: &Result<Option<Expression>, StatsError>) -> bool {
 }
 
 /// Whether an answer is there; refused memory is handed on.
-fn judged(answer: Result<Option<Expression>, StatsError>) -> Result<StatsError, ScalarError> {
+fn judged(answer: Answer) -> Result<StatsError, ScalarError> {
     match answer {
         Ok(_) => Ok(StatsError::NoOverlap),
         Err(StatsError::Memory) => Err(ScalarError::Memory),
@@ -177,20 +191,23 @@ fn settled(answer: Answer) -> Result<Answer, ScalarError> {
 fn of_two_rules(alloc: Global, checks: &mut Checks<'_>, dtype: &DType) -> Done {
     let rules = two_rules(alloc)?;
     let mut meter = Meter::new();
-    let never = settled(falsify(alloc, dtype, &not(alloc, truth(true))?, &rules, &mut meter))?;
+    let not_true = bound(alloc, not(alloc, truth(true))?, dtype)?;
+    let never = settled(falsify(alloc, &not_true, &rules, &mut meter))?;
     checks.holds("NOT true is true of no row", is_false_or_true(&never));
-    let always = settled(satisfy(alloc, dtype, &not(alloc, truth(false))?, &rules, &mut meter))?;
+    let not_false = bound(alloc, not(alloc, truth(false))?, dtype)?;
+    let always = settled(satisfy(alloc, &not_false, &rules, &mut meter))?;
     checks.holds("NOT false is true of every row", is_false_or_true(&always));
     checks.holds("two nodes", meter.visits == 2 && meter.proofs == 0 && meter.rows_tested == 0);
     judged(never)?;
     judged(always)?;
-    let alone = settled(falsify(alloc, dtype, &not(alloc, truth(true))?, &[], &mut meter))?;
+    let alone = settled(falsify(alloc, &not_true, &[], &mut meter))?;
     checks.holds("no rule for NOT", matches!(alone, Ok(None)));
-    let side = and(alloc, not(alloc, truth(true))?, truth(true))?;
-    let side = settled(falsify(alloc, dtype, &side, &rules, &mut meter))?;
+    let side = bound(alloc, and(alloc, not(alloc, truth(true))?, truth(true))?, dtype)?;
+    let side = settled(falsify(alloc, &side, &rules, &mut meter))?;
     checks.holds("a side of AND", matches!(&side, Ok(Some(_))));
     judged(side)?;
-    let refused = judged(falsify(alloc, dtype, &column(alloc, "a")?, &rules, &mut meter))?;
+    let number = bound(alloc, column(alloc, "a")?, dtype)?;
+    let refused = judged(falsify(alloc, &number, &rules, &mut meter))?;
     checks.holds("no predicate", refused == StatsError::NotBoolean);
     Ok(())
 }
@@ -202,23 +219,25 @@ fn visits(alloc: Global, checks: &mut Checks<'_>, dtype: &DType) -> Done {
         let test = gt(alloc, column(alloc, "a")?, constant(i)?)?;
         chain = or(alloc, chain, test)?;
     }
+    let chain = bound(alloc, chain, dtype)?;
     let mut meter = Meter::new();
-    judged(falsify(alloc, dtype, &chain, &[], &mut meter))?;
+    judged(falsify(alloc, &chain, &[], &mut meter))?;
     checks.holds("each node once", meter.visits == 31);
     let options = BetweenOptions {
         lower_strict: StrictComparison::NonStrict,
         upper_strict: StrictComparison::Strict,
     };
     let within = between(alloc, column(alloc, "a")?, constant(1)?, constant(9)?, options)?;
+    let within = bound(alloc, within, dtype)?;
     let mut meter = Meter::new();
-    judged(falsify(alloc, dtype, &within, &[], &mut meter))?;
+    judged(falsify(alloc, &within, &[], &mut meter))?;
     checks.holds("a BETWEEN, its AND and two comparisons", meter.visits == 4);
     let mut full = Meter {
         rows_tested: 1,
         proofs: 2,
         visits: u64::MAX,
     };
-    judged(satisfy(alloc, dtype, &within, &[], &mut full))?;
+    judged(satisfy(alloc, &within, &[], &mut full))?;
     checks.holds("it stays at the greatest", full.visits == u64::MAX && full.proofs == 2);
     Ok(())
 }
@@ -233,17 +252,18 @@ fn faulty(
     let mut rules = two_rules(alloc)?;
     rules.push(Box::new(alloc, Faulty { fault })?)?;
     let mut meter = Meter::new();
-    let predicate = not(alloc, column(alloc, "b")?)?;
-    let none = judged(falsify(alloc, dtype, &predicate, &rules, &mut meter))?;
+    let predicate = bound(alloc, not(alloc, column(alloc, "b")?)?, dtype)?;
+    let none = judged(falsify(alloc, &predicate, &rules, &mut meter))?;
     checks.holds_at("a fault", number, none == StatsError::RuleFault);
-    let all = judged(satisfy(alloc, dtype, &predicate, &rules, &mut meter))?;
+    let all = judged(satisfy(alloc, &predicate, &rules, &mut meter))?;
     checks.holds_at("a fault for every row", number, all == StatsError::RuleFault);
-    let both = and(alloc, truth(true), predicate)?;
-    let none = judged(falsify(alloc, dtype, &both, &rules, &mut meter))?;
+    let both = and(alloc, truth(true), not(alloc, column(alloc, "b")?)?)?;
+    let both = bound(alloc, both, dtype)?;
+    let none = judged(falsify(alloc, &both, &rules, &mut meter))?;
     checks.holds_at("a fault behind other nodes", number, none == StatsError::RuleFault);
     checks.holds_at("no visit of a refused call", number, meter == Meter::new());
-    let other = gt(alloc, column(alloc, "a")?, constant(3)?)?;
-    let other = judged(falsify(alloc, dtype, &other, &rules, &mut meter))?;
+    let other = bound(alloc, gt(alloc, column(alloc, "a")?, constant(3)?)?, dtype)?;
+    let other = judged(falsify(alloc, &other, &rules, &mut meter))?;
     checks.holds_at("another root", number, other == StatsError::NoOverlap);
     Ok(())
 }
@@ -255,13 +275,10 @@ struct Constant {
 }
 
 impl Constant {
-    fn answer(&self) -> Result<Option<Expression>, StatsError> {
+    fn answer(&self, alloc: Global) -> Answer {
         let dtype = DType::Bool(Nullability::Nullable);
-        let answer = Scalar::try_new(dtype, self.value.map(ScalarValue::Bool));
-        match answer {
-            Ok(answer) => Ok(Some(lit(answer))),
-            Err(_) => Err(StatsError::Memory),
-        }
+        let answer = of_value(Scalar::try_new(dtype, self.value.map(ScalarValue::Bool)))?;
+        Ok(Some(Box::into_inner(make::lit(alloc, answer)?)))
     }
 }
 
@@ -276,33 +293,31 @@ impl StatsRewriteRule for Constant {
 
     fn falsify(
         &self,
-        _alloc: Global,
-        _dtype: &DType,
-        _expr: &Expression,
-    ) -> Result<Option<Expression>, StatsError> {
-        self.answer()
+        alloc: Global,
+        _expr: &BoundExpression,
+    ) -> Answer {
+        self.answer(alloc)
     }
 
     fn satisfy(
         &self,
-        _alloc: Global,
-        _dtype: &DType,
-        _expr: &Expression,
-    ) -> Result<Option<Expression>, StatsError> {
-        self.answer()
+        alloc: Global,
+        _expr: &BoundExpression,
+    ) -> Answer {
+        self.answer(alloc)
     }
 }
 
 /// A rule may answer false, null or true: the proof is then the literal, and has this truth.
 fn constants(alloc: Global, checks: &mut Checks<'_>, dtype: &DType) -> Done {
-    let predicate = not(alloc, column(alloc, "b")?)?;
+    let predicate = bound(alloc, not(alloc, column(alloc, "b")?)?, dtype)?;
     for (i, value) in [Some(false), None, Some(true)].into_iter().enumerate() {
         let mut rules: Vec<StatsRewriteRuleRef> = Vec::new(alloc);
         rules.push(Box::new(alloc, Constant { value })?)?;
         let mut meter = Meter::new();
-        let none = settled(falsify(alloc, dtype, &predicate, &rules, &mut meter))?;
+        let none = settled(falsify(alloc, &predicate, &rules, &mut meter))?;
         checks.holds_at("a constant falsifier", i, is_constant(&none, value));
-        let all = settled(satisfy(alloc, dtype, &predicate, &rules, &mut meter))?;
+        let all = settled(satisfy(alloc, &predicate, &rules, &mut meter))?;
         checks.holds_at("a constant satisfier", i, is_constant(&all, value));
         checks.holds_at("a visit each", i, meter.visits == 2);
         judged(none)?;
@@ -315,7 +330,7 @@ fn constants(alloc: Global, checks: &mut Checks<'_>, dtype: &DType) -> Done {
 fn is_constant(answer: &Answer, wanted: Option<bool>) -> bool {
     match answer {
         Ok(Some(proof)) => match &proof.node {
-            Node::Literal(value) => value.value().and_then(|v| v.as_bool()) == wanted,
+            BoundNode::Literal(value) => value.value().and_then(|v| v.as_bool()) == wanted,
             _ => false,
         },
         _ => false,
@@ -328,10 +343,10 @@ fn want_of_memory(alloc: Global, checks: &mut Checks<'_>, dtype: &DType) -> Done
     let fault = Fault::Error(StatsError::Memory);
     rules.push(Box::new(alloc, Faulty { fault })?)?;
     let mut meter = Meter::new();
-    let predicate = not(alloc, column(alloc, "b")?)?;
-    let none = falsify(alloc, dtype, &predicate, &rules, &mut meter);
+    let predicate = bound(alloc, not(alloc, column(alloc, "b")?)?, dtype)?;
+    let none = falsify(alloc, &predicate, &rules, &mut meter);
     checks.holds("no memory", matches!(none, Err(StatsError::Memory)));
-    let all = satisfy(alloc, dtype, &predicate, &rules, &mut meter);
+    let all = satisfy(alloc, &predicate, &rules, &mut meter);
     checks.holds("no memory for every row", matches!(all, Err(StatsError::Memory)));
     Ok(())
 }

@@ -14,6 +14,8 @@ use vortex_stats::{
 use vortex_table::expr::{
     BetweenOptions, Expression, LikeOptions, StrictComparison, and, between, eq, gt, like, not,
 };
+use vortex_stats_bind::bind::bind;
+use vortex_stats_bind::bound::BoundExpression;
 use vortex_table::table::{ScanAnswer, Table, TableError};
 
 /// What a rule for NOT answers.
@@ -40,15 +42,14 @@ struct Faulty {
 }
 
 impl Answer {
-    fn give(self, alloc: Global) -> Result<Option<Expression>, StatsError> {
-        let Answer::Error(error) = self else {
-            return match self.proof(alloc) {
-                Ok(proof) => Ok(Some(proof)),
-                Err(TableError::Memory) => Err(StatsError::Memory),
-                Err(_) => Err(StatsError::InvalidStat),
-            };
-        };
-        Err(error)
+    fn give(self, alloc: Global) -> Result<Option<BoundExpression>, StatsError> {
+        if let Answer::Error(error) = self {
+            return Err(error);
+        }
+        match (self.proof(alloc), record_along(alloc, integers())) {
+            (Ok(proof), Ok(dtype)) => Ok(Some(bind(alloc, &proof, &dtype)?)),
+            _ => Err(StatsError::Memory),
+        }
     }
 
     fn proof(self, alloc: Global) -> Result<Expression, TableError> {
@@ -84,9 +85,8 @@ impl StatsRewriteRule for Faulty {
     fn falsify(
         &self,
         alloc: Global,
-        _dtype: &DType,
-        _expr: &Expression,
-    ) -> Result<Option<Expression>, StatsError> {
+        _expr: &BoundExpression,
+    ) -> Result<Option<BoundExpression>, StatsError> {
         if self.to_satisfy_alone {
             return Ok(None);
         }
@@ -96,9 +96,8 @@ impl StatsRewriteRule for Faulty {
     fn satisfy(
         &self,
         alloc: Global,
-        _dtype: &DType,
-        _expr: &Expression,
-    ) -> Result<Option<Expression>, StatsError> {
+        _expr: &BoundExpression,
+    ) -> Result<Option<BoundExpression>, StatsError> {
         self.answer.give(alloc)
     }
 }
@@ -127,18 +126,23 @@ fn faulty_rules(
     Ok(rules)
 }
 
-/// A table of a column `a` of the type, with a row for each cell.
-fn table_along(
-    alloc: Global,
-    dtype: DType,
-    cells: Vec<Option<ScalarValue>>,
-) -> Result<Table, TableError> {
+/// The type of rows with a column `a` of the type.
+fn record_along(alloc: Global, dtype: DType) -> Result<DType, AllocError> {
     let mut fields = Vec::new(alloc);
     fields.push(StructField {
         name: FieldName::new(alloc, "a")?,
         dtype,
     })?;
-    let dtype = DType::Struct(StructFields::from_vec(fields)?, Nullability::NonNullable);
+    Ok(DType::Struct(StructFields::from_vec(fields)?, Nullability::NonNullable))
+}
+
+/// A table of such rows, with one for each cell.
+fn table_along(
+    alloc: Global,
+    dtype: DType,
+    cells: Vec<Option<ScalarValue>>,
+) -> Result<Table, TableError> {
+    let dtype = record_along(alloc, dtype)?;
     let mut table = Table::create(alloc, dtype.clone()?, 16, &[])?;
     let mut values = Vec::new(alloc);
     for cell in cells {

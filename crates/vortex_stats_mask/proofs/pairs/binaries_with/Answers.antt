@@ -3,7 +3,7 @@ use Rattle.std.specs.List.{zip}
 use Rattle.std.proofs.lemmas.Result.{IfOk-weaker}
 use Rattle.vortex_model.specs.Content.{byte_string}
 use Rattle.vortex_model_table.specs.Truth.{compared, is_true}
-use Rattle.vortex_arrays_buffer.specs.PrimitiveBuffers.{integers_of}
+use Rattle.vortex_stats_mask.specs.Integers.{integers_in}
 use Rattle.vortex_stats_expr.specs.Tree.{comparison_of}
 use Rattle.vortex_stats_mask.specs.Columns.{values_of, contents_of}
 use Rattle.vortex_stats_mask.proofs.SideBySide.{byte_strings_paired, binaries_with_others}

@@ -5,7 +5,7 @@ use Rattle.vortex_arrays_buffer.specs.PrimitiveBuffers.{kind_of_numbers, integer
 use Rattle.vortex_arrays_view.specs.Views.{value_of}
 use Rattle.vortex_arrays_core.specs.LayoutOf.{layout_of, valid_of, strings_of}
 use Rattle.vortex_stats_mask.specs.Headed.{ViewsHaveHeads}
-use Rattle.vortex_stats_select.specs.Leaves.{shown_by}
+use Rattle.vortex_stats_mask.specs.Columns.{shown}
 use Rattle.vortex_stats_select.proofs.LeafLemmas.{bools_shown, numbers_shown, strings_shown, heads_told}
 use Rattle.vortex_stats_select.proofs.leaves.leaf_of.Goals as goal
 
@@ -13,7 +13,7 @@ pub returns-in_ok-to_bools-in-Bool : goal.returns-in_ok-to_bools-in-Bool
 returns-in_ok-to_bools-in-Bool c =
     let same = sym c.layout.ensures.layout ∙ ap layout_of c.in-Bool.is in
     let o = c.in_ok-validity-in-Bool.validity in let bits = c.in-Bool.bits in
-    (λ i. shown_by o (map boolean ((c.in_ok-to_bools-in-Bool.ensures) i)))
+    (λ i. shown o (map boolean ((c.in_ok-to_bools-in-Bool.ensures) i)))
     ∙ bools_shown (valid_of c.in-Bool.validity) c.len.result o c.in_ok-validity-in-Bool.ensures bits (sym c.len.ensures)
     ∙ (λ i. rows_of (sym same i))
 
@@ -21,7 +21,7 @@ pub returns-in_ok-clone-in-Primitive : goal.returns-in_ok-clone-in-Primitive
 returns-in_ok-clone-in-Primitive c =
     let same = sym c.layout.ensures.layout ∙ ap layout_of c.in-Primitive.is in
     let o = c.in_ok-validity-in-Primitive.validity in let ns = c.in-Primitive.numbers in
-    (λ i. shown_by o (map integer (integers_of (c.in_ok-clone-in-Primitive.ensures.cases i))))
+    (λ i. shown o (map integer (integers_of (c.in_ok-clone-in-Primitive.ensures.cases i))))
     ∙ numbers_shown (valid_of c.in-Primitive.validity) c.len-in-Primitive.result o c.in_ok-validity-in-Primitive.ensures (kind_of_numbers ns) (integers_of ns) (sym c.len-in-Primitive.ensures.count)
     ∙ (λ i. rows_of (sym same i))
 
@@ -30,7 +30,7 @@ returns-in_ok-clone-in-VarBinView-2 c =
     let same = sym c.layout.ensures.layout ∙ ap layout_of c.in-VarBinView.is in
     let o = c.in_ok-validity-in-VarBinView.validity in let vs = c.in-VarBinView.views in
     let s = strings_of c.in-VarBinView.kind in let bs = c.in-VarBinView.buffers.value.items in
-    ap (shown_by o) (c.string_items-items.ensures.values ∙ (λ i. map (string_content s) (map (λ x. value_of x (c.in_ok-clone-in-VarBinView-2.ensures.cases i).items) (c.in_ok-clone-in-VarBinView.ensures.cases i))))
+    ap (shown o) (c.string_items-items.ensures.values ∙ (λ i. map (string_content s) (map (λ x. value_of x (c.in_ok-clone-in-VarBinView-2.ensures.cases i).items) (c.in_ok-clone-in-VarBinView.ensures.cases i))))
     ∙ strings_shown (valid_of c.in-VarBinView.validity) c.len-in-VarBinView.result o c.in_ok-validity-in-VarBinView.ensures s vs bs (sym c.len-in-VarBinView.ensures)
     ∙ (λ i. rows_of (sym same i))
 

@@ -5,7 +5,7 @@ use Rattle.vortex_arrays_buffer.specs.PrimitiveBuffers.{kind_of_numbers, integer
 use Rattle.vortex_arrays_view.specs.Views.{value_of}
 use Rattle.vortex_arrays_core.specs.LayoutOf.{layout_of, valid_of, strings_of}
 use Rattle.vortex_stats_mask.specs.Headed.{ViewsHaveHeads}
-use Rattle.vortex_stats_select.specs.Leaves.{shown_by}
+use Rattle.vortex_stats_mask.specs.Columns.{shown}
 use Rattle.vortex_stats_select.proofs.LeafLemmas.{numbers_shown, strings_shown, shared_told, heads_told}
 use Rattle.vortex_stats_select.proofs.leaves.shared_leaf.Goals as goal
 
@@ -14,7 +14,7 @@ returns-in_ok-clone-in-Primitive c =
     let same = sym c.layout.ensures.layout ∙ ap layout_of c.in-Primitive.is in
     let o = c.in-Some.validity in let ns = c.in-Primitive.numbers in
     let v = valid_of c.in-Primitive.validity in let n = c.len.result in
-    (λ i. shown_by o (map integer (integers_of (c.in_ok-clone-in-Primitive.ensures.cases i))))
+    (λ i. shown o (map integer (integers_of (c.in_ok-clone-in-Primitive.ensures.cases i))))
     ∙ numbers_shown v n o (shared_told v n c.in_ok-validity-in-Primitive.field-0 o c.in-Some.is c.in_ok-validity-in-Primitive.ensures)
     (kind_of_numbers ns) (integers_of ns) (sym c.len.ensures.count)
     ∙ (λ i. rows_of (sym same i))
@@ -25,7 +25,7 @@ returns-in_ok-clone-in-VarBinView-2 c =
     let o = c.in-Some-2.validity in let vs = c.in-VarBinView.views in
     let v = valid_of c.in-VarBinView.validity in let n = c.len-in-VarBinView.result in
     let s = strings_of c.in-VarBinView.kind in let bs = c.in-VarBinView.buffers.value.items in
-    ap (shown_by o) (c.string_items-items.ensures.values ∙ (λ i. map (string_content s) (map (λ x. value_of x (c.in_ok-clone-in-VarBinView-2.ensures.cases i).items) (c.in_ok-clone-in-VarBinView.ensures.cases i))))
+    ap (shown o) (c.string_items-items.ensures.values ∙ (λ i. map (string_content s) (map (λ x. value_of x (c.in_ok-clone-in-VarBinView-2.ensures.cases i).items) (c.in_ok-clone-in-VarBinView.ensures.cases i))))
     ∙ strings_shown v n o (shared_told v n c.in_ok-validity-in-VarBinView.field-0 o c.in-Some-2.is c.in_ok-validity-in-VarBinView.ensures)
     s vs bs (sym c.len-in-VarBinView.ensures)
     ∙ (λ i. rows_of (sym same i))

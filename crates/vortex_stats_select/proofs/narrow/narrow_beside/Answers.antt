@@ -14,4 +14,4 @@ returns-in-Some g c =
     let rows = g.S.Columns.rows c.args.columns.now in let ms = c.args.mask.now.items in
     let test = λ (d : Content). is_wanted c.args.want (compared (comparison_of c.args.comparison) d (content_at c.args.literal)) in
     c.narrow_wanted.ensures ∙ ap (λ ys. cond c.narrow_wanted.result (joined_rows c.args.at ms ys) ms)
-    (ap (map test) (c.as_column.ensures ∙ c.in-Some.ensures) ∙ through test (bound_value c.args.input.now) rows)
+    (ap (map test) c.in-Some.ensures ∙ through test (bound_value c.args.input.now) rows)

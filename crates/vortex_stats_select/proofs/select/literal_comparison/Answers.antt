@@ -15,7 +15,7 @@ pub returns-in-Some : goal.returns-in-Some
 returns-in-Some g c =
     let rows = g.S.Columns.rows c.args.columns.now in
     let test = λ (d : Content). is_wanted c.args.want (compared (comparison_of c.args.comparison) d (content_at c.args.literal)) in
-    c.told.ensures _ (IfOk-weaker c.compare_wanted.result _ _ (λ mask is. is ∙ ap (map test) (c.as_column.ensures ∙ c.in-Some.ensures)
+    c.told.ensures _ (IfOk-weaker c.compare_wanted.result _ _ (λ mask is. is ∙ ap (map test) c.in-Some.ensures
     ∙ through test (bound_value c.args.input.now) rows) c.compare_wanted.ensures)
 
 pub returns : goal.returns

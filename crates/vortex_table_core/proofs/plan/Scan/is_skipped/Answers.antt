@@ -1,6 +1,6 @@
 use Rattle.std.proofs.Common.{ap, ◌∙◌}
 use Rattle.std.specs.Prelude.{option_map}
-use Rattle.vortex_table_zonemaps.specs.Zone.{zone_proved}
+use Rattle.vortex_table_zonemaps.specs.Proved.{zone_proved}
 use Rattle.vortex_table_schema.specs.Leaves.{leaf_positions}
 use Rattle.vortex_table_core.specs.Plan.{table_in}
 use Rattle.vortex_table_core.proofs.Proven.{many_proved}
@@ -12,5 +12,5 @@ returns-in-Some c =
     λ chunks formed group.
     many_proved plan c.requires c.args.group.now chunks formed group _ c.in-Some.bounds.items c.proves.result
     (ap (option_map (λ v. v.items)) c.in-Some.is) group.statistics
-    (c.proves.ensures ∙ ap (λ bounds. zone_proved (leaf_positions k) bounds c.args.group.now.rows plan.falsifier) c.as_slice.ensures.value
+    (c.proves.ensures ∙ ap (λ bounds. zone_proved bounds c.args.group.now.rows plan.falsifier) c.as_slice.ensures.value
     ∙ c.requires.falsifier c.in-Some.bounds.items c.args.group.now.rows)

@@ -1,6 +1,6 @@
 use Rattle.std.proofs.Common.{◌∙◌}
 use Rattle.vortex_arrays_model.specs.Layout.{len_of}
-use Rattle.vortex_table_zonemaps.specs.Zone.{zone_proved}
+use Rattle.vortex_table_zonemaps.specs.Proved.{zone_proved}
 use Rattle.vortex_table_schema.specs.Leaves.{leaf_positions}
 use Rattle.vortex_table_core.specs.Plan.{table_in}
 use Rattle.vortex_table_core.proofs.Proven.{outcome_skipped, outcome_whole, outcome_tested}
@@ -17,11 +17,11 @@ returns-then-satisfied c =
     let plan = c.args.self.now in let k = (table_in plan).kind in
     outcome_whole plan c.requires.plan c.args.chunk.now c.requires.formed c.args.falsified c.proves-satisfied.result
     (c.requires.falsified ∙ c.requires.plan.falsifier c.args.chunk.now.bounds.items (len_of c.args.chunk.now.array))
-    (c.proves-satisfied.ensures ∙ (λ i. zone_proved (leaf_positions k) (c.as_slice-bounds.ensures.value i) (c.args.chunk.now.counted i) plan.satisfier) ∙ c.requires.plan.satisfier c.args.chunk.now.bounds.items (len_of c.args.chunk.now.array)) c.if-falsified.false c.if-satisfied.true
+    (c.proves-satisfied.ensures ∙ (λ i. zone_proved (c.as_slice-bounds.ensures.value i) (c.args.chunk.now.counted i) plan.satisfier) ∙ c.requires.plan.satisfier c.args.chunk.now.bounds.items (len_of c.args.chunk.now.array)) c.if-falsified.false c.if-satisfied.true
 
 pub returns : goal.returns
 returns c =
     let plan = c.args.self.now in let k = (table_in plan).kind in
     outcome_tested plan c.requires.plan c.args.chunk.now c.requires.formed c.args.falsified c.proves-satisfied.result
     (c.requires.falsified ∙ c.requires.plan.falsifier c.args.chunk.now.bounds.items (len_of c.args.chunk.now.array))
-    (c.proves-satisfied.ensures ∙ (λ i. zone_proved (leaf_positions k) (c.as_slice-bounds.ensures.value i) (c.args.chunk.now.counted i) plan.satisfier) ∙ c.requires.plan.satisfier c.args.chunk.now.bounds.items (len_of c.args.chunk.now.array)) c.if-falsified.false c.if-satisfied.false
+    (c.proves-satisfied.ensures ∙ (λ i. zone_proved (c.as_slice-bounds.ensures.value i) (c.args.chunk.now.counted i) plan.satisfier) ∙ c.requires.plan.satisfier c.args.chunk.now.bounds.items (len_of c.args.chunk.now.array)) c.if-falsified.false c.if-satisfied.false

@@ -12,7 +12,8 @@ use Rattle.vortex_table_chunk.specs.Formed.{is_formed, eq_leaves, are_lengths_of
 use Rattle.vortex_table_chunk.specs.Joined.{rows_in}
 use Rattle.vortex_table_chunk.proofs.ClonedLemmas.{all_own_formed, own_rows}
 use Rattle.vortex_table_chunk.proofs.TypedRows.{all_counted}
-use Rattle.vortex_table_zonemaps.specs.Zones.{zone_of, AreZoneMaps}
+use Rattle.vortex_table_zonemaps.specs.Stats.{zone_of}
+use Rattle.vortex_table_zonemaps.specs.Zones.{AreZoneMaps}
 use Rattle.vortex_table_core.specs.Group.{AreGroups}
 use Rattle.vortex_table_core.specs.TableView.{table_of}
 use Rattle.vortex_table_core.proofs.ClonedLemmas.{IsSameGroup, all_same, groups_same, own_arrays, own_bounds, own_groups, own_sizes, own_statistics}

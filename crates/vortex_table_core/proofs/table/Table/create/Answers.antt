@@ -4,7 +4,8 @@ use Rattle.vortex_dtype_core.specs.View.{type_of}
 use Rattle.vortex_table_chunk.specs.Chunk.{row_count}
 use Rattle.vortex_table_schema.specs.Leaves.{leaf_positions}
 use Rattle.vortex_table_schema.specs.Lengths.{length_in}
-use Rattle.vortex_table_zonemaps.specs.Zones.{zone_of, AreZoneMaps}
+use Rattle.vortex_table_zonemaps.specs.Stats.{zone_of}
+use Rattle.vortex_table_zonemaps.specs.Zones.{AreZoneMaps}
 use Rattle.vortex_table_core.specs.Group.{AreGroups}
 use Rattle.vortex_table_chunk.specs.Formed.{is_formed}
 use Rattle.vortex_table_chunk.proofs.EqualLeaves.{leaves_same}

@@ -14,7 +14,8 @@ use Rattle.vortex_table_chunk.specs.declared.chunk.Chunk.{Chunk}
 use Rattle.vortex_table_chunk.proofs.EqualLeaves.{leaves_so}
 use Rattle.vortex_table_chunk.proofs.Formed.{lengths_so, formed_so}
 use Rattle.vortex_table_schema.specs.Lengths.{length_in}
-use Rattle.vortex_table_zonemaps.specs.Zones.{zone_of, AreZoneMaps}
+use Rattle.vortex_table_zonemaps.specs.Stats.{zone_of}
+use Rattle.vortex_table_zonemaps.specs.Zones.{AreZoneMaps}
 use Rattle.vortex_table_core.specs.Group.{AreGroups}
 use Rattle.vortex_table_core.specs.TableView.{table_of}
 use Rattle.vortex_table_core.specs.declared.group.Group.{Group}

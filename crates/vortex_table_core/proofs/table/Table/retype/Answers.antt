@@ -12,7 +12,8 @@ use Rattle.vortex_table_chunk.proofs.Formed.{lengths_same}
 use Rattle.vortex_table_chunk.specs.declared.chunk.Chunk.{Chunk}
 use Rattle.vortex_table_schema.specs.Lengths.{length_in}
 use Rattle.vortex_table_schema.proofs.Explained.{none_so, none_both}
-use Rattle.vortex_table_zonemaps.specs.Zones.{zone_of, AreZoneMaps}
+use Rattle.vortex_table_zonemaps.specs.Stats.{zone_of}
+use Rattle.vortex_table_zonemaps.specs.Zones.{AreZoneMaps}
 use Rattle.vortex_table_core.specs.TableView.{table_of}
 use Rattle.vortex_table_core.proofs.Merged.{groups_in_order}
 use Rattle.vortex_table_core.proofs.OwnType.{chunks_convert}

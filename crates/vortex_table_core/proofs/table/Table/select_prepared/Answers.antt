@@ -2,7 +2,7 @@ use Rattle.std.proofs.Common.{◌≡◌, ap, subst, ◌∙◌}
 use Rattle.vortex_dtype_core.specs.View.{type_of}
 use Rattle.vortex_table_schema.specs.Leaves.{leaf_positions}
 use Rattle.vortex_table_chunk.proofs.EqualLeaves.{leaves_so}
-use Rattle.vortex_table_zonemaps.specs.Zone.{IsResolved}
+use Rattle.vortex_table_zonemaps.specs.Proved.{IsResolved}
 use Rattle.vortex_table_core.proofs.table.Table.select_prepared.Goals as goal
 
 pub run-requires : goal.run-requires

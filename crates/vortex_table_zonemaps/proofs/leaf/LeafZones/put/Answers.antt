@@ -1,5 +1,6 @@
 use Rattle.vortex_model_table.specs.Expression.{min, max, null_count}
-use Rattle.vortex_table_zonemaps.specs.Zones.{leaf_stat}
+use Rattle.vortex_table_zonemaps.specs.Stats.{leaf_stat}
+use Rattle.vortex_stats_bind.specs.OperandValue.{operand_value}
 use Rattle.vortex_table_zonemaps.proofs.Held.{zones_kept, zone_put, as_told}
 use Rattle.vortex_table_zonemaps.proofs.leaf.LeafZones.put.Goals as goal
 
@@ -38,10 +39,10 @@ returns-clause-kept c = λ j zones many is.
 pub returns-clause-put : goal.returns-clause-put
 returns-clause-put c = λ j zones zone many at rows is.
     let old = c.args.self.now in let n = c.args.count in record {
-      lows = zone_put (leaf_stat j min) n old.lows c.put.new.self zones many c.entry_in-low.result zone c.in_ok-put.ensures.put
-          (as_told c.entry_in-low.result j zone _ c.args.rows min at rows c.entry_in-low.ensures) is.lows;
-      highs = zone_put (leaf_stat j max) n old.highs c.put-2.new.self zones many c.entry_in-high.result zone c.in_ok-put-2.ensures.put
-          (as_told c.entry_in-high.result j zone _ c.args.rows max at rows c.entry_in-high.ensures) is.highs;
-      null_counts = zone_put (leaf_stat j null_count) n old.null_counts c.put-3.new.self zones many c.entry_in-null_count.result zone c.in_ok-put-3.ensures.put
-          (as_told c.entry_in-null_count.result j zone _ c.args.rows null_count at rows c.entry_in-null_count.ensures) is.null_counts;
+      lows = zone_put (leaf_stat j min) n old.lows c.put.new.self zones many (operand_value c.statistic_in-low.result) zone c.in_ok-put.ensures.put
+          (as_told (operand_value c.statistic_in-low.result) j zone _ c.args.rows min at rows c.statistic_in-low.ensures) is.lows;
+      highs = zone_put (leaf_stat j max) n old.highs c.put-2.new.self zones many (operand_value c.statistic_in-high.result) zone c.in_ok-put-2.ensures.put
+          (as_told (operand_value c.statistic_in-high.result) j zone _ c.args.rows max at rows c.statistic_in-high.ensures) is.highs;
+      null_counts = zone_put (leaf_stat j null_count) n old.null_counts c.put-3.new.self zones many (operand_value c.statistic_in-null_count.result) zone c.in_ok-put-3.ensures.put
+          (as_told (operand_value c.statistic_in-null_count.result) j zone _ c.args.rows null_count at rows c.statistic_in-null_count.ensures) is.null_counts;
     }

@@ -1,6 +1,7 @@
 use Rattle.std.proofs.Common.{◌≡◌, sym, ap, subst, ◌∙◌, ◌++◌, ◌∷◌, [], length, map, take, drop, arith}
 use Rattle.std.proofs.lemmas.List.{length-map, length-take, map_more, take_all}
-use Rattle.vortex_table_zonemaps.specs.Zones.{zone_of, AreZoneMaps}
+use Rattle.vortex_table_zonemaps.specs.Stats.{zone_of}
+use Rattle.vortex_table_zonemaps.specs.Zones.{AreZoneMaps}
 use Rattle.vortex_table_zonemaps.proofs.zone_maps.ZoneMaps.of_chunks.Goals as goal
 
 pub loop-index-preserved : goal.loop-index-preserved

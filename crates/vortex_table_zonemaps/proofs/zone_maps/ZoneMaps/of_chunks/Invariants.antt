@@ -1,5 +1,6 @@
 use Rattle.std.proofs.Common.{map, take}
-use Rattle.vortex_table_zonemaps.specs.Zones.{zone_of, AreZoneMaps}
+use Rattle.vortex_table_zonemaps.specs.Stats.{zone_of}
+use Rattle.vortex_table_zonemaps.specs.Zones.{AreZoneMaps}
 use Rattle.vortex_table_zonemaps.proofs.zone_maps.ZoneMaps.of_chunks.Given as goal
 
 abbrev pub invariant-loop-index : goal.invariant-loop-index

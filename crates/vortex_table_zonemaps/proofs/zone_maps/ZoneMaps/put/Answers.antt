@@ -1,4 +1,5 @@
-use Rattle.vortex_table_zonemaps.specs.Zones.{rows_stat}
+use Rattle.std.proofs.Common.{refl}
+use Rattle.vortex_table_zonemaps.specs.Stats.{rows_stat}
 use Rattle.vortex_table_zonemaps.proofs.Held.{zones_kept, zone_put}
 use Rattle.vortex_table_zonemaps.proofs.zone_maps.ZoneMaps.put.Goals as goal
 
@@ -23,5 +24,5 @@ returns-clause-kept c = λ zones many is. record {
 pub returns-clause-put : goal.returns-clause-put
 returns-clause-put c = λ zones many is. record {
   leaves = c.in_ok-put_leaves.ensures.put zones many is.leaves;
-  rows = zone_put rows_stat c.args.count c.args.self.now.rows c.put.new.self zones many c.count_entry.result (c.args.bounds.now, c.args.rows) c.in_ok-put.ensures.put c.count_entry.ensures is.rows;
+  rows = zone_put rows_stat c.args.count c.args.self.now.rows c.put.new.self zones many (rows_stat (c.args.bounds.now, c.args.rows)) (c.args.bounds.now, c.args.rows) c.in_ok-put.ensures.put refl is.rows;
 }

@@ -1,0 +1,128 @@
+-- Columns, step by step.
+use Rattle.std.proofs.Common.{◌≡◌, ◌+◌, ◌<◌, ◌≤◌, ◌++◌, ℕ, suc, add-one, List, [], ◌∷◌, length, get_or, drop, drop-cons, Option, Some, None, option_map, refl, sym, ap, ◌∙◌, subst, append_assoc, append-nil}
+use Rattle.std.proofs.lemmas.List.{drop_all}
+use Rattle.std.specs.Prelude.{option_and_then, is_some}
+use Rattle.std.specs.Option.{unwrap_or}
+use Rattle.vortex_model.specs.LogicalType.{LogicalType, null_only, boolean_type, integer_type, float, decimal, utf8, binary, list, fixed_list, mapping, struct, union, variant, extension, Nullability, non_nullable, nullable, nullability_of, either_nullable, with_nullability, nullable_inside}
+use Rattle.vortex_model.specs.Path.{Names, Positions, positions, position_in, part_at, type_at, type_of_column}
+use Rattle.vortex_model_table.specs.Command.{part_named}
+use Rattle.vortex_model_table.specs.Expression.{column}
+use Rattle.vortex_model_rules.specs.Faults.{unless, unknown_column, binding_fault}
+use Rattle.vortex_stats_expr.proofs.Classes.{positions-stop, positions-step, type_of_column-step}
+use Rattle.vortex_stats_bind.specs.Bound.{Bound, place, bound_of, column_at}
+use Rattle.vortex_stats_bind.specs.Bindings.{IsBound}
+
+-- ---- nullability on the way
+
+abbrev plain : LogicalType → LogicalType
+plain k = with_nullability nullable k
+
+plain-plain : (k : LogicalType) → plain (plain k) ≡ plain k
+plain-plain (extension x m k) = ap (extension x m) (plain-plain k)
+plain-plain k = refl
+
+-- inside two records, as inside one that has null where one of them has
+pub inside_both : (n m : Nullability) (o : Option LogicalType) →
+    option_map (nullable_inside n) (option_map (nullable_inside m) o) ≡ option_map (nullable_inside (either_nullable n m)) o
+inside_both n m None = refl
+inside_both non_nullable non_nullable (Some k) = refl
+inside_both non_nullable nullable (Some k) = refl
+inside_both nullable non_nullable (Some k) = refl
+inside_both nullable nullable (Some k) = ap Some (plain-plain k)
+
+pub inside_none : (o : Option LogicalType) → option_map (nullable_inside non_nullable) o ≡ o
+inside_none None = refl
+inside_none (Some k) = refl
+
+own_null : (k : LogicalType) → with_nullability (nullability_of k) k ≡ k
+own_null (extension x m k) = ap (extension x m) (own_null k)
+own_null k = refl
+
+-- where a type has null of its own
+by_own : (k : LogicalType) (m : Nullability) → with_nullability (either_nullable m nullable) k ≡ plain k
+by_own k nullable = refl
+by_own k non_nullable = refl
+
+with_outer : (k : LogicalType) (m : Nullability) → m ≡ nullability_of k → with_nullability (either_nullable m non_nullable) k ≡ k
+with_outer k nullable p = ap (λ n. with_nullability n k) p ∙ own_null k
+with_outer k non_nullable p = ap (λ n. with_nullability n k) p ∙ own_null k
+
+-- null of its own, or of a record around it
+inside_one : (n : Nullability) (k : LogicalType) → with_nullability (either_nullable (nullability_of k) n) k ≡ nullable_inside n k
+inside_one nullable k = by_own k (nullability_of k)
+inside_one non_nullable k = with_outer k (nullability_of k) refl
+
+-- ---- the walk along the names
+
+-- the walk is at a part, behind these positions and inside records that have null or not
+pub record IsAt (k : LogicalType) (names : Names) (part : LogicalType) (n : Nullability) (before : Positions) (rest : Names) : Type 0 where
+  pub behind : option_map (λ is. before ++ is) (positions part rest) ≡ positions k names
+  pub inside : option_map (nullable_inside n) (type_of_column part rest) ≡ type_of_column k names
+
+same_positions : (o : Option Positions) → option_map (λ is. [] ++ is) o ≡ o
+same_positions None = refl
+same_positions (Some is) = refl
+
+pub at_start : (k : LogicalType) (names : Names) → IsAt k names k non_nullable [] names
+at_start k names = record { behind = same_positions (positions k names); inside = inside_none (type_of_column k names) }
+
+one_more : (before : Positions) (i : ℕ) (o : Option Positions) → option_map (λ is. (before ++ i ∷ []) ++ is) o ≡ option_map (λ is. before ++ is) (option_map (λ is. i ∷ is) o)
+one_more before i None = refl
+one_more before i (Some is) = ap Some (append_assoc before (i ∷ []) is)
+
+step : (k : LogicalType) (names : Names) (part next : LogicalType) (n : Nullability) (before : Positions) (i : ℕ) (x : List ℕ) (rest : Names) →
+    position_in part x ≡ Some i → part_at part i ≡ Some next → IsAt k names part n before (x ∷ rest) →
+    IsAt k names next (either_nullable n (nullability_of part)) (before ++ i ∷ []) rest
+step k names part next n before i x rest p q a = record {
+  behind = one_more before i (positions next rest) ∙ ap (option_map (λ is. before ++ is)) (sym (positions-step part next i x rest p q)) ∙ a.behind;
+  inside = sym (inside_both n (nullability_of part) (type_of_column next rest))
+      ∙ ap (option_map (nullable_inside n)) (sym (type_of_column-step part next i x rest p q)) ∙ a.inside;
+}
+
+first_of : (ds : Names) (i : ℕ) (x : List ℕ) → i < length ds → x ≡ get_or ds i x → drop i ds ≡ x ∷ drop (i + 1) ds
+first_of ds i x within at = drop-cons ds i x within ∙ ap (λ y. y ∷ drop (suc i) ds) (sym at) ∙ ap (λ m. x ∷ drop m ds) (sym (add-one i))
+
+pub at_next : (k : LogicalType) (names : Names) (part next : LogicalType) (n m r : Nullability) (before after : Positions) (i : ℕ) (x : List ℕ) (ds : Names) (j : ℕ) →
+    j < length ds → x ≡ get_or ds j x → position_in part x ≡ Some i → part_at part i ≡ Some next → m ≡ nullability_of part → r ≡ either_nullable n m →
+    after ≡ before ++ i ∷ [] → IsAt k names part n before (drop j ds) → IsAt k names next r after (drop (j + 1) ds)
+at_next k names part next n m r before after i x ds j within at p q own joined grown a =
+    subst (λ is. IsAt k names next r is (drop (j + 1) ds)) (sym grown)
+    (subst (λ s. IsAt k names next s (before ++ i ∷ []) (drop (j + 1) ds)) (sym (joined ∙ ap (either_nullable n) own))
+    (step k names part next n before i x (drop (j + 1) ds) p q (subst (IsAt k names part n before) (first_of ds j x within at) a)))
+
+-- no part has the name
+pub leads_nowhere : (k : LogicalType) (names : Names) (part : LogicalType) (n : Nullability) (before : Positions) (x : List ℕ) (ds : Names) (j : ℕ) →
+    j < length ds → x ≡ get_or ds j x → part_named part x ≡ None → IsAt k names part n before (drop j ds) → positions k names ≡ None
+leads_nowhere k names part n before x ds j within at none a =
+    sym a.behind ∙ ap (λ ys. option_map (λ is. before ++ is) (positions part ys)) (first_of ds j x within at)
+    ∙ ap (option_map (λ is. before ++ is)) (positions-stop part x (drop (j + 1) ds) none)
+
+pub record IsFound (k : LogicalType) (names : Names) (is : Positions) (t : LogicalType) : Type 0 where
+  pub stands : positions k names ≡ Some is
+  pub typed : type_of_column k names ≡ Some t
+
+-- the names are over
+pub at_end : (k : LogicalType) (names : Names) (part : LogicalType) (n : Nullability) (before : Positions) (ds : Names) (j : ℕ) (t : LogicalType) →
+    length ds ≤ j → t ≡ with_nullability (either_nullable (nullability_of part) n) part → IsAt k names part n before (drop j ds) → IsFound k names before t
+at_end k names part n before ds j t past made a =
+    let b : IsAt k names part n before [] = subst (IsAt k names part n before) (drop_all j ds past) a in
+    record { stands = sym b.behind ∙ ap Some (append-nil before); typed = sym b.inside ∙ ap Some (sym (made ∙ inside_one n part)) }
+
+-- ---- bound columns
+
+found_at : (k : LogicalType) (names : Names) (is : Positions) (t : LogicalType) → IsFound k names is t → place names is t ≡ column_at k names (positions k names)
+found_at k names is t f =
+    sym (ap (λ (o : Option LogicalType). place names is (unwrap_or o null_only)) (ap (option_and_then (type_at k)) (sym f.stands) ∙ f.typed))
+    ∙ ap (column_at k names) (sym f.stands)
+
+pub column_bound : (k : LogicalType) (names xs : Names) (is : Positions) (t : LogicalType) → xs ≡ names → positions k names ≡ Some is → type_of_column k names ≡ Some t →
+    IsBound k (column names) (place xs is t)
+column_bound k names xs is t same p q = record {
+  tree = ap (λ ys. place ys is t) same ∙ found_at k names is t (record { stands = p; typed = q });
+  faultless = ap (λ (o : Option LogicalType). unless (is_some o) unknown_column) q;
+}
+
+pub column_unknown : (k : LogicalType) (names : Names) → positions k names ≡ None → binding_fault k (column names) ≡ Some unknown_column
+column_unknown k names p = ap (λ o. unless (is_some (option_and_then (type_at k) o)) unknown_column) p
+
+pub ruleset columns = (column_bound, column_unknown)

@@ -1,9 +1,0 @@
-use Rattle.std.proofs.Common.{◌≡◌, length}
-use Rattle.vortex_model_table.specs.Rewrite.{joined_proofs}
-use Rattle.vortex_stats_rewrite.proofs.joined.join_proofs.Given as goal
-
-abbrev pub invariant-loop-alloc : goal.invariant-loop-alloc
-invariant-loop-alloc l = joined_proofs l.left.items ≡ joined_proofs l.fn.proofs.items
-
-abbrev pub decreases-loop-alloc : goal.decreases-loop-alloc
-decreases-loop-alloc l = length l.left.items
