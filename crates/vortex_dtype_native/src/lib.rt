@@ -1,4 +1,5 @@
-//! Native numbers, their kinds and their bytes.
+//! Native integers as traits with their primitive types and little-endian bytes, and the macros and
+//! visitors that call by a primitive type known only at run time.
 #![tactic(auto)]
 
 pub mod by_kind;
