@@ -35,7 +35,7 @@ impl PartialOrd for BoolScalar<'_> {
     }
 }
 
-/// Texts stand byte by byte, and then by length.
+/// In lexicographic order of bytes.
 impl Ord for Utf8Scalar<'_> {
     ghost cmp = { texts_cmp };
 
@@ -60,7 +60,7 @@ impl PartialOrd for Utf8Scalar<'_> {
     }
 }
 
-/// Bytes stand one by one, and then by how many they are.
+/// In lexicographic order.
 impl Ord for BinaryScalar<'_> {
     ghost cmp = { bytes_cmp };
 
@@ -85,7 +85,7 @@ impl PartialOrd for BinaryScalar<'_> {
     }
 }
 
-/// Numbers stand as whole numbers. Numbers of types that differ beyond nullability don't compare.
+/// In numeric order. Integers whose types differ in more than nullability don't compare.
 impl PartialOrd for PrimitiveScalar<'_> {
     ghost partial_cmp = { numbers_cmp };
 
