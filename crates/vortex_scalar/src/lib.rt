@@ -1,5 +1,5 @@
-//! Values of columns: raw values, values with their type, their validity, conversion and order, and
-//! shortened bounds.
+//! Scalars of columns: values with and without their types, their validity, casts, order,
+//! constructors, views, iterators, laws and shortened bounds, which are the items of eight crates.
 #![tactic(auto)]
 
 pub mod laws;
