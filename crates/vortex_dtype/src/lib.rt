@@ -1,5 +1,5 @@
 //! The logical types of columns and their parts: field names, decimals, native integers, paths,
-//! messages and laws, which are the items of seven crates.
+//! messages, and laws of all of these.
 #![tactic(auto)]
 
 pub mod laws;

@@ -59,7 +59,7 @@ impl ExtDTypeRef {
         &self.data.id
     }
 
-    /// The serialized metadata, which tells extensions of one id apart.
+    /// The serialized metadata, in which extensions of one id differ.
     #[tactic(auto, using(crate::proofs::Views::one_level))]
     pub fn serialize_metadata(&self) -> &ByteBuffer
         ensures { result.now ≡ metadata_of (extension_type self.now) }

@@ -11,7 +11,7 @@ use vortex_dtype_ptype::error::DTypeError;
 
 /// What a program knows of the extensions of one id, as Vortex's `ExtVTable`.
 pub trait ExtVTable: Drop {
-    /// The decoded metadata, which tells extensions of the id apart.
+    /// The decoded metadata, in which extensions of the id differ.
     type Metadata: Drop;
 
     ghost name: { Self → List ℕ };

@@ -28,7 +28,7 @@ impl Model for FieldName {
 }
 
 impl FieldName {
-    /// Copies the text.
+    /// Copies the string.
     pub fn new(alloc: Global, text: &str) -> Result<FieldName, AllocError>
         ensures { IfOk result (λ name. name ≡ text.now) }
     {
@@ -42,7 +42,7 @@ impl FieldName {
         self.text.as_str()
     }
 
-    /// The shared string behind the name.
+    /// The shared string.
     pub fn inner(&self) -> &ByteStr
         ensures { result.now ≡ self.now }
     {
@@ -64,7 +64,7 @@ impl AsStr for FieldName {
     }
 }
 
-/// Copies the text.
+/// Copies the string.
 impl TryFrom<(Global, &str)> for FieldName {
     type Error = AllocError;
 
@@ -75,7 +75,7 @@ impl TryFrom<(Global, &str)> for FieldName {
     }
 }
 
-/// Takes over the text, and copies no byte.
+/// Takes over the string, and copies no byte.
 impl TryFrom<String> for FieldName {
     type Error = AllocError;
 
@@ -87,7 +87,7 @@ impl TryFrom<String> for FieldName {
     }
 }
 
-/// Shares the text, and copies no byte.
+/// Shares the string, and copies no byte.
 impl From<ByteStr> for FieldName {
     ghost from_gives = { λ text name. name ≡ text };
 

@@ -165,7 +165,7 @@ module _ (t : Table) (e : Expression) (sound : FalsifiesRightly t.kind e) where
       filter-append (selects t.kind e) c (flat_map (λ chunk. chunk) cs)
       ∙ (λ i. found_rightly c h.0 i ++ all_found cs h.1 i)
 
-  -- the same with the rows of one more chunk
+  -- the selected rows of one more chunk are what a scan takes of it
   pub found_next : (chunks : List (List Content)) (i : ℕ) (d : List Content) → i < length chunks → AllByRecursion (λ chunk. AllByRecursion (IsContent t.kind) chunk) chunks →
       filter (selects t.kind e) (flat_map (λ c. c) (take (i + 1) chunks))
       ≡ filter (selects t.kind e) (flat_map (λ c. c) (take i chunks)) ++ found_in (selects t.kind e) (chunk_outcome t e (get_or chunks i d)) (get_or chunks i d)

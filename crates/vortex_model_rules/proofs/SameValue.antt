@@ -1,5 +1,5 @@
--- The value of a predicate that a scan accepts is a boolean or null, so it stays the same where its
--- NOTs are pushed inward.
+-- The value of a predicate that a scan accepts is a boolean or null, so pushing NOTs inward doesn't
+-- change it.
 use Rattle.std.proofs.Common.{◌≡◌, refl, sym, ◌∙◌, Bool, true, false, not, ◌||◌, if◌then◌else◌, Option, Some, None}
 use Rattle.std.specs.Prelude.{option_and_then}
 use Rattle.std.specs.declared.cmp.Ordering.{Ordering}

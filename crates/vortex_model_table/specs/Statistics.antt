@@ -12,8 +12,8 @@ pub data Precision (A : Type 0) : Type 0 where
   inexact : A → Precision A
   absent : Precision A
 
--- What may be known of a list of values: the least and the greatest, the sum, the counts of nulls
--- and NaNs, the size in bytes, whether all are one value, and whether they are sorted, and
+-- What may be known about a list of values: the least and the greatest, the sum, the counts of
+-- nulls and NaNs, the size in bytes, whether all are one value, and whether they are sorted, and
 -- strictly.
 pub record Statistics : Type 0 where
   pub least : Precision Content

@@ -1,5 +1,5 @@
-//! Scalars of columns: values with and without their types, their validity, casts, order,
-//! constructors, views, iterators, laws and shortened bounds, which are the items of eight crates.
+//! Values of columns with and without their types: validity, casts, order, constructors, views,
+//! iterators, shortened bounds, and laws of all of these.
 #![tactic(auto)]
 
 pub mod laws;
