@@ -18,7 +18,13 @@ import sources
 
 PAGE = os.path.join(sources.TOP, "docs", "WORDS.md")
 # The members, crates and pages that keep to the words: it grows until it names all of them.
-DONE = ("vortex_model", "vortex_dtype", "vortex_scalar")
+DONE = (
+    "vortex_model",
+    "vortex_dtype",
+    "crates/vortex_dtype/CALLING.md",
+    "vortex_scalar",
+    "crates/vortex_scalar/CALLING.md",
+)
 # A line up to the mark of a comment, and the comment. In Rust a text or a character may have the
 # mark in it.
 COMMENTS = {
