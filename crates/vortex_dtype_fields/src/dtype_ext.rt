@@ -27,8 +27,8 @@ pub trait DTypeExt {
     fn eq_with_nullability_superset(&self, other: &Self) -> bool
         ensures { IsTrue result ↔ FitsInto (kind other.now) (kind self.now) };
 
-    /// The bytes of a value, and `None` where values differ in it. `DTypeError::Width` where these
-    /// bytes, or those of a part that they are summed from, are 2^64 or more.
+    /// The size of a value in bytes, and `None` where values differ in size. `DTypeError::Width`
+    /// where this size, or that of a part it is summed from, is 2^64 or more.
     fn element_size(&self) -> Result<Option<usize>, DTypeError>
         ensures size { IfOk result (λ size. size ≡ width_of (kind self.now)) }
         ensures counted { OnOk result (is_fixed (kind self.now) ≡ true

@@ -66,8 +66,8 @@ impl DecimalDType {
     pub fn required_bit_width(&self) -> usize
         ensures { IsBitsOfDigits self.now.precision result }
     {
-        // A digit takes slightly more than 485/146 bits. Up to 76 digits no integer is between the
-        // two products, so rounding up gives the exact width.
+        // A digit takes log2(10) bits, which is slightly more than 485/146. Up to 76 digits no
+        // integer is between the digits times either, so rounding up gives the exact width.
         (usize::from(self.precision) * 485).div_ceil(146)
     }
 }

@@ -1,4 +1,4 @@
-//! Laws over the definitions alone. No function here has a body: the law is its clause.
+//! Laws over the definitions alone, each as the clause of a function with an empty body.
 ghost use Rattle.vortex_model.specs.Laws.{ConversionsCompose, ConversionsAreValid, ValidValuesAreContents, ContentsHaveRawValues, TestsOfValidityAreRight, TestsOfConversionAreRight, TestsOfEqualityAreRight};
 
 /// Conversion is transitive.

@@ -2,7 +2,7 @@
 use Rattle.std.proofs.Common.{◌≡◌, refl, Bool, true, false, Option, Some, None, if◌then◌else◌}
 use Rattle.vortex_model.specs.Refusal.{Refusal, or_else}
 
--- where two faults come to none, neither is there
+-- where the first of two faults is none, neither is one
 pub first_none : (p q : Option Refusal) → or_else p q ≡ None → p ≡ None
 first_none None q e = refl
 first_none (Some r) q e = absurd (cc (e))

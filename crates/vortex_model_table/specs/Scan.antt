@@ -123,7 +123,7 @@ abbrev pub is_in_group : Outcome → Bool
 is_in_group skipped_in_group = true
 is_in_group o = false
 
--- the indexes of the chunks whose outcome passes, from i on
+-- the indexes, counted from i, of the chunks whose outcome passes
 abbrev pub numbers : (Outcome → Bool) → ℕ → List Outcome → List ℕ
 numbers p i [] = []
 numbers p i (o ∷ os) = if p o then i ∷ numbers p (suc i) os else numbers p (suc i) os

@@ -1,4 +1,4 @@
-//! A law over the definitions alone: the function has no body, and the law is its clause.
+//! A law over the definitions alone, as the clause of a function with an empty body.
 ghost use Rattle.vortex_model_table.specs.ZoneLaws.{EqualityOfContentsIsRight};
 
 /// The test `equal_content` passes exactly the contents that are equal.

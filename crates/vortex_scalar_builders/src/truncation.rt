@@ -49,8 +49,9 @@ pub trait ScalarTruncation: Sized {
     fn lower_bound(self, max_length: usize) -> Self
         ensures { IsLow (said (bytes self)) max_length (said (bytes result)) };
 
-    /// A bound of at most `max_length` bytes that is not below the value: for bytes the least, for
-    /// strings the lower bound raised. `None` where there is none.
+    /// A bound of at most `max_length` bytes that is not below the value: the value itself where it
+    /// fits, for longer bytes the least, for a longer string the lower bound raised. `None` where
+    /// there is none.
     fn upper_bound(self, alloc: Global, max_length: usize) -> Result<Option<Self>, ScalarError>
         ensures bound { IfOk result
             (λ high. IsHigh (said (bytes self)) max_length

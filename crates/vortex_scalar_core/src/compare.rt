@@ -15,8 +15,8 @@ use vortex_scalar_ops::hash::hash_value;
 impl Scalar {
     ghost use Rattle.vortex_scalar_core.specs.Scalar.{scalar_type, scalar_content};
 
-    /// Whether the types are equal up to nullability, and the values are too in the types of
-    /// variants' values. Allocates nothing.
+    /// Whether the types are equal up to nullability, and the values are equal, up to nullability
+    /// in the types of variants' values. Allocates nothing.
     pub fn eq_ignore_nullability(&self, other: &Scalar) -> bool
         ensures { result ≡ eq_scalar self.now other.now }
     {
