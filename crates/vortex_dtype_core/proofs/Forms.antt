@@ -1,4 +1,5 @@
--- The variants of types: a type that is made as none of the forms of a variant has another variant.
+-- The forms of types, one for each variant of `DType`: a type that no case of a form makes has
+-- another form.
 use Rattle.std.proofs.Common.{◌≡◌, ℕ, Bool, true, false, refl, sym, ap, subst, ◌∙◌, rules}
 use Rattle.std.specs.declared.rc.Rc.{Rc}
 use Rattle.std.specs.declared.alloc.Global.{Global}

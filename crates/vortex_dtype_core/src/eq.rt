@@ -11,7 +11,7 @@ use crate::map_dtype::MapDType;
 use crate::struct_fields::{StructField, StructFields};
 use crate::union_variants::{UnionVariant, UnionVariants};
 
-/// Equal with all names, orders and nullabilities, at every level.
+/// Names, orders and nullabilities count, at every level.
 impl PartialEq for DType {
     ghost eq = { eq_dtype };
 

@@ -1,4 +1,4 @@
-//! Tests for the variant of a type.
+//! Tests for the kind of a type.
 ghost use Rattle.std.specs.Prelude.{◌≡◌};
 ghost use Rattle.vortex_model.specs.Kept.{is_leaf};
 ghost use Rattle.vortex_dtype_core.specs.View.{type_of};

@@ -1,5 +1,5 @@
-//! The parts of a type. Those in `_opt` are `None` for types of another variant, and the others
-//! require the variant.
+//! The parts of a type. Calls with `_opt` return `None` for types of another kind, and the others
+//! require the kind.
 ghost use Rattle.std.specs.Prelude.{◌≡◌, Some, IsTrue, option_map};
 ghost use Rattle.vortex_model.specs.LogicalType.{stored};
 ghost use Rattle.vortex_dtype_ptype.specs.View.{number_kind_of};

@@ -24,7 +24,7 @@ pub struct UnionVariants {
 pub struct UnionVariant {
     /// The name. Several variants may have the same.
     pub name: FieldName,
-    /// The type id that a value of the variant has. No two variants have the same.
+    /// The tag of its values, Arrow's type id, which no other variant of the union has.
     pub tag: i8,
     /// The type of its values.
     pub dtype: DType,

@@ -22,12 +22,12 @@ pub trait NativeDecimalType: Copy + Drop {
     fn to_i128(self) -> i128
         ensures { result ≡ integer self };
 
-    /// Hands values of this type to the visitor.
+    /// Downcasts a value to this native type.
     fn downcast<V: DecimalTypeDowncast>(visitor: V) -> V::Output
         requires { V.can_downcast stored visitor }
         ensures { V.downcast_gives stored visitor result };
 
-    /// Makes a value of `V` from values of this type.
+    /// Upcasts a value of this native type.
     fn upcast<V: DecimalTypeUpcast>(input: V::Input) -> V
         requires { V.can_upcast stored input }
         ensures { V.upcast_gives stored input result };
@@ -36,16 +36,16 @@ pub trait NativeDecimalType: Copy + Drop {
     ghost narrow: { bits_of stored ≤ 128 };
 }
 
-/// A visitor of values of a native integer type, which has a call for each type, as Vortex's
+/// A value of some native integer type that can be downcast to that type, as Vortex's
 /// `DecimalTypeDowncast`.
 pub trait DecimalTypeDowncast: Sized {
-    /// The result, of one type whichever call is made.
+    /// The downcast value, of one Rust type for all native types.
     type Output;
 
-    // whether the call for this type may be made
+    // the value is of this native type
     ghost can_downcast: { DecimalType → Self → Type 0 };
 
-    // the result of the call for this type
+    // the downcast value
     ghost downcast_gives: { DecimalType → Self → Self.Output → Type 0 };
 
     fn into_i8(self) -> Self::Output
@@ -69,15 +69,15 @@ pub trait DecimalTypeDowncast: Sized {
         ensures { downcast_gives I128 self result };
 }
 
-/// What can be built from values of each native integer type, as Vortex's `DecimalTypeUpcast`.
+/// A value that can be upcast from one of a native integer type, as Vortex's `DecimalTypeUpcast`.
 pub trait DecimalTypeUpcast: Sized {
-    /// The input, of one type whichever call is made.
+    /// The value before the upcast, of one Rust type for all native types.
     type Input;
 
-    // whether the call for this type may be made
+    // the input is of this native type
     ghost can_upcast: { DecimalType → Self.Input → Type 0 };
 
-    // the result of the call for this type
+    // the upcast value
     ghost upcast_gives: { DecimalType → Self.Input → Self → Type 0 };
 
     fn from_i8(input: Self::Input) -> Self

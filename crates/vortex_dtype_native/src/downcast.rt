@@ -1,18 +1,18 @@
-//! Visitors of native integers, with a call for each type.
+//! Downcasts of values of some native integer type to those of one, and upcasts from one.
 ghost use Rattle.vortex_model.specs.LogicalType.{IntKind, u8, u16, u32, u64, i8, i16, i32, i64};
 
 use crate::native::NativePType;
 
-/// A visitor of values of a native integer type, which has a call for each type, as Vortex's
+/// A value of some native integer type that can be downcast to that type, as Vortex's
 /// `PTypeDowncast`.
 pub trait PTypeDowncast: Sized {
-    /// The result, of one type whichever call is made.
+    /// The downcast value, of one Rust type for all native types.
     type Output;
 
-    // whether the call for this type may be made
+    // the value is of this native type
     ghost can_downcast: { IntKind → Self → Type 0 };
 
-    // the result of the call for this type
+    // the downcast value
     ghost downcast_gives: { IntKind → Self → Self.Output → Type 0 };
 
     fn into_u8(self) -> Self::Output
@@ -60,15 +60,15 @@ pub trait PTypeDowncastExt: PTypeDowncast {
 
 impl<V: PTypeDowncast> PTypeDowncastExt for V {}
 
-/// What can be built from values of each native integer type, as Vortex's `PTypeUpcast`.
+/// A value that can be upcast from one of a native integer type, as Vortex's `PTypeUpcast`.
 pub trait PTypeUpcast: Sized {
-    /// The input, of one type whichever call is made.
+    /// The value before the upcast, of one Rust type for all native types.
     type Input;
 
-    // whether the call for this type may be made
+    // the input is of this native type
     ghost can_upcast: { IntKind → Self.Input → Type 0 };
 
-    // the result of the call for this type
+    // the upcast value
     ghost upcast_gives: { IntKind → Self.Input → Self → Type 0 };
 
     fn from_u8(input: Self::Input) -> Self

@@ -1,5 +1,5 @@
-//! Native integers as traits with their primitive types and little-endian bytes, and the macros and
-//! visitors that call by a primitive type known only at run time.
+//! Native integers as traits with their primitive types and little-endian bytes, macros that call a
+//! function by a primitive type known only at run time, and traits of downcasts and upcasts.
 #![tactic(auto)]
 
 pub mod by_kind;

@@ -27,12 +27,12 @@ pub trait NativePType: Copy + Drop + ToBytes + TryFromBytes {
         ensures when { is_some result ≡ in_range Self.kind number }
         ensures number { IfSome result (λ native. Self.integer native ≡ number) };
 
-    /// Hands values of this type to the visitor.
+    /// Downcasts a value to this native type.
     fn downcast<V: PTypeDowncast>(visitor: V) -> V::Output
         requires { V.can_downcast Self.kind visitor }
         ensures { V.downcast_gives Self.kind visitor result };
 
-    /// Makes a value of `V` from values of this type.
+    /// Upcasts a value of this native type.
     fn upcast<V: PTypeUpcast>(input: V::Input) -> V
         requires { V.can_upcast Self.kind input }
         ensures { V.upcast_gives Self.kind input result };

@@ -9,7 +9,7 @@ use vortex_dtype_core::ByteBuffer;
 use vortex_dtype_core::dtype::DType;
 use vortex_dtype_ptype::error::DTypeError;
 
-/// What a program knows of the extensions of one id, as Vortex's `ExtVTable`.
+/// What a program knows about the extensions of one id, as Vortex's `ExtVTable`.
 pub trait ExtVTable: Drop {
     /// The decoded metadata, in which extensions of the id differ.
     type Metadata: Drop;

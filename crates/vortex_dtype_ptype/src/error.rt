@@ -21,7 +21,7 @@ pub enum DTypeError {
     /// The struct has no field of the name.
     #[error("there is no such field")]
     NoSuchField = 4,
-    /// Two fields of a struct have the same name.
+    /// Two structs to be merged have a field of the same name.
     #[error("a name is repeated")]
     RepeatedName = 5,
     /// The key of a map is nullable.

@@ -4,8 +4,8 @@ use Rattle.std.specs.Str.{bytes_eq}
 use Rattle.std.specs.Ordering.{int_eq}
 use Rattle.vortex_model.specs.LogicalType.{LogicalType, IntKind, eq_type, eq_flag}
 
--- A string is its UTF-8 bytes. `tagged` is a union's value with its tag, and `scalar` a variant's
--- value with its type.
+-- A string is its UTF-8 bytes. `tagged` is a union's value with its tag, and `scalar` a `Variant`
+-- value: a type, and a value of it.
 mutual
   pub data Content : Type 0 where
     null : Content
@@ -77,7 +77,7 @@ abbrev pub is_null : Content → Bool
 is_null null = true
 is_null c = false
 
--- The contents are equal, and so are the types beside values of variants.
+-- The contents are equal, and so are the types inside `Variant` values.
 abbrev mutual
   pub equal_content : Content → Content → Bool
   equal_content null null = true

@@ -26,7 +26,7 @@ and_then (Some Equal) q = q
 and_then p q = p
 
 -- Null is least. Lists and structs are in lexicographic order, unions by tag and then by value. A
--- variant's value compares with null alone.
+-- `Variant` value compares with null alone.
 abbrev mutual
   pub content_cmp : Content → Content → Option Ordering
   content_cmp null null = Some Equal

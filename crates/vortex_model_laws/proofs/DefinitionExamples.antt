@@ -111,7 +111,7 @@ paired_with_one : joined_proofs (two_rules ++ boolean_literal true ∷ [])
     ≡ Some (either (either (compare equal (statistic a null_count) (count_literal 0)) (statistic a all_non_null)) (boolean_literal true))
 paired_with_one = refl
 
--- ---- values of variants
+-- ---- `Variant` values
 
 abbrev variant_of : ℕ → Content
 variant_of n = scalar (integer_type i32 non_nullable) (integer (pos n))

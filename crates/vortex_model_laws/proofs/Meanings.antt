@@ -98,7 +98,7 @@ four_proofs : joined_proofs (falsifiers N (is_null (col a)) ++ boolean_literal t
     ≡ Some (either (either (compare equal (statistic (col a) null_count) (count_literal 0)) (statistic (col a) all_non_null)) (either (boolean_literal true) (boolean_literal false)))
 four_proofs = refl
 
--- ---- values of a variant
+-- ---- `Variant` values
 
 abbrev five : Content
 five = scalar A (integer (pos 5))

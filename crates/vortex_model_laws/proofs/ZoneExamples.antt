@@ -31,7 +31,7 @@ null_and_list = refl
 each_null : is_constant (null ∷ null ∷ []) ≡ true
 each_null = refl
 
--- variants' values of different types are unequal
+-- `Variant` values of different types are unequal
 unequal_variants : is_constant (scalar (integer_type i32 non_nullable) (integer (pos 1)) ∷ scalar (integer_type i64 non_nullable) (integer (pos 1)) ∷ []) ≡ false
 unequal_variants = refl
 

@@ -1,4 +1,4 @@
-//! Scalars of extensions and variants.
+//! Scalars of extensions and of type `Variant`.
 ghost use Rattle.std.specs.Prelude.{◌≡◌, is_ok, IfOk, IfErr};
 ghost use Rattle.vortex_model.specs.LogicalType.{variant, non_nullable, eq_type};
 ghost use Rattle.vortex_model.specs.Content.{raw_scalar};
@@ -37,7 +37,7 @@ pub(crate) fn extension_value(
     Ok(Scalar::new_unchecked(DType::Extension(extension), value))
 }
 
-/// The value with its type, as a variant's value.
+/// The value with its type, as a `Variant` value.
 #[tactic(auto, using(crate::proofs::Made::variants))]
 pub(crate) fn variant_value(alloc: Global, value: Scalar) -> Result<Scalar, AllocError>
     ensures dtype { IfOk result (λ made. scalar_type made ≡ variant non_nullable) }

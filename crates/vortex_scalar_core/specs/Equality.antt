@@ -13,8 +13,8 @@ use Rattle.vortex_scalar_ops.proofs.EqualityLemmas.{eq_equiv}
 use Rattle.vortex_scalar_core.specs.Scalar.{scalar_type, scalar_content}
 use Rattle.vortex_scalar_core.specs.declared.scalar.Scalar.{Scalar}
 
--- the types are equal up to nullability, and the contents are equal up to nullability in the types
--- of variants' values
+-- the types are equal up to nullability, and the contents up to nullability of the types inside
+-- `Variant` values
 abbrev pub eq_typed : LogicalType → Content → LogicalType → Content → Bool
 eq_typed k c l d = equal_ignoring_nullability k l && eq_content c d
 

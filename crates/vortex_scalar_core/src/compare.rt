@@ -15,8 +15,8 @@ use vortex_scalar_ops::hash::hash_value;
 impl Scalar {
     ghost use Rattle.vortex_scalar_core.specs.Scalar.{scalar_type, scalar_content};
 
-    /// Whether the types are equal up to nullability, and the values are equal, up to nullability
-    /// in the types of variants' values. Allocates nothing.
+    /// Whether the types are equal up to nullability, and the values are equal up to nullability of
+    /// the types inside `Variant` values. Allocates nothing.
     pub fn eq_ignore_nullability(&self, other: &Scalar) -> bool
         ensures { result ≡ eq_scalar self.now other.now }
     {
@@ -24,7 +24,7 @@ impl Scalar {
     }
 
     /// The order of two scalars, and `None` where their types differ in more than nullability, or
-    /// the values don't compare, as those of variants. Null is least. Allocates nothing.
+    /// the values don't compare, as `Variant` values. Null is least. Allocates nothing.
     pub fn partial_cmp(&self, other: &Scalar) -> Option<Ordering>
         ensures { result ≡ scalar_cmp (scalar_type self.now) (scalar_content self.now)
             (scalar_type other.now) (scalar_content other.now) }
@@ -36,7 +36,7 @@ impl Scalar {
     }
 }
 
-/// Up to nullability, of the types and of the types of variants' values.
+/// Up to nullability, also of the types inside `Variant` values.
 impl PartialEq for Scalar {
     ghost eq = { eq_scalar };
 

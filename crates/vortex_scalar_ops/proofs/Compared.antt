@@ -1,4 +1,4 @@
--- Values of one type, up to nullability, compare where they have no variants' values in them.
+-- Values of one type, up to nullability, compare where they have no `Variant` values inside.
 use Rattle.std.proofs.Common.{◌≡◌, refl, sym, ◌∙◌, ap, subst, ℕ, ℤ, Bool, true, false, ◌||◌, Option, Some, None, is_some, if◌then◌else◌}
 use Rattle.std.specs.declared.cmp.Ordering.{Ordering}
 use Rattle.std.specs.declared.cmp.Ordering.TheVariants.{Less, Equal, Greater}

@@ -50,7 +50,7 @@ tagged_parts u = raw_of_union-parts u ∙ sym (ap (λ r. raw_tagged (tag_in r) (
 pub has_union : (k : LogicalType) (u : UnionValue) → has k (raw_of_union u) ≡ has_in (variants_in_type k) (tag_in (raw_of_union u)) (child_in (raw_of_union u))
 has_union k u = ap (has k) (tagged_parts u) ∙ has-tagged k (tag_in (raw_of_union u)) (child_in (raw_of_union u))
 
--- a variant's value is one of the type beside it
+-- the value inside a `Variant` value is one of the type inside
 has-scalar : (k l : LogicalType) (r : Raw) → has k (raw_scalar l r) ≡ is_variant_type k && valid l r
 has-scalar (variant n) l r = refl
 has-scalar k l r = refl

@@ -18,8 +18,8 @@ EqualityIsAnEquivalence = IsEquivalence eq_content
 abbrev pub EqualValuesHashAlike : Type 0
 EqualValuesHashAlike = (c d : Content) → eq_content c d ≡ true → content_writes c ≡ content_writes d
 
--- Values without variants' values in them compare as equal exactly where they are equal. Values of
--- a type without `Variant` at any level are such values.
+-- Values without `Variant` values inside compare as equal exactly where they are equal. Values of a
+-- type without `Variant` at any level are such values.
 abbrev pub TiedValuesAreTheSame : Type 0
 TiedValuesAreTheSame = (c d : Content) → holds_variant c ≡ false → (content_cmp c d ≡ Some Equal) ↔
     (eq_content c d ≡ true)

@@ -11,8 +11,8 @@ use vortex_scalar_value::union_value::UnionValue;
 /// The order of two values, and `None` where they don't compare. `None` of an argument is null,
 /// which is least. False is below true, integers are in numeric order, strings and bytes in
 /// lexicographic order of bytes, lists and structs in that of their items, and unions by tag and
-/// then by value. Values of variants don't compare, nor do values of two forms. Takes time linear
-/// in the size of the values.
+/// then by value. `Variant` values don't compare, nor do values of two forms. Takes time linear in
+/// the size of the values.
 #[cycle(compare)]
 #[tactic(auto, using(crate::proofs::Forms::nulls))]
 pub fn compare_values(left: Option<&ScalarValue>, right: Option<&ScalarValue>) -> Option<Ordering>

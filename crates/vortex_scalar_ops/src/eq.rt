@@ -8,7 +8,7 @@ use vortex_scalar_value::scalar_value::ScalarValue;
 use vortex_scalar_value::union_value::UnionValue;
 use vortex_scalar_value::variant_value::VariantValue;
 
-/// Equality of contents, up to nullability in the types of variants' values. `None` is null.
+/// Equality of contents, up to nullability of the types inside `Variant` values. `None` is null.
 /// Integers are equal where their numeric values are, whatever their types. Takes time linear in
 /// the size of the values.
 #[cycle(eq)]

@@ -1,5 +1,5 @@
-//! Casts of maps, unions, variants and extensions, which convert to their own type alone, up to
-//! outer nullability.
+//! Casts of maps, unions, `Variant` values and extensions, which convert to their own type alone,
+//! up to outer nullability.
 ghost use Rattle.std.specs.Prelude.{◌≡◌, true, false, IfOk, IsErrOf};
 ghost use Rattle.vortex_model.specs.Content.{content_of};
 ghost use Rattle.vortex_model.specs.Valid.{valid};

@@ -15,7 +15,7 @@ pub fn equality_is_an_equivalence()
     ensures { EqualityIsAnEquivalence }
 {}
 
-/// Values without variants' values in them compare as equal exactly where `eq_values` equates them.
+/// Values without `Variant` values inside compare as equal exactly where `eq_values` equates them.
 pub fn values_that_tie_are_equal()
     ensures { TiedValuesAreTheSame }
 {}
@@ -40,7 +40,7 @@ pub fn eq_values_compare_alike()
     ensures { EqualValuesCompareAlike }
 {}
 
-/// Values of a type without `Variant` at any level have no variants' values in them.
+/// Values of a type without `Variant` at any level have no `Variant` values inside.
 pub fn plain_types_have_plain_values()
     ensures { PlainTypesHavePlainValues }
 {}

@@ -49,8 +49,8 @@ fn validate_union(dtype: &DType, union: &UnionValue) -> bool
     }
 }
 
-// Whether the type is `Variant`, and the value is valid for the type beside it. The type is not an
-// extension.
+// Whether the type is `Variant`, and the value inside is valid for the type inside. The type is not
+// an extension.
 #[cycle(validate)]
 fn validate_variant(dtype: &DType, variant: &VariantValue) -> bool
     ensures { result ≡ has (type_of dtype.now) (raw_of_variant variant.now) }

@@ -22,7 +22,7 @@ abbrev pub items_in : Raw → Option Raws
 items_in (raw_tuple rs) = Some rs
 items_in r = None
 
--- the value itself, where it is an integer, or of a union or a variant
+-- the value itself, where it is an integer, of a union, or a `Variant` value
 abbrev pub as_number : Raw → Option Raw
 as_number (raw_number i z) = Some (raw_number i z)
 as_number r = None
@@ -35,7 +35,7 @@ abbrev pub as_scalar : Raw → Option Raw
 as_scalar (raw_scalar k r) = Some (raw_scalar k r)
 as_scalar r = None
 
--- the tag of a union's value, and the type of a variant's
+-- the tag of a union's value, and the type inside a `Variant` value
 abbrev pub tag_in : Raw → ℤ
 tag_in (raw_tagged t r) = t
 tag_in r = pos 0
@@ -44,7 +44,7 @@ abbrev pub type_in : Raw → LogicalType
 type_in (raw_scalar k r) = k
 type_in r = null_only
 
--- the value inside a union's or a variant's value
+-- the value inside a union's value or a `Variant` value
 abbrev pub child_in : Raw → Raw
 child_in (raw_tagged t r) = r
 child_in (raw_scalar k r) = r

@@ -151,7 +151,7 @@ impl From<UnionValue> for ScalarValue {
     }
 }
 
-/// Allocates a box for the variant's value.
+/// Allocates a box for a `Variant` value.
 impl TryFrom<(Global, VariantValue)> for ScalarValue {
     type Error = AllocError;
 

@@ -25,7 +25,7 @@ pub enum ScalarValue {
     Tuple(Vec<Option<ScalarValue>>),
     /// A union's value, with its tag.
     Union(UnionValue),
-    /// A variant's value, with its type.
+    /// A value of type `Variant`, with the type of its own.
     Variant(Box<VariantValue>),
 }
 

@@ -1,4 +1,4 @@
-//! Values of variants.
+//! Values of type `Variant`.
 ghost use Rattle.std.specs.Prelude.{◌≡◌};
 ghost use Rattle.vortex_model.specs.Content.{raw_scalar};
 ghost use Rattle.vortex_dtype_core.specs.View.{type_of};
@@ -8,8 +8,8 @@ ghost use Rattle.vortex_scalar_value.specs.View.{raw_in, raw_at, raw_of_variant}
 use crate::scalar_value::ScalarValue;
 use vortex_dtype_core::dtype::DType;
 
-/// A variant's value: a type, and a value meant for it. Nothing here tests that the value is valid
-/// for the type.
+/// A value of type `Variant`: a type, and a value meant for it. Nothing here tests that the value
+/// is valid for the type.
 #[derive(Drop)]
 #[cycle(value)]
 pub struct VariantValue {

@@ -1,4 +1,4 @@
--- The values inside unions and variants, with their types.
+-- The values inside unions' values and `Variant` values, with their types.
 use Rattle.std.specs.Prelude.{ℕ, ℤ, Option, Some, None, option_and_then}
 use Rattle.vortex_model.specs.LogicalType.{LogicalType, Variants, type_tagged}
 use Rattle.vortex_model.specs.Content.{Raw, raw_tagged, raw_scalar}
@@ -24,7 +24,7 @@ child_under vs r = None
 abbrev pub child_of : Typed → Option Typed
 child_of t = option_and_then (λ vs. child_under vs t.1) (variants_in_type t.0)
 
--- the value inside a variant's value, with its type
+-- the value inside a `Variant` value, with its type
 abbrev pub inner_of : Raw → Option Typed
 inner_of (raw_scalar k r) = Some (k, r)
 inner_of r = None

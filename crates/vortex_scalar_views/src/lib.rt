@@ -1,5 +1,5 @@
-//! Typed views of scalars: of booleans, integers, strings, bytes, unions and variants, with their
-//! equality, hash and order, and checked arithmetic of integers.
+//! Typed views of scalars: of booleans, integers, strings, bytes, unions and `Variant` values, with
+//! their equality, hash and order, and checked arithmetic of integers.
 #![tactic(auto)]
 
 pub mod arithmetic;

@@ -1,4 +1,5 @@
-//! Equality and hashes of views of unions and variants, up to nullability of their types.
+//! Equality and hashes of views of unions and of `Variant` values, up to nullability of their
+//! types.
 ghost use Rattle.std.specs.Cmp.{on_equiv, partial_equiv_from_equiv};
 ghost use Rattle.std.specs.Hash.{on_Alike};
 ghost use Rattle.std.specs.Ordering.{on};

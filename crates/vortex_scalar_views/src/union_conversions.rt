@@ -1,5 +1,5 @@
-//! Views of unions and variants by `TryFrom`: `ScalarError::Invalid` exactly where the type is of
-//! another kind.
+//! Views of unions and of `Variant` values by `TryFrom`: `ScalarError::Invalid` exactly where the
+//! type is of another kind.
 ghost use Rattle.vortex_dtype_core.specs.Parts.{is_union_type, is_variant_type};
 ghost use Rattle.vortex_scalar_views.specs.Forms.{ViewsTyped};
 ghost use Rattle.vortex_scalar_views.specs.Views.{typed_scalar};

@@ -1,4 +1,4 @@
-//! Views of variants.
+//! Views of `Variant` values.
 ghost use Rattle.std.specs.Prelude.{◌≡◌, IsTrue, IfOk, option_map};
 ghost use Rattle.vortex_model.specs.Content.{content_of, is_null};
 ghost use Rattle.vortex_model.specs.Valid.{valid};
@@ -17,7 +17,7 @@ use vortex_scalar_core::scalar::Scalar;
 use vortex_scalar_value::scalar_value::ScalarValue;
 use vortex_scalar_value::variant_value::VariantValue;
 
-/// A variant's value or null with its type, as Vortex's `VariantScalar`.
+/// A `Variant` value or null with its type, as Vortex's `VariantScalar`.
 #[derive(Drop)]
 pub struct VariantScalar<'a> {
     dtype: &'a DType,
@@ -48,14 +48,14 @@ impl<'a> VariantScalar<'a> {
         self.dtype
     }
 
-    /// The value with its type, as it is stored. `None` is null.
+    /// The value inside with its type, as it is stored. `None` is null.
     pub(crate) fn stored(&self) -> Option<&'a ScalarValue>
         ensures { raw_at result ≡ (typed_variant self.now).1 }
     {
         self.stored
     }
 
-    // The value with its type, and `None` where the variant itself is null.
+    // The value inside with its type, and `None` where the `Variant` value itself is null.
     #[tactic(auto, using(crate::proofs::Whichever::held))]
     fn whichever(&self) -> Option<&'a VariantValue>
         ensures value { raw_of_whichever result ≡ (typed_variant self.now).1 }
@@ -67,7 +67,7 @@ impl<'a> VariantScalar<'a> {
         }
     }
 
-    /// Whether the variant itself is null.
+    /// Whether the `Variant` value itself is null.
     #[tactic(auto, using(crate::proofs::Whichever::inner))]
     pub fn is_null(&self) -> bool
         ensures { result ≡ is_null (content_of (typed_variant self.now).1) }
@@ -75,7 +75,7 @@ impl<'a> VariantScalar<'a> {
         self.stored.is_none()
     }
 
-    /// A clone of the value inside, and `None` where the variant itself is null.
+    /// A clone of the value inside, and `None` where the `Variant` value itself is null.
     #[tactic(auto, using(crate::proofs::Whichever::inner))]
     pub fn value(&self) -> Result<Option<Scalar>, AllocError>
         ensures { IfOk result (λ inner. option_map typed_scalar inner
@@ -88,8 +88,8 @@ impl<'a> VariantScalar<'a> {
         Ok(Some(inner))
     }
 
-    /// Whether the value inside is the zero of its type, and `None` where the variant itself is
-    /// null. Allocates nothing.
+    /// Whether the value inside is the zero of its type, and `None` where the `Variant` value
+    /// itself is null. Allocates nothing.
     #[tactic(auto, using(vortex_scalar_value::proofs::Nulls::never_null))]
     pub fn is_zero(&self) -> Option<bool>
         ensures { result ≡ zero_test (typed_variant self.now).0 (typed_variant self.now).1 }
@@ -98,7 +98,7 @@ impl<'a> VariantScalar<'a> {
         Some(is_zero_value(self.dtype, Some(value)))
     }
 
-    /// Whether the value inside is null, and `None` where the variant itself is.
+    /// Whether the value inside is null, and `None` where the `Variant` value itself is.
     #[tactic(auto, using(crate::proofs::Whichever::inner))]
     pub fn is_variant_null(&self) -> Option<bool>
         ensures { result ≡ option_map (λ inner. is_null (content_of inner.1))

@@ -48,8 +48,8 @@ abbrev pub is_empty : List ℕ → Bool
 is_empty [] = true
 is_empty (b ∷ bs) = false
 
--- The value is the zero of the type, which is not an extension. A variant's value is where it is
--- the zero of the type beside it.
+-- The value is the zero of the type, which is not an extension. A `Variant` value is where the
+-- value inside is the zero of the type inside.
 abbrev mutual
   pub is_zero_in : LogicalType → Raw → Bool
   is_zero_in k raw_null = false

@@ -33,8 +33,8 @@ pub trait ScalarDefaults {
         ensures dtype { IfOk result (λ value. IfSome value
             (λ made. kind made ≡ type_of dtype.now)) };
 
-    /// Whether the value is the zero of its type, and `None` for null. A variant's value is where
-    /// it is the zero of the type beside it. Allocates nothing.
+    /// Whether the value is the zero of its type, and `None` for null. A `Variant` value is where
+    /// the value inside is the zero of the type inside. Allocates nothing.
     fn is_zero(&self) -> Option<bool>
         ensures { result ≡ zero_test (kind self.now) (raw self.now) };
 }

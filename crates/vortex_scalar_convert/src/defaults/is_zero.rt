@@ -10,9 +10,9 @@ use vortex_dtype_core::struct_fields::StructField;
 use vortex_scalar_value::scalar_value::ScalarValue;
 use vortex_scalar_value::union_value::UnionValue;
 
-/// Whether the value is the zero of its type; a variant's value is where it is the zero of the type
-/// beside it. `None` is null, which is not zero. Allocates nothing, and takes time linear in the
-/// size of the value.
+/// Whether the value is the zero of its type; a `Variant` value is where the value inside is the
+/// zero of the type inside. `None` is null, which is not zero. Allocates nothing, and takes time
+/// linear in the size of the value.
 #[cycle(zero)]
 #[tactic(auto, using(vortex_scalar_value::proofs::Views::one_level))]
 pub fn is_zero_value(dtype: &DType, value: Option<&ScalarValue>) -> bool
