@@ -145,7 +145,7 @@ impl DType {
         }
     }
 
-    /// Nullable, where the type or `nullability` is.
+    /// The type, nullable where it or `nullability` is.
     #[tactic(auto, using(crate::proofs::Views::union_can_be))]
     pub fn union_nullability(&self, nullability: Nullability) -> Result<DType, AllocError>
         ensures { IfOk result (λ dtype. type_of dtype ≡ with_nullability

@@ -9,7 +9,7 @@ use crate::struct_fields::{StructField, StructFields};
 use crate::union_variants::{UnionVariant, UnionVariants};
 
 impl DType {
-    /// Equal up to nullability at every level.
+    /// Whether the types are equal up to nullability at every level.
     #[tactic(auto, using(crate::proofs::Tests::decided))]
     pub fn eq_ignore_nullability(&self, other: &DType) -> bool
         ensures test { result ≡ equal_ignoring_nullability (type_of self.now) (type_of other.now) }
@@ -21,7 +21,7 @@ impl DType {
 }
 
 impl ExtDTypeRef {
-    /// Equal up to the nullability of the storage at every level.
+    /// Whether the extensions are equal up to the nullability of the storage at every level.
     #[tactic(auto, using(crate::proofs::Tests::decided))]
     pub fn eq_ignore_nullability(&self, other: &ExtDTypeRef) -> bool
         ensures test { result ≡ equal_ignoring_nullability (extension_type self.now)
@@ -34,7 +34,7 @@ impl ExtDTypeRef {
 }
 
 impl StructFields {
-    /// Equal up to nullability at every level. Names and order count.
+    /// Whether the fields are equal up to nullability at every level. Names and order count.
     #[tactic(auto, using(crate::proofs::Tests::decided))]
     pub fn eq_ignore_nullability(&self, other: &StructFields) -> bool
         ensures test { result ≡ eq_fields (bare_fields (fields_in self.now))
@@ -47,7 +47,8 @@ impl StructFields {
 }
 
 impl UnionVariants {
-    /// Equal up to nullability at every level. Names, tags and order count.
+    /// Whether the variants are equal up to nullability at every level. Names, tags and order
+    /// count.
     #[tactic(auto, using(crate::proofs::Tests::decided))]
     pub fn eq_ignore_nullability(&self, other: &UnionVariants) -> bool
         ensures test { result ≡ eq_variants (bare_variants (variants_in self.now))

@@ -104,7 +104,7 @@ impl ExtDTypeRef {
         Ok(all)
     }
 
-    /// Equal id and metadata.
+    /// Whether id and metadata are equal.
     #[tactic(auto, using(crate::proofs::Views::one_level))]
     pub(crate) fn has_same_name(&self, other: &ExtDTypeRef) -> bool
         ensures { result ≡ bytes_eq (id_of (extension_type self.now))

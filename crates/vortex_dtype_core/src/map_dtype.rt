@@ -26,7 +26,7 @@ pub struct MapEntries {
 }
 
 impl MapDType {
-    /// Refused by `DTypeError::MapShape` where the key type is nullable.
+    /// A map type, or `DTypeError::MapShape` where the key type is nullable.
     #[tactic(auto, using(crate::proofs::Views::one_level))]
     pub fn try_new(
         alloc: Global,

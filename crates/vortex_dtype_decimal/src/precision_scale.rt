@@ -31,8 +31,8 @@ impl<D: NativeDecimalType> Clone for PrecisionScale<D> {
 impl<D: NativeDecimalType> Copy for PrecisionScale<D> {}
 
 impl<D: NativeDecimalType> PrecisionScale<D> {
-    /// Refused by `DTypeError::DecimalShape` where no decimal type has them, or where `D` doesn't
-    /// hold each number of `precision` digits.
+    /// A precision and a scale, or `DTypeError::DecimalShape` where no decimal type has them, or
+    /// where `D` doesn't hold each number of `precision` digits.
     pub fn try_new(precision: u8, scale: i8) -> Result<PrecisionScale<D>, DTypeError>
         ensures made { IfOk result (λ p. (p.precision ≡ precision) × (p.scale ≡ scale)) }
         ensures accepted { OnOk result (IsTrue (is_held_shape D.stored precision scale)) }
@@ -50,7 +50,7 @@ impl<D: NativeDecimalType> PrecisionScale<D> {
         })
     }
 
-    /// For a precision and a scale that fit `D`.
+    /// A precision and a scale that fit `D`.
     pub fn new(precision: u8, scale: i8) -> PrecisionScale<D>
         requires { IsTrue (is_held_shape D.stored precision scale) }
         ensures made { (result.precision ≡ precision) × (result.scale ≡ scale) }
@@ -62,7 +62,8 @@ impl<D: NativeDecimalType> PrecisionScale<D> {
         }
     }
 
-    /// Like `new`. Nothing is tested when it runs, since the caller proves that they fit.
+    /// `new` by its second name: the caller proves that they fit, and nothing is tested when it
+    /// runs.
     pub fn new_unchecked(precision: u8, scale: i8) -> PrecisionScale<D>
         requires { IsTrue (is_held_shape D.stored precision scale) }
         ensures made { (result.precision ≡ precision) × (result.scale ≡ scale) }
@@ -103,7 +104,8 @@ impl<D: NativeDecimalType> From<PrecisionScale<D>> for DecimalDType {
     }
 }
 
-/// Refused by `DTypeError::DecimalShape` where `D` doesn't hold each decimal of the type.
+/// The precision and scale, or `DTypeError::DecimalShape` where `D` doesn't hold each decimal of
+/// the type.
 impl<D: NativeDecimalType> TryFrom<&DecimalDType> for PrecisionScale<D> {
     type Error = DTypeError;
 

@@ -18,7 +18,8 @@ pub trait ToBytes: Sealed {
 
 /// A value that is read from little-endian bytes, as Vortex's `TryFromBytes`.
 pub trait TryFromBytes: Sealed {
-    /// `DTypeError::Length` where the number of bytes isn't the width of the type.
+    /// The integer of these bytes, or `DTypeError::Length` where their number isn't the width of
+    /// the type.
     fn try_from_le_bytes(bytes: &[u8]) -> Result<Self, DTypeError>
         ensures read { IfOk result
             (λ number. AreBytesOf Self.kind (Self.integer number) bytes.now) }

@@ -50,7 +50,7 @@ impl FieldPathSet {
         self.count == 0
     }
 
-    /// Allocates nothing.
+    /// Whether the path is in the set. Allocates nothing.
     pub fn contains(&self, path: &FieldPath) -> bool
         ensures { result ≡ is_inserted self.now (steps_of path.now) }
     {

@@ -24,7 +24,8 @@ pub struct ExtDType<V: ExtVTable> {
 }
 
 impl<V: ExtVTable> ExtDType<V> {
-    /// Refused by `DTypeError::Plugin` where the storage doesn't fit the vtable and metadata.
+    /// An extension type, or `DTypeError::Plugin` where the storage doesn't fit the vtable and
+    /// metadata.
     pub fn try_with_vtable(
         vtable: V,
         metadata: V::Metadata,
@@ -128,8 +129,8 @@ impl<V: CloneExtVTable> Clone for ExtDType<V> {
 }
 
 impl<V: ExtVTable + Default> ExtDType<V> {
-    /// With the default vtable. Refused by `DTypeError::Plugin` where the storage doesn't fit the
-    /// metadata.
+    /// An extension type with the default vtable, or `DTypeError::Plugin` where the storage doesn't
+    /// fit the metadata.
     pub fn try_new(metadata: V::Metadata, storage: DType) -> Result<ExtDType<V>, DTypeError>
         ensures made { IfOk result (λ made. V.is_default made.vtable × (made.metadata ≡ metadata)
             × (made.storage ≡ storage)) }

@@ -21,8 +21,8 @@ pub struct DecimalDType {
 }
 
 impl DecimalDType {
-    /// Refused by `DTypeError::DecimalShape` where the precision isn't from 1 to 76, or the scale
-    /// isn't from -76 to 76.
+    /// A decimal type, or `DTypeError::DecimalShape` where the precision isn't from 1 to 76, or the
+    /// scale isn't from -76 to 76.
     pub fn try_new(precision: u8, scale: i8) -> Result<DecimalDType, DTypeError>
         ensures made { IfOk result (λ d. (d.precision ≡ precision) × (d.scale ≡ scale)) }
         ensures accepted { OnOk result (IsTrue (is_decimal_shape precision scale)) }
@@ -39,7 +39,7 @@ impl DecimalDType {
         Ok(DecimalDType { precision, scale })
     }
 
-    /// For a precision and a scale in range.
+    /// A decimal type, by a precision and a scale in range.
     pub fn new(precision: u8, scale: i8) -> DecimalDType
         requires { IsTrue (is_decimal_shape precision scale) }
         ensures made { (result.precision ≡ precision) × (result.scale ≡ scale) }

@@ -41,7 +41,7 @@ pub trait ScalarConstructors {
         ensures dtype { kind result ≡ integer_type T.kind (nullability_of_flag nullability) }
         ensures value { raw result ≡ raw_number T.kind (T.integer value) };
 
-    /// `ScalarError::Invalid` where the integer's type isn't `ptype`.
+    /// An integer, or `ScalarError::Invalid` where its type isn't `ptype`.
     fn primitive_value(
         value: PValue,
         ptype: PType,
@@ -58,7 +58,7 @@ pub trait ScalarConstructors {
         ensures dtype { kind result ≡ utf8 (nullability_of_flag nullability) }
         ensures value { raw result ≡ raw_text text };
 
-    /// `ScalarError::Invalid` where the bytes are not UTF-8.
+    /// A string of these bytes, or `ScalarError::Invalid` where they are not UTF-8.
     fn try_utf8(bytes: ByteBuffer, nullability: Nullability) -> Result<Self, ScalarError>
         ensures dtype { IfOk result (λ made. kind made ≡ utf8 (nullability_of_flag nullability)) }
         ensures value { IfOk result (λ made. raw made ≡ raw_text bytes) }

@@ -17,7 +17,8 @@ pub trait ExtDTypeScalarExt {
     // the storage type
     ghost storage: { Self → LogicalType };
 
-    /// `ScalarError::Invalid` where the storage type doesn't have the value. `None` is null.
+    /// Tests that the storage type has the value: `ScalarError::Invalid` where it doesn't. `None`
+    /// is null.
     fn validate_scalar_value(&self, value: Option<&ScalarValue>) -> Result<(), ScalarError>
         ensures when { is_ok result ≡ valid (storage self.now) (raw_at value.entry) }
         ensures refused { IfErr result (λ e. e ≡ Invalid) };

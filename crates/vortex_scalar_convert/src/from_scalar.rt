@@ -33,8 +33,9 @@ pub trait FromScalar: Drop {
     fn is_read_from(dtype: &DType) -> bool
         ensures { result ≡ is_kind (type_of dtype.now) };
 
-    /// `None` is null. `ScalarError::Invalid` where values of the type can't be read, for null
-    /// unless an `Option` is read, and for an integer out of range.
+    /// The native value of a value of type `dtype`, of which `None` is null. `ScalarError::Invalid`
+    /// where values of the type can't be read, for null unless an `Option` is read, and for an
+    /// integer out of range.
     fn from_value(
         alloc: Global,
         dtype: &DType,
@@ -43,7 +44,7 @@ pub trait FromScalar: Drop {
         ensures { IsRead says (reads (type_of dtype.now) (content_at value.entry))
             (content_at value.entry) result };
 
-    /// `from_value` of a scalar.
+    /// The native value of a scalar, by `from_value`.
     final fn from_scalar(alloc: Global, scalar: &Scalar) -> Result<Self, ScalarError>
         ensures { IsRead says (reads (scalar_type scalar.now) (scalar_content scalar.now))
             (scalar_content scalar.now) result }
@@ -320,7 +321,7 @@ impl FromScalar for String {
     }
 }
 
-/// `None` for null.
+/// An optional value, `None` for null.
 impl<T: FromScalar> FromScalar for Option<T> {
     ghost says = { says_or_null T.says };
 

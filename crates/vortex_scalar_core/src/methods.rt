@@ -19,8 +19,8 @@ use vortex_scalar_value::scalar_value::ScalarValue;
 impl Scalar {
     ghost use Rattle.vortex_scalar_core.specs.Scalar.{scalar_type, scalar_raw, scalar_content};
 
-    /// `ScalarError::Invalid` where the type doesn't have the value. `None` is null. Allocates
-    /// nothing.
+    /// Tests that the type has the value: `ScalarError::Invalid` where it doesn't. `None` is null.
+    /// Allocates nothing.
     pub fn validate(dtype: &DType, value: Option<&ScalarValue>) -> Result<(), ScalarError>
         ensures when { is_ok result ≡ valid (type_of dtype.now) (raw_at value.entry) }
         ensures refused { IfErr result (λ e. e ≡ Invalid) }

@@ -24,7 +24,8 @@ pub struct Scalar {
 impl Scalar {
     ghost use Rattle.vortex_scalar_core.specs.Scalar.{scalar_type, scalar_raw, scalar_content};
 
-    /// Refused only by `ScalarError::Invalid`, where the type doesn't have the value.
+    /// A scalar, or `ScalarError::Invalid`, and no other error, where the type doesn't have the
+    /// value.
     pub fn try_new(dtype: DType, value: Option<ScalarValue>) -> Result<Scalar, ScalarError>
         ensures when { is_ok result ≡ valid (type_of dtype) (raw_in value) }
         ensures dtype { IfOk result (λ scalar. scalar_type scalar ≡ type_of dtype) }
@@ -37,7 +38,8 @@ impl Scalar {
         Ok(Scalar { dtype, value })
     }
 
-    /// For a caller that knows that the type has the value. Nothing is tested when it runs.
+    /// A scalar, for a caller that knows that the type has the value. Nothing is tested when it
+    /// runs.
     pub fn new_unchecked(dtype: DType, value: Option<ScalarValue>) -> Scalar
         requires { IsTrue (valid (type_of dtype) (raw_in value)) }
         ensures dtype { scalar_type result ≡ type_of dtype }

@@ -26,7 +26,7 @@ impl<'a> ExtScalar<'a> {
     ghost use Rattle.vortex_scalar_views.specs.Views.{typed_scalar};
     ghost use Rattle.vortex_scalar_nested.specs.Nested.{typed_extension};
 
-    /// For an extension type and a value that it has.
+    /// The view of a value that the type has, which is an extension.
     pub(crate) fn new(dtype: &'a DType, value: Option<&'a ScalarValue>) -> ExtScalar<'a>
         requires kind { IsTrue (is_extension_type (type_of dtype.now)) }
         requires valid { IsTrue (valid (type_of dtype.now) (raw_at value)) }

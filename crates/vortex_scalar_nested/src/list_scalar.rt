@@ -32,7 +32,8 @@ impl<'a> ListScalar<'a> {
     ghost use Rattle.vortex_scalar_views.specs.Views.{typed_scalar};
     ghost use Rattle.vortex_scalar_nested.specs.Nested.{typed_list};
 
-    /// `ScalarError::Invalid` where `dtype` isn't a list type, or doesn't have the value.
+    /// The view, or `ScalarError::Invalid` where `dtype` isn't a list type, or doesn't have the
+    /// value.
     pub fn try_new(
         dtype: &'a DType,
         value: Option<&'a ScalarValue>,
@@ -45,7 +46,7 @@ impl<'a> ListScalar<'a> {
         Ok(ListScalar::new(dtype, value))
     }
 
-    /// For a value that the type has.
+    /// The view of a value that the type has.
     pub(crate) fn new(dtype: &'a DType, value: Option<&'a ScalarValue>) -> ListScalar<'a>
         requires kind { IsTrue (is_listing (type_of dtype.now)) }
         requires valid { IsTrue (valid (type_of dtype.now) (raw_at value)) }
@@ -107,7 +108,7 @@ impl<'a> ListScalar<'a> {
         }
     }
 
-    /// Null is empty too.
+    /// Whether there are no elements. Null has none.
     pub fn is_empty(&self) -> bool
         ensures { result ≡ (part_count (typed_list self.now).1 == 0) }
     {

@@ -33,7 +33,8 @@ pub struct MapScalar<'a> {
 impl<'a> MapScalar<'a> {
     ghost use Rattle.vortex_scalar_nested.specs.Nested.{typed_map};
 
-    /// `ScalarError::Invalid` where `dtype` isn't a map type, or doesn't have the value.
+    /// The view, or `ScalarError::Invalid` where `dtype` isn't a map type, or doesn't have the
+    /// value.
     pub fn try_new(
         dtype: &'a DType,
         value: Option<&'a ScalarValue>,
@@ -46,7 +47,7 @@ impl<'a> MapScalar<'a> {
         Ok(MapScalar::new(dtype, value))
     }
 
-    /// For a value that the type has.
+    /// The view of a value that the type has.
     pub(crate) fn new(dtype: &'a DType, value: Option<&'a ScalarValue>) -> MapScalar<'a>
         requires kind { IsTrue (is_map_type (type_of dtype.now)) }
         requires valid { IsTrue (valid (type_of dtype.now) (raw_at value)) }
@@ -108,7 +109,7 @@ impl<'a> MapScalar<'a> {
         }
     }
 
-    /// Null is empty too.
+    /// Whether there are no entries. Null has none.
     pub fn is_empty(&self) -> bool
         ensures { result ≡ (part_count (typed_map self.now).1 == 0) }
     {

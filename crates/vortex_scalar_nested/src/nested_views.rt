@@ -20,12 +20,12 @@ use vortex_scalar_views::variant_scalar::VariantScalar;
 pub trait NestedScalarViews {
     ghost typed: { Self → Typed };
 
-    /// The type is a list of any length or of a fixed one.
+    /// The view of a list, of any length or of a fixed one.
     fn as_list(&self) -> ListScalar<'_>
         requires { IsTrue (is_listing (typed self.now).0) }
         ensures { typed_list result ≡ typed self.now };
 
-    /// `Some` for a list of any length or of a fixed one.
+    /// The view of a list, of any length or of a fixed one, and `None` for any other type.
     fn as_list_opt(&self) -> Option<ListScalar<'_>>
         ensures { option_map typed_list result ≡ viewed is_listing (typed self.now) };
 

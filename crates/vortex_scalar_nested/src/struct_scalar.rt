@@ -32,7 +32,7 @@ impl<'a> StructScalar<'a> {
     ghost use Rattle.vortex_scalar_views.specs.Views.{typed_scalar};
     ghost use Rattle.vortex_scalar_nested.specs.Nested.{typed_struct};
 
-    /// For a struct type and a value that it has.
+    /// The view of a value that the type has, which is a struct.
     pub(crate) fn new(dtype: &'a DType, value: Option<&'a ScalarValue>) -> StructScalar<'a>
         requires kind { IsTrue (is_struct_type (type_of dtype.now)) }
         requires valid { IsTrue (valid (type_of dtype.now) (raw_at value)) }

@@ -50,7 +50,7 @@ pub(crate) fn cast_identity(
     Ok(copy)
 }
 
-// Equal up to outer nullability.
+// Whether the types are equal up to outer nullability.
 fn eq_outside(source: &DType, target: &DType) -> Result<bool, AllocError>
     ensures { IfOk result (λ same. same ≡ eq_outside (type_of source.now) (type_of target.now)) }
 {

@@ -18,7 +18,7 @@ pub trait NativeValue: NativeDType + Drop {
     // the raw value
     ghost raw: { Self → Raw };
 
-    /// `None` is null.
+    /// The value as one of the column's type. `None` is null.
     fn into_scalar_value(self, alloc: Global) -> Result<Option<ScalarValue>, AllocError>
         ensures value { IfOk result (λ made. raw_in made ≡ raw self) }
         ensures valid { IfOk result (λ made. valid Self.values (raw_in made) ≡ true) };
@@ -114,7 +114,7 @@ impl NativeValue for ByteBuffer {
     }
 }
 
-/// `None` is null.
+/// An optional value, where `None` is null.
 impl<T: NativeValue> NativeValue for Option<T> {
     ghost raw = { raw_or_null T.raw };
 

@@ -49,7 +49,7 @@ impl PValue {
 
 /// A native integer read from one of any type, as Vortex's `CoercePValue`.
 pub trait CoercePValue: NativePType {
-    /// `ScalarError::Invalid` where the integer is out of range.
+    /// The integer as one of this type, or `ScalarError::Invalid` where it is out of range.
     final fn coerce(value: PValue) -> Result<Self, ScalarError>
         ensures { GivesNumber Self.kind Self.integer value result }
     {

@@ -25,7 +25,7 @@ pub enum ScalarValue {
     Tuple(Vec<Option<ScalarValue>>),
     /// A union's value, with its tag.
     Union(UnionValue),
-    /// A value of type `Variant`, with the type of its own.
+    /// A value of type `Variant`: a value with its type.
     Variant(Box<VariantValue>),
 }
 

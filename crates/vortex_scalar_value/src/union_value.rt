@@ -16,7 +16,7 @@ pub struct UnionValue {
 }
 
 impl UnionValue {
-    /// `None` is null. Allocates a box for any other value.
+    /// A union's value, of which `None` is null under the tag. Allocates a box for any other value.
     #[tactic(auto, using(crate::proofs::Views::one_level))]
     pub fn try_new(
         alloc: Global,
@@ -47,7 +47,7 @@ impl UnionValue {
         self.type_id
     }
 
-    /// The value of the tag's variant. `None` is null.
+    /// The value under the tag. `None` is null.
     #[tactic(auto, using(crate::proofs::Views::one_level))]
     pub fn child_value(&self) -> Option<&ScalarValue>
         ensures { raw_at result ≡ child_in (raw_of_union self.now) }

@@ -18,7 +18,7 @@ pub struct VariantValue {
 }
 
 impl VariantValue {
-    /// `None` is null.
+    /// A value with its type. `None` is null.
     #[tactic(auto, using(crate::proofs::Views::one_level))]
     pub fn new(dtype: DType, value: Option<ScalarValue>) -> VariantValue
         ensures { raw_of_variant result ≡ raw_scalar (type_of dtype) (raw_in value) }
@@ -33,7 +33,7 @@ impl VariantValue {
         &self.dtype
     }
 
-    /// The value. `None` is null.
+    /// The value inside. `None` is null.
     #[tactic(auto, using(crate::proofs::Views::one_level))]
     pub fn value(&self) -> Option<&ScalarValue>
         ensures { raw_at result ≡ child_in (raw_of_variant self.now) }

@@ -26,7 +26,8 @@ pub struct BinaryScalar<'a> {
 impl<'a> BinaryScalar<'a> {
     ghost use Rattle.vortex_scalar_views.specs.Views.{typed_binary};
 
-    /// `ScalarError::Invalid` where `dtype` isn't a binary type, or doesn't have the value.
+    /// The view, or `ScalarError::Invalid` where `dtype` isn't a binary type, or doesn't have the
+    /// value.
     pub fn try_new(
         dtype: &'a DType,
         value: Option<&'a ScalarValue>,
@@ -40,7 +41,7 @@ impl<'a> BinaryScalar<'a> {
         Ok(BinaryScalar::new(dtype, value))
     }
 
-    /// For a value that the type has.
+    /// The view of a value that the type has.
     #[tactic(auto, using(crate::proofs::Leaves::bytes))]
     pub(crate) fn new(dtype: &'a DType, value: Option<&'a ScalarValue>) -> BinaryScalar<'a>
         requires kind { IsTrue (is_binary_type (type_of dtype.now)) }
@@ -60,7 +61,7 @@ impl<'a> BinaryScalar<'a> {
         self.dtype
     }
 
-    /// `None` for null.
+    /// The bytes, and `None` for null.
     #[tactic(auto, using(crate::proofs::Leaves::bytes))]
     pub fn value(&self) -> Option<&'a ByteBuffer>
         ensures { option_copied result ≡ byte_string_in (typed_binary self.now).1 }
@@ -87,7 +88,7 @@ impl<'a> BinaryScalar<'a> {
         }
     }
 
-    /// `None` for null.
+    /// Whether there are no bytes, and `None` for null.
     #[tactic(auto, using(crate::proofs::Leaves::bytes))]
     pub fn is_empty(&self) -> Option<bool>
         ensures { result ≡ option_map (λ bytes. length bytes == 0)

@@ -27,7 +27,8 @@ pub struct BoolScalar<'a> {
 impl<'a> BoolScalar<'a> {
     ghost use Rattle.vortex_scalar_views.specs.Views.{typed_bool, typed_scalar};
 
-    /// `ScalarError::Invalid` where `dtype` isn't a boolean type, or doesn't have the value.
+    /// The view, or `ScalarError::Invalid` where `dtype` isn't a boolean type, or doesn't have the
+    /// value.
     pub fn try_new(
         dtype: &'a DType,
         value: Option<&ScalarValue>,
@@ -41,7 +42,7 @@ impl<'a> BoolScalar<'a> {
         Ok(BoolScalar::new(dtype, value))
     }
 
-    /// For a value that the type has.
+    /// The view of a value that the type has.
     #[tactic(auto, using(crate::proofs::Leaves::truths))]
     pub(crate) fn new(dtype: &'a DType, value: Option<&ScalarValue>) -> BoolScalar<'a>
         requires kind { IsTrue (is_boolean_type (type_of dtype.now)) }
@@ -61,7 +62,7 @@ impl<'a> BoolScalar<'a> {
         self.dtype
     }
 
-    /// `None` for null.
+    /// The boolean, and `None` for null.
     #[tactic(auto, using(crate::proofs::Leaves::truths))]
     pub fn value(&self) -> Option<bool>
         ensures { result ≡ boolean_in (typed_bool self.now).1 }

@@ -23,7 +23,7 @@ impl Eq for BoolScalar<'_> {
     ghost laws = { on_equiv bool_of_view (options_equiv bool_eq_equiv) };
 }
 
-/// Of the types up to nullability, and of the integers.
+/// Integers are equal where their types are, up to nullability, and their numeric values are.
 impl PartialEq for PrimitiveScalar<'_> {
     ghost eq = { eq_numbers };
 

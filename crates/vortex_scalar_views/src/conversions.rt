@@ -41,7 +41,7 @@ impl<'a> TryFrom<&'a Scalar> for PrimitiveScalar<'a> {
     }
 }
 
-/// With a clone of the type. Fails only by `ScalarError::Memory`.
+/// The scalar, with a clone of the type. Fails only by `ScalarError::Memory`.
 impl TryFrom<PrimitiveScalar<'_>> for Scalar {
     type Error = ScalarError;
 

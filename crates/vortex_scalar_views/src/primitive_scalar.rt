@@ -39,7 +39,8 @@ pub struct PrimitiveScalar<'a> {
 impl<'a> PrimitiveScalar<'a> {
     ghost use Rattle.vortex_scalar_views.specs.Views.{typed_primitive, typed_scalar};
 
-    /// `ScalarError::Invalid` where `dtype` isn't a primitive type, or doesn't have the value.
+    /// The view, or `ScalarError::Invalid` where `dtype` isn't a primitive type, or doesn't have
+    /// the value.
     pub fn try_new(
         dtype: &'a DType,
         value: Option<&ScalarValue>,
@@ -53,7 +54,7 @@ impl<'a> PrimitiveScalar<'a> {
         Ok(PrimitiveScalar::new(dtype, value))
     }
 
-    /// For a value that the type has.
+    /// The view of a value that the type has.
     #[tactic(auto, using(crate::proofs::Numbers::held))]
     pub(crate) fn new(dtype: &'a DType, value: Option<&ScalarValue>) -> PrimitiveScalar<'a>
         requires kind { IsTrue (is_primitive_type (type_of dtype.now)) }
@@ -79,7 +80,7 @@ impl<'a> PrimitiveScalar<'a> {
         self.dtype.as_ptype()
     }
 
-    /// `None` for null.
+    /// The integer, and `None` for null.
     #[tactic(auto, using(crate::proofs::Numbers::held))]
     pub fn pvalue(&self) -> Option<PValue>
         ensures { option_map raw_of_number result ≡ as_number (typed_primitive self.now).1 }
@@ -87,7 +88,7 @@ impl<'a> PrimitiveScalar<'a> {
         self.pvalue
     }
 
-    /// As `pvalue`.
+    /// The integer, as `pvalue` returns it.
     #[tactic(auto, using(crate::proofs::Numbers::held))]
     pub fn value(&self) -> Option<PValue>
         ensures { option_map raw_of_number result ≡ as_number (typed_primitive self.now).1 }
@@ -102,7 +103,7 @@ impl<'a> PrimitiveScalar<'a> {
         self.pvalue.is_none()
     }
 
-    /// `None` for null.
+    /// Whether the integer is zero, and `None` for null.
     #[tactic(auto, using(crate::proofs::Numbers::held))]
     pub fn is_zero(&self) -> Option<bool>
         ensures { result ≡ option_map (λ number. int_eq number (pos 0))

@@ -36,7 +36,8 @@ impl<'a> UnionScalar<'a> {
     ghost use Rattle.vortex_scalar_views.specs.Views.{typed_scalar};
     ghost use Rattle.vortex_scalar_views.specs.UnionViews.{typed_union};
 
-    /// `ScalarError::Invalid` where `dtype` isn't a union type, or doesn't have the value.
+    /// The view, or `ScalarError::Invalid` where `dtype` isn't a union type, or doesn't have the
+    /// value.
     pub fn try_new(
         dtype: &'a DType,
         value: Option<&'a ScalarValue>,
@@ -50,7 +51,7 @@ impl<'a> UnionScalar<'a> {
         Ok(UnionScalar::new(dtype, value))
     }
 
-    /// For a caller that knows that the type is a union, and has the value.
+    /// The view, for a caller that knows that the type is a union, and has the value.
     pub fn new(dtype: &'a DType, value: Option<&'a ScalarValue>) -> UnionScalar<'a>
         requires kind { IsTrue (is_union_type (type_of dtype.now)) }
         requires valid { IsTrue (valid (type_of dtype.now) (raw_at value)) }
@@ -110,7 +111,7 @@ impl<'a> UnionScalar<'a> {
         self.value.is_none()
     }
 
-    /// `None` for null.
+    /// The tag, and `None` for null.
     #[tactic(auto, using(crate::proofs::Choices::tagged))]
     pub fn type_id(&self) -> Option<i8>
         ensures { result ≡ tag_of (typed_union self.now).1 }

@@ -26,7 +26,8 @@ pub struct Utf8Scalar<'a> {
 impl<'a> Utf8Scalar<'a> {
     ghost use Rattle.vortex_scalar_views.specs.Views.{typed_utf8};
 
-    /// `ScalarError::Invalid` where `dtype` isn't a UTF-8 type, or doesn't have the value.
+    /// The view, or `ScalarError::Invalid` where `dtype` isn't a UTF-8 type, or doesn't have the
+    /// value.
     pub fn try_new(
         dtype: &'a DType,
         value: Option<&'a ScalarValue>,
@@ -40,7 +41,7 @@ impl<'a> Utf8Scalar<'a> {
         Ok(Utf8Scalar::new(dtype, value))
     }
 
-    /// For a value that the type has.
+    /// The view of a value that the type has.
     #[tactic(auto, using(crate::proofs::Leaves::texts))]
     pub(crate) fn new(dtype: &'a DType, value: Option<&'a ScalarValue>) -> Utf8Scalar<'a>
         requires kind { IsTrue (is_utf8_type (type_of dtype.now)) }
@@ -60,7 +61,7 @@ impl<'a> Utf8Scalar<'a> {
         self.dtype
     }
 
-    /// `None` for null.
+    /// The string, and `None` for null.
     #[tactic(auto, using(crate::proofs::Leaves::texts))]
     pub fn value(&self) -> Option<&'a BufferString>
         ensures { option_copied result ≡ text_in (typed_utf8 self.now).1 }
@@ -86,7 +87,7 @@ impl<'a> Utf8Scalar<'a> {
         }
     }
 
-    /// `None` for null.
+    /// Whether the string is empty, and `None` for null.
     #[tactic(auto, using(crate::proofs::Leaves::texts))]
     pub fn is_empty(&self) -> Option<bool>
         ensures { result ≡ option_map (λ text. length text == 0) (text_in (typed_utf8 self.now).1) }

@@ -30,7 +30,7 @@ impl<'a> VariantScalar<'a> {
     ghost use Rattle.vortex_scalar_views.specs.Views.{typed_scalar};
     ghost use Rattle.vortex_scalar_views.specs.UnionViews.{typed_variant};
 
-    /// For a `Variant` type and a value that it has.
+    /// The view, for a caller that knows that the type is `Variant`, and has the value.
     pub fn new(dtype: &'a DType, value: Option<&'a ScalarValue>) -> VariantScalar<'a>
         requires kind { IsTrue (is_variant_type (type_of dtype.now)) }
         requires valid { IsTrue (valid (type_of dtype.now) (raw_at value)) }

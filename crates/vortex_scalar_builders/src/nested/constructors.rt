@@ -33,7 +33,7 @@ pub trait NestedScalarConstructors {
 
     ghost raw: { Self → Raw };
 
-    /// `ScalarError::Invalid` where an element doesn't have the element type.
+    /// A list, or `ScalarError::Invalid` where an element doesn't have the element type.
     fn list(
         element: Rc<DType>,
         children: Vec<Self>,
@@ -66,7 +66,8 @@ pub trait NestedScalarConstructors {
             (raw_tuple (raws_from (map raw children.items)))
             (is_record_of (type_of dtype) (map kind children.items)) result };
 
-    /// For a caller that knows that the type has the value. Nothing is tested when it runs.
+    /// A struct's value, for a caller that knows that the type has it. Nothing is tested when it
+    /// runs.
     fn struct_unchecked(dtype: DType, values: Vec<Option<ScalarValue>>) -> Self
         requires { IsTrue (valid (type_of dtype) (raw_tuple (raws_in values.items))) }
         ensures dtype { kind result ≡ type_of dtype }
