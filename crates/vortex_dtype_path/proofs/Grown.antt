@@ -140,7 +140,7 @@ grow_linked nodes at s n tree e i t k g =
       | inr new ↦ omega (arith, len, new.2, e)
     ]
 
--- equal ways lead to one node
+-- ways that lead to one node are equal
 abbrev OneWay : List TreeNode → Type 0
 OneWay nodes = (p q : List Step) (k : ℕ) → reached nodes p ≡ Some k → reached nodes q ≡ Some k → IsTrue (eq_steps p q)
 

@@ -32,7 +32,7 @@ use Rattle.vortex_model_laws.proofs.Tighter.{null_is_least, stays_true}
 -- ---- the bound of a group and that of one of its chunks
 
 module _ (R : Content → Content → Bool) where
-  -- where the group has a bound, each chunk has one that is related to it
+  -- where the group has a bound, the chunk has one, to which the group's is related
   abbrev Reaches : Option Content → Option Content → Type 0
   Reaches None q = Unit {0}
   Reaches (Some v) None = ⊥

@@ -124,7 +124,7 @@ front_below (b ∷ bs) (x ∷ d) y ys l h = elim (under_cases b x (bs ++ y ∷ y
 pub low_of_bytes : (v : List ℕ) (L : ℕ) → IsLow (byte_string v) L (low L (byte_string v))
 low_of_bytes v L = take_longest v L
 
--- bytes p ++ y ∷ ys that are longer than p
+-- the high of bytes p ++ y ∷ ys, which are longer than p
 longer_high : (p : List ℕ) (y : ℕ) (ys : List ℕ) (o : Option (List ℕ)) → AreBytes p → count_up p ≡ o → IsHighBytes (p ++ y ∷ ys) (length p) (option_map byte_string o)
 longer_high p y ys (Some h) a e = record {
   bytes = up_bytes p h a e;

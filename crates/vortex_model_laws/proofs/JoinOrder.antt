@@ -118,8 +118,7 @@ module _ (R : Content → Content → Bool) (chain : (c d e : Content) → R c d
   other_exact u v true e = refl
   other_exact u v false e = e
 
-  -- where v is the end of more values, the bound u of a list is exactly v just where an exact bound
-  -- of the list is
+  -- where u is the end of more values, the bound of ps is exactly u just where some bound in ps is
   exact_alike : (u v : Content) (ps : List (Precision Content)) → IsEnd R v (values ps) → R u v ≡ true → is_exactly u (bound_of (not (list_any (is_exactly v) ps)) v) ≡ list_any (is_exactly u) ps
   exact_alike u v ps h g = by_test (equal_content v u) refl
     where
