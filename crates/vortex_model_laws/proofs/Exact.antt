@@ -1,4 +1,5 @@
--- A chunk with all bounds of a predicate of the wide class is skipped exactly where its box is hopeless.
+-- A chunk with all bounds of a predicate of the wide class is skipped exactly where its box is
+-- hopeless.
 use Rattle.std.proofs.Common.{◌≡◌, refl, sym, ◌∙◌, ap, subst, ℕ, pos, suc, ◌+◌, ◌<◌, ◌≤◌, arith, List, [], ◌∷◌, ◌++◌, length, map, Bool, true, false, not, ◌&&◌, ◌||◌, if◌then◌else◌, Option, Some, None, option_map, option_and_then, inl, inr, IfSome, Contains}
 use Rattle.std.specs.Prelude.{◌↔◌}
 use Rattle.std.specs.List.{AllByRecursion, list_all}

@@ -240,7 +240,7 @@ pub fn shapes_are_spelled()
     ensures { ShapesAreSpelled }
 {}
 
-/// A table stays one after each command, accepted or refused.
+/// Each command, accepted or refused, keeps what holds of tables.
 pub fn steps_keep_tables()
     ensures { StepsKeepTables }
 {}

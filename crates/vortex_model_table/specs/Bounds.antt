@@ -7,7 +7,7 @@ use Rattle.vortex_model.specs.Content.{Content, text, byte_string}
 use Rattle.vortex_model.specs.Valid.{AreBytes}
 use Rattle.vortex_model.specs.Order.{bytes_cmp}
 
--- by the lexicographic order of bytes
+-- a is below b, or not above b, in the lexicographic order of bytes
 abbrev pub IsBelow : List ℕ → List ℕ → Type 0
 IsBelow a b = is_lt (bytes_cmp a b) ≡ true
 
@@ -30,7 +30,7 @@ abbrev pub AnyBytes : List ℕ → Type 0
 AnyBytes a = Unit {0}
 
 -- The low of a string is its longest prefix of at most L bytes that is UTF-8; that of bytes is
--- their prefix of at most L bytes. Any other value is its own low.
+-- their longest prefix of at most L bytes. Any other value is its own low.
 abbrev pub IsLow : Content → ℕ → Content → Type 0
 IsLow (text v) L (text a) = IsLongestBeginning IsUtf8 v L a
 IsLow (byte_string v) L (byte_string a) = IsLongestBeginning AnyBytes v L a

@@ -97,7 +97,7 @@ abbrev pub IsFormed : Command → Type 0
 IsFormed (append_array s rows) = AllByRecursion (IsContent s) rows
 IsFormed c = Unit {0}
 
--- a table stays one after each command, accepted or refused
+-- each command, accepted or refused, keeps what holds of tables
 abbrev pub StepsKeepTables : Type 0
 StepsKeepTables = (t : Table) (c : Command) → IsFormed c → IsTable t → IsTable (step t c)
 

@@ -41,7 +41,7 @@ abbrev pub compared : Comparison → Content → Content → Content
 compared op c d = if is_null_content c || is_null_content d then null
     else (elim (content_cmp c d) [ None ↦ null | Some o ↦ boolean (test_of op o) ])
 
--- the comparison with a strict or an inclusive end of BETWEEN
+-- the comparison at an end of BETWEEN, strict or inclusive
 abbrev pub end_of : Bool → Comparison
 end_of strict = if strict then less else at_most
 
