@@ -10,7 +10,7 @@ use vortex_dtype::{
 };
 
 /// Each type of integers, how many bytes a value takes, the most digits of which it has each
-/// number, how it is written, and the kind of numbers that it is of.
+/// number, how it is written, and the integer type that it is of.
 const TYPES: [(DecimalType, usize, u8, &str, Option<PType>); 6] = [
     (DecimalType::I8, 1, 2, "I8", Some(PType::I8)),
     (DecimalType::I16, 2, 4, "I16", Some(PType::I16)),

@@ -6,10 +6,7 @@ use crate::make::{
     Done, FLOATS, INTEGERS, WITH, WITHOUT, boxed, kinds, list, number, number_or_null, text,
 };
 use std::alloc::{AllocError, Global};
-use vortex_dtype::{
-    BufferString, ByteBuffer, CloneExtVTable, DType, DTypeError, ExtDType, ExtVTable,
-    ForeignExtDType, ForeignExtMetadata, PType,
-};
+use vortex_dtype::{DType, DTypeError, PType};
 
 pub fn run(alloc: Global, checks: &mut Checks<'_>) -> Done {
     for nullability in [WITH, WITHOUT] {
@@ -23,7 +20,6 @@ pub fn run(alloc: Global, checks: &mut Checks<'_>) -> Done {
     of_numbers(checks);
     insides(alloc, checks)?;
     taken(alloc, checks)?;
-    copies(alloc, checks)?;
     let (with, without) = (kinds(alloc, WITH, WITH)?, kinds(alloc, WITHOUT, WITH)?);
     for (place, (nullable, plain)) in with.iter().zip(&without).enumerate() {
         asked(checks, place, nullable, plain);
@@ -74,7 +70,7 @@ fn kind(checks: &mut Checks<'_>, place: usize, dtype: &DType) {
         _ => element.is_none(),
     };
     checks.holds_at("as_any_size_list_element_opt of kind", place, right);
-    // Truth values, integers, texts and bytes are leaves, with null or without.
+    // Booleans, integers, texts and bytes are leaves, with null or without.
     let is_leaf = [1, 2, 4, 5].contains(&place);
     checks.holds_at("is_leaf of kind", place, dtype.is_leaf() == is_leaf);
 }
@@ -151,24 +147,6 @@ fn taken(alloc: Global, checks: &mut Checks<'_>) -> Done {
             let metadata = dtype.into_extension().serialize_metadata().clone()?;
             checks.holds("into_extension", metadata.as_slice() == [0, 255].as_slice());
         }
-    }
-    Ok(())
-}
-
-/// A copy of a meaning and of its metadata, by themselves and within an extension type.
-fn copies(alloc: Global, checks: &mut Checks<'_>) -> Done {
-    let vtable = ForeignExtDType::new(BufferString::copy_from_str(alloc, "clock")?);
-    let metadata = ForeignExtMetadata::new(ByteBuffer::copy_from_slice(alloc, b"s")?);
-    let copy = vtable.clone_vtable()?;
-    checks.holds("clone_vtable", copy.id() == "clock" && vtable.id() == "clock");
-    let copy = vtable.clone_metadata(&metadata)?;
-    checks.holds("clone_metadata", copy.as_slice() == b"s".as_slice());
-    let made = ExtDType::try_with_vtable(vtable, metadata, number(PType::I64))?;
-    for it in [&made, &made.clone()?] {
-        checks.holds("clone of an extension's id", it.id() == "clock");
-        let is_so = it.metadata().as_slice() == b"s".as_slice();
-        checks.holds("clone of an extension's metadata", is_so);
-        checks.holds("clone of an extension's storage", *it.storage_dtype() == number(PType::I64));
     }
     Ok(())
 }

@@ -5,8 +5,8 @@ use crate::checks::Checks;
 use crate::make::{Done, WITH, WITHOUT, extension, number, number_or_null, text};
 use std::alloc::{AllocError, Global};
 use vortex_dtype::{
-    BufferString, ByteBuffer, DType, DTypeError, ExtDType, ExtDTypeRef, ExtDTypeRefExt, ExtVTable,
-    ForeignExtDType, ForeignExtMetadata, PType,
+    BufferString, ByteBuffer, CloneExtVTable, DType, DTypeError, ExtDType, ExtDTypeRef,
+    ExtDTypeRefExt, ExtVTable, ForeignExtDType, ForeignExtMetadata, PType,
 };
 
 /// Calls each item on extension types.
@@ -215,8 +215,13 @@ fn foreign(alloc: Global, checks: &mut Checks<'_>) -> Done {
     let made = ForeignExtDType::from_parts(alloc, id, bytes()?, text())?;
     let wanted = extension(alloc, "unknown", b"any", text())?;
     checks.holds("ForeignExtDType::from_parts", made == wanted);
-    let copied = metadata.clone()?.as_slice() == b"any".as_slice();
-    checks.holds("ForeignExtDType: clone", meaning.clone()?.id() == "unknown" && copied);
+    for (meaning, metadata) in [
+        (meaning.clone()?, metadata.clone()?),
+        (meaning.clone_vtable()?, meaning.clone_metadata(&metadata)?),
+    ] {
+        let is_so = metadata.as_slice() == b"any".as_slice();
+        checks.holds("clones of a meaning and its metadata", is_so && meaning.id() == "unknown");
+    }
     let made = ExtDType::try_with_vtable(meaning, metadata, DType::Null)?;
     let wanted = extension(alloc, "unknown", b"any", DType::Null)?;
     checks.holds("an ExtDType without meaning", made.erased(alloc)? == wanted);

@@ -1,4 +1,4 @@
-//! Calls every public item of the kinds of numbers, of decimals, of native types and of types, of
+//! Calls every public item of the integer types, of decimals, of native types and of types, of
 //! paths, of the parts of types, and of messages, sessions and extensions.
 #![tactic(auto)]
 
@@ -7,7 +7,6 @@ mod decimals;
 mod dtypes;
 mod equality;
 mod extensions;
-mod laws;
 mod make;
 mod malformed;
 mod messages;
@@ -48,7 +47,6 @@ fn run(alloc: Global, checks: &mut Checks<'_>) -> Done {
     malformed::run(alloc, checks)?;
     plugins::run(alloc, checks)?;
     extensions::run(alloc, checks)?;
-    laws::run(alloc, checks)?;
     checks.end_part("paths, parts of types, messages and extensions");
     no_memory::run(alloc, checks)?;
     checks.end_part("equality, hashes and searches take no memory");

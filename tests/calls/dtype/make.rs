@@ -13,7 +13,7 @@ pub type Done = Result<(), DTypeError>;
 pub const WITH: Nullability = Nullability::Nullable;
 pub const WITHOUT: Nullability = Nullability::NonNullable;
 
-/// Each kind of integers, the least number of it, and the greatest. A signed kind stands four
+/// Each integer type, the least number of it, and the greatest. A signed kind stands four
 /// places behind the unsigned one that is as wide.
 pub const INTEGERS: [(PType, i128, i128); 8] = [
     (PType::U8, 0, 255),

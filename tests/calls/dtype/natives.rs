@@ -1,4 +1,4 @@
-//! The integers of the machine by their bounds: `NativePType` and its kin, the macros that go by a
+//! Native integers by their bounds: `NativePType` and its kin, the macros that go by a
 //! kind, bytes, visitors, and `NativeDType`.
 ghost use Rattle.std.specs.Prelude.{⊤};
 
@@ -65,7 +65,7 @@ fn operations<T: IntegerPType>(checks: &mut Checks<'_>, ptype: PType, most: i128
     checks.holds("count_ones", T::of(7).is_some_and(|it| it.count_ones() == 3));
 }
 
-/// The kind of integers.
+/// The integer type.
 fn kind_of<T: IntegerPType>() -> PType {
     T::ptype()
 }

@@ -3,6 +3,7 @@
 use crate::checks::Checks;
 use crate::make::{Done, name, path, step};
 use std::alloc::Global;
+use vortex_dtype::laws::field_path_is_of_its_names;
 use vortex_dtype::{DTypeError, Field, FieldMask, FieldPath, field_path};
 
 /// Calls each item on steps, paths and masks.
@@ -56,6 +57,8 @@ fn made(alloc: Global, checks: &mut Checks<'_>) -> Done {
         checks.holds("clone of a path", path.clone()? == *path);
         checks.holds("is_root", path.is_root() == wanted.is_empty());
     }
+    let two = field_path_is_of_its_names(alloc)?;
+    checks.holds("law: field_path! is of its names", are_steps(&two, &["outer", "inner"]));
     let parts = vec![in alloc; Field::Name(name(alloc, "a")?), Field::ElementType]?;
     checks.holds("new", are_steps(&FieldPath::new(parts), &["a", "*"]));
     let parts = vec![in alloc; Field::ElementType, Field::Name(name(alloc, "b")?)]?;

@@ -72,7 +72,7 @@ fn each_kind(alloc: Global, checks: &mut Checks<'_>) -> Done {
     Ok(())
 }
 
-/// Two kinds of integers, and the unsigned and the signed ones as wide as the wider of them.
+/// Two integer types, and the unsigned and the signed ones as wide as the wider of them.
 const WIDER: [(PType, PType, PType, PType); 5] = [
     (PType::U8, PType::U8, PType::U8, PType::I8),
     (PType::U8, PType::I32, PType::U32, PType::I32),

@@ -6,7 +6,7 @@ use crate::make::{
     number_or_null, path, record, text,
 };
 use std::alloc::Global;
-use vortex_dtype::{DType, PType, UnionVariants, UnionVariantsExt};
+use vortex_dtype::{DType, DTypeError, FieldPath, PType, UnionVariants, UnionVariantsExt};
 
 /// Calls `resolve` and `exists_in`.
 pub fn run(alloc: Global, checks: &mut Checks<'_>) -> Done {
@@ -46,7 +46,8 @@ pub fn run(alloc: Global, checks: &mut Checks<'_>) -> Done {
     ] {
         leads(alloc, checks, name, dtype, steps, wanted.as_ref())?;
     }
-    leading_nowhere(alloc, checks)
+    leading_nowhere(alloc, checks)?;
+    goes_on(alloc, checks)
 }
 
 /// The path of these steps leads to this part of the type, or nowhere.
@@ -84,6 +85,35 @@ fn leading_nowhere(alloc: Global, checks: &mut Checks<'_>) -> Done {
         leads(alloc, checks, "a name in an opaque type", dtype, &["a"], None)?;
         leads(alloc, checks, "elements in an opaque type", dtype, &["*"], None)?;
         leads(alloc, checks, "the root of an opaque type", dtype, &[], Some(dtype))?;
+    }
+    Ok(())
+}
+
+// A path's steps, and those of another behind them.
+fn joined(front: &FieldPath, back: &FieldPath) -> Result<FieldPath, DTypeError> {
+    let mut both = front.clone()?;
+    for step in back.parts() {
+        both.push(step.clone()?)?;
+    }
+    Ok(both)
+}
+
+fn goes_on(alloc: Global, checks: &mut Checks<'_>) -> Done {
+    let inner = record(alloc, ["b"], [number(PType::U32)])?;
+    let dtype = record(alloc, ["a", "c"], [list(alloc, inner, WITH)?, text()])?;
+    let steps =
+        [path(alloc, &[])?, path(alloc, &["a"])?, path(alloc, &["*"])?, path(alloc, &["b"])?];
+    for front in &steps {
+        for back in &steps {
+            let whole = joined(front, back)?;
+            let behind = match front.resolve(&dtype) {
+                Some(part) => back.resolve(part),
+                None => None,
+            };
+            checks.holds("law: resolving goes on", whole.resolve(&dtype) == behind);
+            let begins = front.exists_in(&dtype) || !whole.exists_in(&dtype);
+            checks.holds("law: beginnings exist", begins);
+        }
     }
     Ok(())
 }

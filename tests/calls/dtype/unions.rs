@@ -114,6 +114,8 @@ fn tagged(alloc: Global, checks: &mut Checks<'_>) -> Done {
     }
     for (place, tag) in [(0, Some(5)), (1, Some(-128)), (2, Some(0)), (3, None)] {
         checks.holds("child_index_to_tag", sample.child_index_to_tag(place) == tag);
+        let back = tag.and_then(|tag| sample.tag_to_child_index(tag));
+        checks.holds("law: tags lead back", back == tag.map(|_| place));
     }
     let (two, one) = (|tags: &[i8]| choices(alloc, &["a", "b"], [text(), text()], tags), text());
     checks.holds("is_consecutive: other tags", !sample.is_consecutive());
