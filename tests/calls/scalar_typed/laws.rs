@@ -31,47 +31,26 @@ pub fn run(alloc: Global, checks: &mut Checks<'_>) -> Done {
 /// The calls of laws, of numbers that are cast to a wider kind.
 fn called(alloc: Global, checks: &mut Checks<'_>) -> Done {
     let (one, other) = (Scalar::from(7u8), Scalar::from(9u8));
-    let (middle, wide) = (
-        DType::Primitive(PType::U16, WITH),
-        DType::Primitive(PType::U32, WITH),
-    );
+    let (middle, wide) = (DType::Primitive(PType::U16, WITH), DType::Primitive(PType::U32, WITH));
     let (there, back) = laws::there_and_back(alloc, &one, &wide)?;
-    checks.holds(
-        "there_and_back",
-        *there.dtype() == wide && is_twin(&back, &one),
-    );
+    checks.holds("there_and_back", *there.dtype() == wide && is_twin(&back, &one));
     let refused = laws::there_and_back(alloc, &one, &DType::Utf8(WITH)).err();
-    checks.holds(
-        "there_and_back refused",
-        refused == Some(ScalarError::NotConvertible),
-    );
+    checks.holds("there_and_back refused", refused == Some(ScalarError::NotConvertible));
     let (first, second, at_once) = laws::by_way_of(alloc, &one, &middle, &wide)?;
-    checks.holds(
-        "by_way_of",
-        *first.dtype() == middle && is_twin(&second, &at_once),
-    );
+    checks.holds("by_way_of", *first.dtype() == middle && is_twin(&second, &at_once));
     let (nullable, back) = laws::nullable_and_back(alloc, &one)?;
-    checks.holds(
-        "nullable_and_back",
-        nullable.dtype().is_nullable() && is_twin(&back, &one),
-    );
+    checks.holds("nullable_and_back", nullable.dtype().is_nullable() && is_twin(&back, &one));
     let answer = laws::order_and_equality(&one, &other);
-    checks.holds(
-        "order_and_equality",
-        answer == (Some(Ordering::Less), false),
-    );
+    checks.holds("order_and_equality", answer == (Some(Ordering::Less), false));
     let (mut left, mut right) = (DefaultHasher::new(), DefaultHasher::new());
     let is_equal = laws::equality_and_hashes(&one, &there, &mut left, &mut right);
-    checks.holds(
-        "equality_and_hashes",
-        !is_equal && left.finish() != right.finish(),
-    );
+    checks.holds("equality_and_hashes", !is_equal && left.finish() != right.finish());
     let (of_one, of_other, before, after) = laws::casts_of_both(alloc, &one, &other, &wide)?;
     checks.holds("casts_of_both", before == after && of_one != of_other);
     Ok(())
 }
 
-/// The types of the samples, with null and without, and each kind of integers.
+/// The types of the samples, with null and without, and each integer type.
 fn targets(alloc: Global) -> Result<Vec<DType>, ScalarError> {
     let mut all = Vec::new(alloc);
     for nullability in [WITH, WITHOUT] {
@@ -110,10 +89,7 @@ fn all_cast(
 fn nullable_and_back(alloc: Global, checks: &mut Checks<'_>, scalar: &Scalar) -> Done {
     let wide = scalar.clone()?.into_nullable()?;
     checks.holds("into_nullable keeps equality", wide == *scalar);
-    checks.holds(
-        "into_nullable keeps the hash",
-        hash_of(&wide) == hash_of(scalar),
-    );
+    checks.holds("into_nullable keeps the hash", hash_of(&wide) == hash_of(scalar));
     let back = wide.cast(alloc, scalar.dtype())?;
     checks.holds("into_nullable and back", is_twin(&back, scalar));
     Ok(())
@@ -134,10 +110,7 @@ fn there_and_back(
         checks.holds("a cast gives what its type has", is_so);
         checks.holds("a cast keeps null", made.is_null() == scalar.is_null());
         let back = cast(alloc, made, scalar.dtype())?;
-        checks.holds(
-            "there and back",
-            back.is_some_and(|back| is_twin(&back, scalar)),
-        );
+        checks.holds("there and back", back.is_some_and(|back| is_twin(&back, scalar)));
     }
     Ok(())
 }
@@ -149,15 +122,9 @@ fn kept(checks: &mut Checks<'_>, scalars: &[Scalar], casts: &[Option<Scalar>]) {
             let (Some(left), Some(right)) = (made, made_of_other) else {
                 continue;
             };
-            checks.holds(
-                "casts keep order",
-                left.partial_cmp(right) == one.partial_cmp(other),
-            );
+            checks.holds("casts keep order", left.partial_cmp(right) == one.partial_cmp(other));
             checks.holds("casts keep equality", (left == right) == (one == other));
-            checks.holds(
-                "casts keep hashes",
-                one != other || hash_of(left) == hash_of(right),
-            );
+            checks.holds("casts keep hashes", one != other || hash_of(left) == hash_of(right));
         }
     }
 }

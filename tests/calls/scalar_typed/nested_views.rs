@@ -37,21 +37,17 @@ pub fn run(alloc: Global, checks: &mut Checks<'_>) -> Done {
 
 /// A scalar is seen by the view of its kind alone.
 fn seen(checks: &mut Checks<'_>, kind: usize, scalar: &Scalar) {
-    let answer = ListScalar::try_from(scalar);
-    checks.holds(
-        "ListScalar::try_from",
-        is_made(answer, kind == LIST || kind == FIXED),
-    );
-    let answer = StructScalar::try_from(scalar);
-    checks.holds("StructScalar::try_from", is_made(answer, kind == STRUCT));
-    let answer = MapScalar::try_from(scalar);
-    checks.holds("MapScalar::try_from", is_made(answer, kind == MAP));
-    let answer = UnionScalar::try_from(scalar);
-    checks.holds("UnionScalar::try_from", is_made(answer, kind == UNION));
-    let answer = VariantScalar::try_from(scalar);
-    checks.holds("VariantScalar::try_from", is_made(answer, kind == VARIANT));
-    let answer = ExtScalar::try_from(scalar);
-    checks.holds("ExtScalar::try_from", is_made(answer, kind == EXTENSION));
+    let is_list = kind == LIST || kind == FIXED;
+    for (name, is_so) in [
+        ("ListScalar::try_from", is_made(ListScalar::try_from(scalar), is_list)),
+        ("StructScalar::try_from", is_made(StructScalar::try_from(scalar), kind == STRUCT)),
+        ("MapScalar::try_from", is_made(MapScalar::try_from(scalar), kind == MAP)),
+        ("UnionScalar::try_from", is_made(UnionScalar::try_from(scalar), kind == UNION)),
+        ("VariantScalar::try_from", is_made(VariantScalar::try_from(scalar), kind == VARIANT)),
+        ("ExtScalar::try_from", is_made(ExtScalar::try_from(scalar), kind == EXTENSION)),
+    ] {
+        checks.holds_at(name, kind, is_so);
+    }
 }
 
 /// Whether the views are equal, and feed hashers equally.
@@ -62,10 +58,7 @@ fn equal<T: PartialEq + Hash + Drop>(
     other: T,
     is_equal: bool,
 ) {
-    checks.holds(
-        name,
-        (one == other) == is_equal && (other == one) == is_equal,
-    );
+    checks.holds(name, (one == other) == is_equal && (other == one) == is_equal);
     checks.holds(name, (one != other) == !is_equal);
     checks.holds(name, (hash_of(&one) == hash_of(&other)) == is_equal);
 }
@@ -74,50 +67,20 @@ fn views(checks: &mut Checks<'_>, kind: usize, one: &Scalar, other: &Scalar, wan
     let is_equal = wanted == Ordering::Equal;
     match kind {
         LIST | FIXED => {
-            equal(
-                checks,
-                "ListScalar",
-                one.as_list(),
-                other.as_list(),
-                is_equal,
-            );
+            equal(checks, "ListScalar", one.as_list(), other.as_list(), is_equal);
             let found = one.as_list().partial_cmp(&other.as_list());
             checks.holds("ListScalar::partial_cmp", found == Some(wanted));
         }
         STRUCT => {
-            equal(
-                checks,
-                "StructScalar",
-                one.as_struct(),
-                other.as_struct(),
-                is_equal,
-            );
+            equal(checks, "StructScalar", one.as_struct(), other.as_struct(), is_equal);
             let found = one.as_struct().partial_cmp(&other.as_struct());
             checks.holds("StructScalar::partial_cmp", found == Some(wanted));
         }
         MAP => equal(checks, "MapScalar", one.as_map(), other.as_map(), is_equal),
-        UNION => equal(
-            checks,
-            "UnionScalar",
-            one.as_union(),
-            other.as_union(),
-            is_equal,
-        ),
-        VARIANT => equal(
-            checks,
-            "VariantScalar",
-            one.as_variant(),
-            other.as_variant(),
-            is_equal,
-        ),
+        UNION => equal(checks, "UnionScalar", one.as_union(), other.as_union(), is_equal),
+        VARIANT => equal(checks, "VariantScalar", one.as_variant(), other.as_variant(), is_equal),
         EXTENSION => {
-            equal(
-                checks,
-                "ExtScalar",
-                one.as_extension(),
-                other.as_extension(),
-                is_equal,
-            );
+            equal(checks, "ExtScalar", one.as_extension(), other.as_extension(), is_equal);
             let found = one.as_extension().partial_cmp(&other.as_extension());
             checks.holds("ExtScalar::partial_cmp", found == Some(wanted));
         }
@@ -129,28 +92,16 @@ fn views(checks: &mut Checks<'_>, kind: usize, one: &Scalar, other: &Scalar, wan
 fn other_types(alloc: Global, checks: &mut Checks<'_>, groups: &[Vec<Scalar>]) -> Done {
     let (any, two) = (groups[LIST][0].as_list(), groups[FIXED][0].as_list());
     checks.holds("lists of two kinds", any != two && two != any);
-    checks.holds(
-        "lists of two kinds don't compare",
-        any.partial_cmp(&two).is_none(),
-    );
+    checks.holds("lists of two kinds don't compare", any.partial_cmp(&two).is_none());
     let one = Scalar::try_new(list(alloc, numbers(WITH), WITH)?, tuple(alloc, [])?)?;
     let other = Scalar::try_new(list(alloc, octets(WITH), WITH)?, tuple(alloc, [])?)?;
     checks.holds("no elements of two types", one.as_list() != other.as_list());
     let found = one.as_list().partial_cmp(&other.as_list());
     checks.holds("no elements of two types don't compare", found.is_none());
     let twin = Scalar::try_new(list(alloc, numbers(WITHOUT), WITHOUT)?, tuple(alloc, [])?)?;
-    equal(
-        checks,
-        "nullability inside",
-        one.as_list(),
-        twin.as_list(),
-        true,
-    );
+    equal(checks, "nullability inside", one.as_list(), twin.as_list(), true);
     let found = one.as_list().partial_cmp(&twin.as_list());
-    checks.holds(
-        "nullability inside: partial_cmp",
-        found == Some(Ordering::Equal),
-    );
+    checks.holds("nullability inside: partial_cmp", found == Some(Ordering::Equal));
     Ok(())
 }
 
@@ -160,21 +111,12 @@ fn variants_inside(alloc: Global, checks: &mut Checks<'_>) -> Done {
     let held = || typed(alloc, numbers(WITH), number(7));
     let one = Scalar::try_new(dtype.clone()?, tuple(alloc, [None, held()?])?)?;
     let twin = Scalar::try_new(dtype.clone()?, tuple(alloc, [None, held()?])?)?;
-    equal(
-        checks,
-        "lists of variants",
-        one.as_list(),
-        twin.as_list(),
-        true,
-    );
+    equal(checks, "lists of variants", one.as_list(), twin.as_list(), true);
     let found = one.as_list().partial_cmp(&twin.as_list());
     checks.holds("a variant decides", found.is_none());
     let short = Scalar::try_new(dtype, tuple(alloc, [None])?)?;
     let found = short.as_list().partial_cmp(&one.as_list());
-    checks.holds(
-        "the length decides before a variant",
-        found == Some(Ordering::Less),
-    );
+    checks.holds("the length decides before a variant", found == Some(Ordering::Less));
     Ok(())
 }
 
@@ -194,15 +136,9 @@ fn zeros(alloc: Global, checks: &mut Checks<'_>) -> Done {
     ];
     for (inner, is_zero) in Vec::from_array(alloc, given)? {
         let scalar = Scalar::variant(alloc, inner)?;
-        checks.holds(
-            "VariantScalar::is_zero",
-            scalar.as_variant().is_zero() == Some(is_zero),
-        );
+        checks.holds("VariantScalar::is_zero", scalar.as_variant().is_zero() == Some(is_zero));
     }
     let null = Scalar::null(DType::Variant(WITH));
-    checks.holds(
-        "VariantScalar::is_zero of null",
-        null.as_variant().is_zero().is_none(),
-    );
+    checks.holds("VariantScalar::is_zero of null", null.as_variant().is_zero().is_none());
     Ok(())
 }

@@ -1,17 +1,15 @@
-//! Views of truth values, numbers, texts and bytes: equality, hashes and order, and conversions
+//! Views of booleans, numbers, texts and bytes: equality, hashes and order, and conversions
 //! from scalars and to them.
 
 use crate::checks::Checks;
-use crate::make::{hash_of, is_twin, primitive};
+use crate::make::{hash_of, is_twin};
 use crate::samples::{BINARY, BOOL, NUMBERS, OCTETS, UTF8, groups};
-use crate::values::{Done, KINDS, WITH, WITHOUT, is_made, is_of};
+use crate::values::{Done, WITH, WITHOUT, is_made};
 use std::alloc::Global;
 use std::cmp::Ordering;
 use std::hash::Hash;
-use vortex_dtype::{DType, Nullability, PType};
-use vortex_scalar::{
-    BinaryScalar, BoolScalar, PrimitiveScalar, Scalar, ScalarError, ScalarViews, Utf8Scalar,
-};
+use vortex_dtype::{DType, PType};
+use vortex_scalar::{BinaryScalar, BoolScalar, PrimitiveScalar, Scalar, ScalarViews, Utf8Scalar};
 
 pub fn run(alloc: Global, checks: &mut Checks<'_>) -> Done {
     let (with, without) = (groups(alloc, WITH)?, groups(alloc, WITHOUT)?);
@@ -27,22 +25,20 @@ pub fn run(alloc: Global, checks: &mut Checks<'_>) -> Done {
         }
     }
     two_kinds(checks);
-    sums(checks)
+    Ok(())
 }
 
 /// A scalar is seen by the view of its kind alone.
 fn seen(checks: &mut Checks<'_>, kind: usize, scalar: &Scalar) {
-    let answer = BoolScalar::try_from(scalar);
-    checks.holds("BoolScalar::try_from", is_made(answer, kind == BOOL));
-    let answer = PrimitiveScalar::try_from(scalar);
-    checks.holds(
-        "PrimitiveScalar::try_from",
-        is_made(answer, kind == NUMBERS || kind == OCTETS),
-    );
-    let answer = Utf8Scalar::try_from(scalar);
-    checks.holds("Utf8Scalar::try_from", is_made(answer, kind == UTF8));
-    let answer = BinaryScalar::try_from(scalar);
-    checks.holds("BinaryScalar::try_from", is_made(answer, kind == BINARY));
+    let is_number = kind == NUMBERS || kind == OCTETS;
+    for (name, is_so) in [
+        ("BoolScalar::try_from", is_made(BoolScalar::try_from(scalar), kind == BOOL)),
+        ("PrimitiveScalar::try_from", is_made(PrimitiveScalar::try_from(scalar), is_number)),
+        ("Utf8Scalar::try_from", is_made(Utf8Scalar::try_from(scalar), kind == UTF8)),
+        ("BinaryScalar::try_from", is_made(BinaryScalar::try_from(scalar), kind == BINARY)),
+    ] {
+        checks.holds_at(name, kind, is_so);
+    }
 }
 
 /// The views stand so to each other.
@@ -56,10 +52,7 @@ fn stand<T: PartialOrd + Hash + Drop>(
     let is_equal = wanted == Ordering::Equal;
     checks.holds(name, one.partial_cmp(&other) == Some(wanted));
     checks.holds(name, other.partial_cmp(&one) == Some(wanted.reverse()));
-    checks.holds(
-        name,
-        (one == other) == is_equal && (other == one) == is_equal,
-    );
+    checks.holds(name, (one == other) == is_equal && (other == one) == is_equal);
     checks.holds(name, (hash_of(&one) == hash_of(&other)) == is_equal);
 }
 
@@ -71,13 +64,7 @@ fn views(checks: &mut Checks<'_>, kind: usize, one: &Scalar, other: &Scalar, wan
             stand(checks, "BoolScalar", one, other, wanted);
         }
         NUMBERS | OCTETS => {
-            stand(
-                checks,
-                "PrimitiveScalar",
-                one.as_primitive(),
-                other.as_primitive(),
-                wanted,
-            )
+            stand(checks, "PrimitiveScalar", one.as_primitive(), other.as_primitive(), wanted)
         }
         UTF8 => {
             let (one, other) = (one.as_utf8(), other.as_utf8());
@@ -114,10 +101,7 @@ fn back(checks: &mut Checks<'_>, kind: usize, scalar: &Scalar) -> Done {
     checks.holds("into_scalar", is_twin(&answer?, scalar));
     if kind == NUMBERS || kind == OCTETS {
         let made = Scalar::try_from(scalar.as_primitive())?;
-        checks.holds(
-            "Scalar::try_from of a number's view",
-            is_twin(&made, scalar),
-        );
+        checks.holds("Scalar::try_from of a number's view", is_twin(&made, scalar));
     }
     Ok(())
 }
@@ -127,86 +111,12 @@ fn two_kinds(checks: &mut Checks<'_>) {
     let (small, large) = (Scalar::from(7u8), Scalar::from(7i16));
     let (one, other) = (small.as_primitive(), large.as_primitive());
     checks.holds("numbers of two kinds", one != other && other != one);
-    checks.holds(
-        "numbers of two kinds don't compare",
-        one.partial_cmp(&other).is_none(),
-    );
+    checks.holds("numbers of two kinds don't compare", one.partial_cmp(&other).is_none());
     let (one, other) = (
         Scalar::null(DType::Primitive(PType::I16, WITH)),
         Scalar::null(DType::Primitive(PType::F16, WITH)),
     );
     let (one, other) = (one.as_primitive(), other.as_primitive());
     checks.holds("nulls of two kinds", one != other);
-    checks.holds(
-        "nulls of two kinds don't compare",
-        one.partial_cmp(&other).is_none(),
-    );
-}
-
-/// `+` and `-` at the ends of each kind. A type is nullable where a side's is.
-fn sums(checks: &mut Checks<'_>) -> Done {
-    for (ptype, least, most) in KINDS {
-        for (one, other) in [(most - 1, 1), (least, 0), (0, most), (1, 2)] {
-            let sum = [Some(one), Some(other), Some(one + other)];
-            for (first, second) in [(WITHOUT, WITHOUT), (WITH, WITHOUT), (WITHOUT, WITH)] {
-                let nullability = if first == second { WITHOUT } else { WITH };
-                added(checks, ptype, sum, [first, second, nullability])?;
-                subtracted(
-                    checks,
-                    ptype,
-                    [sum[2], sum[1], sum[0]],
-                    [first, second, nullability],
-                )?;
-            }
-        }
-        for numbers in [
-            [None, Some(most), None],
-            [Some(least), None, None],
-            [None, None, None],
-        ] {
-            added(checks, ptype, numbers, [WITH, WITH, WITH])?;
-            subtracted(checks, ptype, numbers, [WITH, WITH, WITH])?;
-        }
-    }
-    Ok(())
-}
-
-/// The numbers of the kind, each of a type of its nullability.
-fn scalars(
-    ptype: PType,
-    numbers: [Option<i128>; 3],
-    flags: [Nullability; 3],
-) -> Result<[Scalar; 3], ScalarError> {
-    let made = |i: usize| {
-        let value = match numbers[i] {
-            Some(number) => primitive(ptype, number),
-            None => None,
-        };
-        Scalar::try_new(DType::Primitive(ptype, flags[i]), value)
-    };
-    Ok([made(0)?, made(1)?, made(2)?])
-}
-
-fn added(
-    checks: &mut Checks<'_>,
-    ptype: PType,
-    numbers: [Option<i128>; 3],
-    flags: [Nullability; 3],
-) -> Done {
-    let [one, other, wanted] = scalars(ptype, numbers, flags)?;
-    let made = (one.as_primitive() + other.as_primitive()).into_scalar()?;
-    checks.holds("+", is_of(&made, wanted.dtype(), wanted.value()));
-    Ok(())
-}
-
-fn subtracted(
-    checks: &mut Checks<'_>,
-    ptype: PType,
-    numbers: [Option<i128>; 3],
-    flags: [Nullability; 3],
-) -> Done {
-    let [one, other, wanted] = scalars(ptype, numbers, flags)?;
-    let made = (one.as_primitive() - other.as_primitive()).into_scalar()?;
-    checks.holds("-", is_of(&made, wanted.dtype(), wanted.value()));
-    Ok(())
+    checks.holds("nulls of two kinds don't compare", one.partial_cmp(&other).is_none());
 }
