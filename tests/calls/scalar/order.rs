@@ -137,16 +137,8 @@ fn variants(alloc: Global, checks: &mut Checks<'_>) -> Done {
         number(7),
         typed(alloc, numbers(WITH), number(8))?,
         typed(alloc, numbers(WITH), None)?,
-        typed(
-            alloc,
-            DType::Variant(WITHOUT),
-            typed(alloc, numbers(WITH), number(7))?
-        )?,
-        typed(
-            alloc,
-            DType::Primitive(PType::U8, WITH),
-            Some(ScalarValue::from(7u8))
-        )?,
+        typed(alloc, DType::Variant(WITHOUT), typed(alloc, numbers(WITH), number(7))?)?,
+        typed(alloc, DType::Primitive(PType::U8, WITH), Some(ScalarValue::from(7u8)))?,
         typed(alloc, DType::Utf8(WITH), None)?,
     ]?;
     for value in &others {
