@@ -6,7 +6,7 @@ use crate::samples::{NUMBERS, OCTETS, groups};
 use crate::values::{Done, KINDS, WITH, WITHOUT, is_made, is_of};
 use std::alloc::Global;
 use vortex_dtype::{DType, Nullability, PType};
-use vortex_scalar::{Scalar, ScalarError};
+use vortex_scalar::Scalar;
 
 pub fn run(alloc: Global, checks: &mut Checks<'_>) -> Done {
     for (source, least, most) in KINDS {
