@@ -3,7 +3,6 @@
 use crate::column::{Column, Made, Play, has_rows};
 use crate::make_arrays::answered;
 use crate::values::Value;
-use std::alloc::Global;
 use vortex_arrays::{
     ArrayError, ListViewArray, ListViewArrayExt, ListViewRebuild, ListViewRebuildMode,
 };

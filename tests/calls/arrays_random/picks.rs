@@ -3,7 +3,6 @@
 use crate::column::{Column, Made, Play, is_refused, row_at, rows_at};
 use crate::leaves::{codes, validity};
 use crate::make_arrays::answered;
-use std::alloc::Global;
 use vortex_arrays::{ArrayError, ArrayRefExt, BitBuffer, Mask, ValidityExt, mask};
 
 pub fn slice(play: &mut Play<'_, '_>, column: Column) -> Made {

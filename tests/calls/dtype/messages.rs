@@ -14,7 +14,7 @@ use vortex_dtype::laws::{
     written_types_are_read,
 };
 use vortex_dtype::{
-    DType, DTypeError, DTypeSession, DecimalDType, Message, MessageKind, PType, is_shaped, to_proto,
+    DType, DTypeError, DTypeSession, DecimalDType, Message, MessageKind, is_shaped, to_proto,
 };
 
 /// Reads and writes a message of each kind.
