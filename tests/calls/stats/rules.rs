@@ -10,7 +10,7 @@ use vortex_stats::{
     StatsRewriteRuleRef, and, between, col, falsify, gt, like, lit, not, or, satisfy,
     BetweenOptions, StrictComparison,
 };
-use vortex_stats_expr::expression::Node;
+use vortex_stats::Node;
 
 type Answer = Result<Option<Expression>, StatsError>;
 
