@@ -39,7 +39,7 @@ pub no_truth_held : (r : Raw) → None ≡ boolean_in r → is_truth (content_of
 no_truth_held (raw_boolean b) e = absurd (cc (e))
 no_truth_held r e = refl
 
--- what a constant's value holds
+-- the value of a constant
 pub ruleset held = (whole_number_in-number, no_number, truth_held, no_truth_held)
 
 pub ruleset integers = (integer_kind, values_are_integers, strings_are_no_integers, constant_integer)

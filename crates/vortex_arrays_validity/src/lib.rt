@@ -1,4 +1,4 @@
-//! Which rows are null: what is known of it, how it is read whole, and how it is changed.
+//! Which rows are null: what is known without reading an array, all rows at once, and changes.
 #![tactic(auto)]
 
 mod bits;
