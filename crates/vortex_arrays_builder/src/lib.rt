@@ -1,6 +1,5 @@
-//! Arrays made of values: laid out plain, as a dictionary or as a constant.
-//!
-//! Arrays of integers from their bytes.
+//! Arrays made of values, in plain layout, as dictionaries or constants, and arrays of integers
+//! read from bytes.
 #![tactic(auto)]
 
 pub mod constant;

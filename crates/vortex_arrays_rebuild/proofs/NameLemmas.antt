@@ -1,4 +1,4 @@
--- The rows of runs, named by their positions.
+-- The rows of runs, by a dictionary of their positions.
 use Rattle.std.proofs.Common.{◌≡◌, ◌<◌, ℕ, pos, false, List, length, map, get_or, refl, subst}
 use Rattle.std.specs.List.{All}
 use Rattle.vortex_model.specs.LogicalType.{u64}
@@ -21,7 +21,7 @@ named_sound a c n runs e sc sa same w = let p = named_rows a c n runs e sc sa sa
 
 pub ruleset naming = (named_rows, named_sound)
 
--- numbers without nulls are refused for want of memory alone
+-- integers without null fail only where memory runs out
 pub only_memory : (e : ArrayError) (n : ℕ) → IsLeafFault e required n → e ≡ error.Memory
 only_memory error.Memory n h = refl
 only_memory e n h = absurd h

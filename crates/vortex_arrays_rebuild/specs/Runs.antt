@@ -21,7 +21,7 @@ items_of_run xs run = take run.len (drop run.start xs)
 abbrev pub items_in : {A : Type 0} → List A → List Run → List A
 items_in xs runs = flat_map (items_of_run xs) runs
 
--- the positions of the elements of lists of one size, where these lists stand at positions
+-- the positions of the elements of the fixed-size lists at positions
 abbrev pub elements_at : ℕ → List ℕ → List ℕ
 elements_at size ps = flat_map (λ p. range_with_len (p * size) size) ps
 
@@ -33,7 +33,7 @@ LiesWithin n run = run.start + run.len ≤ n
 pub record FitWithin (n : ℕ) (runs : List Run) : Type 0 where
   pub each : All (LiesWithin n) runs
 
--- want of memory, or more elements than can be counted
+-- memory ran out, or there are 2^64 elements or more
 abbrev pub IsLengthFault : ArrayError → ℕ → Type 0
 IsLengthFault error.Memory n = Unit {0}
 IsLengthFault error.Total n = 2 ^ 64 ≤ n
