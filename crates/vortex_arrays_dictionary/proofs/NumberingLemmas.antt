@@ -64,7 +64,7 @@ many_more rs ns r n h = omega (arith, length-append ns (n ∷ []), length-append
 contents_more : (rs : List Raw) (r : Raw) → map content_of (rs ++ r ∷ []) ≡ map content_of rs ++ content_of r ∷ []
 contents_more rs r = map-append content_of rs (r ∷ [])
 
--- the values are the same where the key is known or the value is null
+-- the values don't change where the key is known or the value is null
 kept_all : (ds es : List Raw) → es ≡ ds → (j : ℕ) → j < length ds → (j < length es) × (get_or es j raw_null ≡ get_or ds j raw_null)
 kept_all ds es e j l = (subst (λ xs. j < length xs) (sym e) l, ap (λ xs. get_or xs j raw_null) e)
 
