@@ -33,7 +33,7 @@ in_front pick c (Some d) = pick c d
 abbrev pub DoCompare : List Content → Type 0
 DoCompare cs = AllCompare (non_null cs)
 
--- the statistics so far are those of these values
+-- the statistics so far are exactly what the values cs have
 pub record IsSeen {V : Type 0} (said : V → Content) (r : Running V)
     (cs : List Content) : Type 0 where
   pub least : DoCompare cs → option_map said r.least ≡ least_value (non_null cs)

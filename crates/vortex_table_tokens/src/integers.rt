@@ -1,4 +1,4 @@
-//! Integers from the texts of JSON numbers.
+//! Integers of JSON numbers, which come as strings.
 ghost use Rattle.std.specs.Prelude.{◌≡◌, ◌<◌, ◌==◌, true, false, Some, IfOk, IsTrue, length, slice_index};
 ghost use Rattle.std.specs.Str.Parse.{digits_value, IsNumeral};
 ghost use Rattle.fast_float.specs.Text.{scan};
