@@ -73,7 +73,7 @@ fn is_present_at(values: &[Option<&ScalarValue>], i: usize) -> bool
     is_present(values[i])
 }
 
-/// Whether there is a value.
+// Whether there is a value.
 #[tactic(auto, using(vortex_scalar_value::proofs::Nulls::never_null))]
 fn is_present(value: Option<&ScalarValue>) -> bool
     ensures { result ≡ is_there nullable (raw_at value.entry) }

@@ -54,7 +54,7 @@ pub fn cast_array(
 /// are known to be within a range. They are not tested where the target has all of the range. The
 /// ranges are sorted by their positions.
 ///
-/// The names of fields are shared with the array `names`, where that has the same ones in the same
+/// The names of fields are shared with the array `other`, where that has the same ones in the same
 /// structs.
 #[tactic(auto, using(crate::proofs::CastLemmas::rows))]
 pub fn cast_array_within(

@@ -125,7 +125,7 @@ impl Validity {
         }
     }
 
-    // An array of booleans, false at the rows that are null, where a row or a position can be null.
+    // The null rows as an array of booleans, where a row or a position can be null.
     fn array_at(
         &self,
         alloc: Global,

@@ -28,7 +28,7 @@ none_said : (statistics_in (merged_ordered true below_zero one_null)).nulls ≡ 
 unfolding below_zero one_null
 none_said = refl
 
--- A second value of a statistic is never read, but is used.
+-- A second value of a statistic is not read from a list, but a combination takes it.
 sum_twice : Pairs
 sum_twice = (stat.Sum, absent) ∷ (stat.Sum, exact (raw_number i64 (pos 7))) ∷ []
 
@@ -40,7 +40,7 @@ wrong_sum_taken : (statistics_in (combined_in_turn true [] sum_twice).0).total �
 unfolding sum_twice
 wrong_sum_taken = refl
 
--- The merge of columns of two types has rows that are not constant, even if their contents are
+-- The merge of columns of two types reports the rows as not constant, even if their contents are
 -- equal.
 ones : Pairs
 ones = (stat.IsConstant, exact (raw_boolean true)) ∷ (stat.Min, exact (raw_number i32 (pos 1))) ∷ []

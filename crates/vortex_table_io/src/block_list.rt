@@ -9,8 +9,8 @@ use std::marker::Model;
 // The most items of a block.
 const BLOCK_LEN: usize = 256;
 
-/// A list of items, which contracts see in order. `remove` moves at most the items of one block and
-/// the blocks after it; the other items stay where they are.
+/// A list of items, which contracts see in order. `remove` takes time in the number of blocks, and
+/// moves items of one block only.
 #[derive(Drop)]
 pub struct BlockList<T> {
     blocks: Vec<Vec<T>>,

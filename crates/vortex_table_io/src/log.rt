@@ -6,7 +6,7 @@ ghost use Rattle.vortex_table_io.specs.declared.call.Call.{Call};
 use crate::call::Call;
 use std::marker::Model;
 
-/// The bytes that went through. It has no size, and its methods do nothing at run time.
+/// The bytes that went through. It is zero-sized, and its methods do nothing at run time.
 ///
 /// Nothing ties the bytes to memory: the contract that makes each log from the one before gives
 /// them. So code that is generic over a [`Source`](crate::Source) learns from each read what that
@@ -43,7 +43,7 @@ impl Log {
     }
 }
 
-/// How the calls so far ended. Like a [`Log`] it has no size, and its methods do nothing at run
+/// How the calls so far ended. Like a [`Log`] it is zero-sized, and its methods do nothing at run
 /// time.
 #[derive(Drop)]
 pub struct CallLog {

@@ -1,4 +1,4 @@
-//! A source and a sink in memory, which cut and fail as asked.
+//! A source and a sink in memory, which transfer few bytes a call and fail as asked.
 ghost use Rattle.std.specs.Prelude.{◌≡◌, ◌⊎◌, ◌<◌, ◌≤◌, ◌+◌, min, length, take, drop, [], ◌∷◌, ◌++◌, true, false, IfOk, IfErr, OnOk, OnErr};
 ghost use Rattle.std.specs.Io.{ReadsAtMost, WritesAtMost};
 ghost use Rattle.std.specs.IoError.{error_kind};

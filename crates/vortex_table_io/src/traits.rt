@@ -24,7 +24,7 @@ pub trait Source {
     fn ended(&self) -> bool
         ensures { result ≡ has_ended (calls self.now) };
 
-    /// Also after a read that was interrupted.
+    /// Whether a read has failed, or was interrupted.
     fn failed(&self) -> bool
         ensures { result ≡ has_failed (calls self.now) };
 }
@@ -55,7 +55,7 @@ pub trait Sink {
             ≡ flushed_after result (history self.new) (flushed self.old) }
         ensures call { calls self.new ≡ calls self.old ++ flush_call result ∷ [] };
 
-    /// Also after a write of some bytes that took none.
+    /// Whether a write or a flush has failed, or a write of some bytes took none.
     fn failed(&self) -> bool
         ensures { result ≡ has_failed (calls self.now) };
 }

@@ -195,7 +195,7 @@ fn take_command(alloc: Global, reader: &mut Reader<'_>, verb: Verb) -> Result<Co
     }
 }
 
-// The command of a JSON string, if nothing follows it.
+// The command of a UTF-8 line, if nothing follows it.
 fn read_text(
     alloc: Global,
     text: &str,
