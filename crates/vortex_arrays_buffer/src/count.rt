@@ -1,4 +1,4 @@
-//! Counts of true bits. A byte in which all eight bits are meant is counted at once.
+//! Counts of true bits. A byte that is within the range as a whole is counted at once.
 ghost use Rattle.std.specs.Prelude.{◌≡◌, ◌<◌, ◌≤◌, ◌-◌, ◌*◌, ◌^◌, length, count_by};
 ghost use Rattle.vortex_arrays_buffer.specs.Bits.{bits_of};
 

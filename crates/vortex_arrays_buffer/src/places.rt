@@ -1,4 +1,4 @@
-//! Indices of true bits. A byte in which all eight bits are meant is read at once.
+//! Indices of true bits. A byte that is within the range as a whole is read at once.
 ghost use Rattle.std.specs.Prelude.{◌≡◌, ◌<◌, ◌≤◌, ◌+◌, ◌-◌, ◌*◌, ◌^◌, length, count_by};
 ghost use Rattle.vortex_arrays_buffer.specs.Bits.{bits_of, positions_of};
 ghost use Rattle.vortex_arrays_buffer.specs.Places.{AddsPlaces};

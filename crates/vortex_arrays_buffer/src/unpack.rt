@@ -1,4 +1,4 @@
-//! Bits unpacked into booleans, sixteen at once where two bytes are meant as a whole.
+//! Bits unpacked into booleans, sixteen at once where two bytes are within the range as a whole.
 ghost use Rattle.std.specs.Prelude.{◌≡◌, ◌<◌, ◌≤◌, ◌+◌, ◌-◌, ◌*◌, ◌^◌, ◌++◌, length, take, IfOk, OnOk};
 ghost use Rattle.vortex_arrays_buffer.specs.Bits.{bits_of};
 

@@ -24,7 +24,8 @@ pub record AreViewsOf (rs : List Raw) (buffers views : List (List ℕ)) : Type 0
   pub reads : (i : ℕ) → i < length rs →
       value_of (slice_index_or views i []) buffers ≡ bytes_in (slice_index_or rs i raw_null)
 
--- memory ran out, or a value is longer than a buffer can be, or there would be 2^32 buffers or more
+-- memory ran out, or a value is longer than a buffer can be, or there would be more than 2^32
+-- buffers
 abbrev pub IsStringsFault : ArrayError → List Raw → Type 0
 IsStringsFault e rs =
     IsLimitFault e (flat_map buffered rs) (map buffered_len rs) 0 2147483647

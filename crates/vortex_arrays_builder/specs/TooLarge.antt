@@ -19,8 +19,8 @@ buffered_bytes c = cond (leb (length (string_bytes c)) 12) [] (string_bytes c)
 abbrev pub buffered_count : Content → ℕ
 buffered_count c = length (buffered_bytes c)
 
--- A value is longer than a buffer can be, or the values need 2^32 buffers or more, however they are
--- cut.
+-- A value is longer than a buffer can be, or the values need more than 2^32 buffers, however they
+-- are cut.
 abbrev pub AreTooLong : List Content → Type 0
 AreTooLong rows = Any (λ row. 2147483647 < buffered_count row) rows
     ⊎ ((buffers : List (List ℕ)) → IsCutting (flat_map buffered_bytes rows)

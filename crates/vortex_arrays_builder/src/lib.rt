@@ -1,5 +1,5 @@
-//! Arrays made of values, in plain layout, as dictionaries or constants, and arrays of integers
-//! read from bytes.
+//! Arrays built of values, in plain layout or as constants, tests of which layouts fit a column,
+//! and arrays of integers read from bytes.
 #![tactic(auto)]
 
 pub mod constant;

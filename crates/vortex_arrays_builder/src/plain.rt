@@ -26,7 +26,7 @@ use vortex_scalar_value::scalar_value::ScalarValue;
 /// bytes by views, lists end to end and structs field by field. `None` is null.
 ///
 /// `Total` where a column of strings or bytes, at any depth, is too large: a value is longer than a
-/// buffer can be, or there would be 2^32 buffers or more.
+/// buffer can be, or there would be more than 2^32 buffers.
 #[tactic(auto, using(crate::proofs::PlainLemmas::rows))]
 pub fn build_plain(
     alloc: Global,

@@ -26,7 +26,7 @@ use vortex_dtype_ptype::nullability::Nullability;
 use vortex_scalar_value::scalar_value::ScalarValue;
 
 /// An array of strings or bytes. `Total` where a value is longer than a buffer can be, or there
-/// would be 2^32 buffers or more.
+/// would be more than 2^32 buffers.
 #[tactic(auto, using(crate::proofs::StringLemmas::plain))]
 pub fn of_strings(
     alloc: Global,

@@ -43,7 +43,7 @@ pub(crate) fn field_ranges<'a, 'b>(
     match validity {
         Validity::NonNullable => ranges,
         Validity::AllValid => ranges,
-        // A field's value in a null struct is not in the range of the column.
+        // In a null struct a field's value may be outside of the range.
         Validity::AllInvalid => &[],
         Validity::Array(_) => &[],
     }

@@ -29,9 +29,9 @@ pub trait ValidityConcat: Sized {
     fn array_dtype() -> DType
         ensures { type_of result ≡ boolean_type non_nullable };
 
-    /// The validities of as many rows each, one after another, and `None` where there is none. A
-    /// row can be null where it can in one of them. Where all show without reading an array that no
-    /// row is null, or that each is, so does the result.
+    /// The validities, each of its number of rows, one after another, and `None` where there is
+    /// none. A row can be null where it can in one of them. Where all show without reading an array
+    /// that no row is null, or that each is, so does the result.
     ///
     /// `Total` where there are 2^64 rows or more.
     fn concat(alloc: Global, parts: &[(Self, usize)]) -> Result<Option<Self>, ArrayError>

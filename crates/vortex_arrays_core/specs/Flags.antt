@@ -10,7 +10,7 @@ pub data ViewFlags : Type 0 where
   view_flag : Bool → ViewFlags
   field_flags : ViewFlags → ViewFlags → ViewFlags
 
--- the flags of the list views that are fields, at any depth of structs
+-- the flags of the list views that are reached only through structs
 abbrev mutual
   pub flags_of : Layout → ViewFlags
   flags_of (list_views e o s f v) = view_flag f

@@ -281,8 +281,8 @@ impl ListViewArray {
         view_at(slots.offsets, slots.sizes, i, slots.elements.len()).1
     }
 
-    /// The least offset and the greatest end of a list, also of null and empty lists, as Vortex's
-    /// `referenced_element_bounds`. `None` where there is no list.
+    /// The least offset and the greatest end of the lists, null and empty ones included, as
+    /// Vortex's `referenced_element_bounds`. `None` where there is no list.
     pub fn referenced_element_bounds(&self) -> Option<(usize, usize)>
         ensures bounds { MatchOption result (len_of self.now ≡ 0)
             (λ b. AreBounds (offsets_of self.now) (sizes_of self.now) b.0 b.1) }

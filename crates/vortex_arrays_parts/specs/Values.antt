@@ -53,7 +53,7 @@ HoldsStrings k = ⊥
 abbrev pub HaveNulls : Nullability → List (Option (List ℕ)) → Type 0
 HaveNulls n vs = n ≡ non_nullable → All IsPresent vs
 
--- A value is longer than a buffer can be, or the values need 2^32 buffers or more.
+-- A value is longer than a buffer can be, or the values need more than 2^32 buffers.
 abbrev pub AreTooLarge : List (Option (List ℕ)) → Type 0
 AreTooLarge vs = IsStringsFault error.Total (map raw_of_bytes vs)
 

@@ -1,7 +1,5 @@
-//! Names of the arrays as data.
-//!
-//! In Vortex an array is its data with a type and a length, and has the calls of its data. Here the
-//! layout has all of that, so the data of an array is the array.
+//! Names of the arrays as data. In Vortex an array is its data with a type and a length, and has
+//! the calls of its data. Here the layout has all of that, so the data of an array is the array.
 
 use vortex_arrays_leaf::bool_array::BoolArray;
 use vortex_arrays_leaf::constant_array::ConstantArray;

@@ -16,7 +16,7 @@ use vortex_dtype_core::dtype::DType;
 
 /// The calls of Vortex's `VarBinViewArray` that iterate over values. An iterator is consumed to its
 /// end; values of at most twelve bytes are copied into their views, the others into buffers.
-/// `Total` where a value is longer than a buffer can be, or there would be 2^32 buffers or more.
+/// `Total` where a value is longer than a buffer can be, or there would be more than 2^32 buffers.
 pub trait VarBinViewArrayIter: Sized {
     // The layout of the array.
     ghost layout: { Self → Layout };

@@ -37,7 +37,7 @@ pub enum ListViewRebuildMode {
     TrimElements,
     /// `TrimElements` for a view with the flag set, else `MakeZeroCopyToList`.
     MakeExact,
-    /// Would store elements that lists share once: not implemented.
+    /// Would store elements that lists share only once; not implemented.
     OverlapCompression,
 }
 

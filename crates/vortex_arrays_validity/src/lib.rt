@@ -1,4 +1,5 @@
-//! Which rows are null: what is known without reading an array, all rows at once, and changes.
+//! Further calls of `Validity`, which test, convert, combine and patch null rows, and the integers
+//! of an array as indices.
 #![tactic(auto)]
 
 mod bits;

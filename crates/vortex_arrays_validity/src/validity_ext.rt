@@ -130,15 +130,15 @@ pub trait ValidityExt {
         ensures some { IfSome result (λ v. NoneNull (valid self) len) }
         ensures none { IfNone result (NoneNull (valid self) len → ⊥) };
 
-    /// The same null rows with this nullability. `None` where it has no null and the nulls are only
-    /// known by reading an array, or all rows are null.
+    /// The same null rows with this nullability. `None` for `NonNullable`, unless no row is null as
+    /// far as is known without reading an array.
     fn trivially_cast_nullability(self, nullability: Nullability) -> Option<Self>
         ensures made { IfSome result (λ v. (n : ℕ) → HasLength (valid self) n
             → IsRecast (valid self) (valid v) (nullability_of_flag nullability) n) }
         ensures none { IfNone result ((nullability_of_flag nullability ≡ non_nullable)
             × (shows_no_null (valid self) ≡ false)) };
 
-    /// The same null rows with this nullability. `NullInNonNullable` where it has no null and a row
+    /// The same null rows with this nullability. `NullInNonNullable` for `NonNullable` where a row
     /// is null.
     fn cast_nullability(self, nullability: Nullability, len: usize) -> Result<Self, ArrayError>
         requires { HasLength (valid self) len }
@@ -147,7 +147,8 @@ pub trait ValidityExt {
         ensures refused { IfErr result
             (λ e. IsCastFault e (valid self) (nullability_of_flag nullability) len) };
 
-    /// The validity whose rows are null where a bit is false. Without null each bit has to be true.
+    /// The validity whose rows are null where a bit is false. For `NonNullable` each bit has to be
+    /// true.
     fn from_bit_buffer(
         alloc: Global,
         bits: BitBuffer,
@@ -158,8 +159,8 @@ pub trait ValidityExt {
             × (nullability_by (valid v) ≡ nullability_of_flag nullability)
             × (valid_rows (valid v) (length bits) ≡ bits)) };
 
-    /// The validity whose rows are null where the mask doesn't keep them. Without null it has to
-    /// keep all.
+    /// The validity whose rows are null where the mask doesn't keep them. For `NonNullable` it has
+    /// to keep all.
     fn from_mask(alloc: Global, mask: &Mask, nullability: Nullability) -> Result<Self, AllocError>
         requires { nullability_of_flag nullability ≡ non_nullable → All (λ b. b ≡ true) mask.now }
         ensures { IfOk result (λ v. (HasLength (valid v) (length mask.now))

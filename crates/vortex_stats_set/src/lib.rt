@@ -1,4 +1,4 @@
-//! Sets of statistics of a column, each at most once, their merges and their intersections.
+//! Sets of statistics of a column, each at most once, with their merges and intersections.
 #![tactic(auto)]
 
 mod combine;

@@ -1,5 +1,5 @@
-//! A server of lines ([`run_lines`] has a [`LineHandler`] answer each line of a [`Source`] in a
-//! [`Sink`]), readers and writers whose clauses name each byte and each call, and lists in blocks.
+//! Readers and writers whose clauses name each byte and each call, [`run_lines`], which has a
+//! [`LineHandler`] answer each line of a [`Source`] in a [`Sink`], and lists in blocks.
 #![tactic(auto)]
 
 pub mod block_list;

@@ -7,8 +7,8 @@ use Rattle.vortex_arrays_model.specs.Canonical.{counts, IsRebuilt}
 use Rattle.vortex_arrays_rebuild.specs.Rebuilds.{total_of}
 use Rattle.vortex_table_layout.specs.TooManyElements.{HasTooManyElements}
 
--- b is a with each list view that is a field, at any depth of structs, rebuilt: one that is flagged
--- or has no rows is unchanged, and any other is end to end and flagged.
+-- b is a with each list view that is reached only through structs rebuilt: one that is flagged or
+-- has no rows is unchanged, and any other is end to end and flagged.
 abbrev mutual
   pub IsCompacted : Layout → Layout → Type 0
   IsCompacted (list_views e o s f v) b = IsRebuilt e o s f v b
@@ -21,8 +21,8 @@ abbrev mutual
   AreCompacted (column x a cs) (column y b ds) = (y ≡ x) × IsCompacted a b × AreCompacted cs ds
   AreCompacted cs ds = ⊥
 
--- An unflagged list view that is a field, at any depth of structs, has 2^64 items or more, rows in
--- null structs included.
+-- An unflagged list view that is reached only through structs has 2^64 items or more, rows in null
+-- structs included.
 abbrev mutual
   pub HasTooManyItems : Layout → Type 0
   HasTooManyItems (list_views e o s f v) =
@@ -42,8 +42,8 @@ pub record HasSeenLists (seen : ℕ → Bool) (e o s : Layout) (v : Valid) (b : 
   pub size : (i : ℕ) → i < len_of s → slice_index_or sizes i 0 ≡
       cond (seen i) (number_in (content_at s i)) 0
 
--- b is a with the lists in null structs emptied, in each unflagged list view that is a field at any
--- depth of structs. seen i says that no struct above row i is null.
+-- b is a with the lists in null structs emptied, in each unflagged list view that is reached only
+-- through structs. seen i says that no struct above row i is null.
 abbrev mutual
   pub IsShown : (ℕ → Bool) → Layout → Layout → Type 0
   IsShown seen (list_views e o s true v) b = b ≡ list_views e o s true v

@@ -4,7 +4,7 @@ use Rattle.vortex_model.specs.LogicalType.{LogicalType}
 use Rattle.vortex_dtype_core.specs.Parts.{is_struct_type}
 use Rattle.vortex_arrays_model.specs.Layout.{Layout, records, Columns, no_columns, column, array_type_of}
 
--- each field of a struct type, at any depth of structs, is a struct array
+-- each part of a struct type that is reached only through structs is a struct array
 abbrev mutual
   pub has_record_columns : Layout → Bool
   has_record_columns (records cs n v) = have_record_columns cs

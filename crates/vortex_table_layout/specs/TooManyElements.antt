@@ -9,7 +9,7 @@ abbrev pub size_of : Content → ℕ
 size_of (tuple cs) = count cs
 size_of c = 0
 
--- a list column that is a field, at any depth of structs, has 2^64 elements or more
+-- a list column that is reached only through structs has 2^64 elements or more
 abbrev mutual
   pub HasTooManyElements : LogicalType → List Content → Type 0
   HasTooManyElements (list k n) rows = 2 ^ 64 ≤ sum_by size_of rows

@@ -31,8 +31,8 @@ use vortex_arrays_validity::places::places_or;
 use vortex_arrays_view::error::ArrayError;
 use vortex_dtype_ptype::field_names::FieldNames;
 
-/// The array with each list view that is a field, at any depth of structs, rebuilt: its lists are
-/// end to end, and flagged as such. Parts that don't change are shared and not copied.
+/// The array with each list view that is reached only through structs rebuilt: its lists are end to
+/// end, and flagged as such. Parts that don't change are shared and not copied.
 ///
 /// Lists in null structs are rebuilt too. Where the number of elements of some view would overflow
 /// with them, such lists become empty in each view.

@@ -1,8 +1,6 @@
-//! Predicates of a scan from JSON.
-//!
-//! `Malformed` where an array has no form of `forms`, or an operand is no predicate. Columns and
-//! types are not checked here: the table's `scan` refuses operands of the wrong type, columns that
-//! don't exist, and forms that no scan takes.
+//! Predicates of a scan from JSON. `Malformed` where an array has no form of `forms`, or an operand
+//! is no predicate. Columns and types are not checked here: the table's `scan` refuses operands of
+//! the wrong type, columns that don't exist, and forms that no scan takes.
 ghost use Rattle.std.specs.Prelude.{◌≡◌, option_and_then};
 ghost use Rattle.serde_json.specs.Find.{at};
 ghost use Rattle.serde_json.specs.View.{view, items_view};

@@ -1,7 +1,5 @@
-//! Predicates of scans from tokens.
-//!
-//! Forms that no scan takes, such as placeholders, aren't read here. Results are returned in boxes,
-//! since they become operands in boxes anyway.
+//! Predicates of scans from tokens. Forms that no scan takes, such as placeholders, aren't read
+//! here. Results are returned in boxes, since they become operands in boxes anyway.
 ghost use Rattle.std.specs.Prelude.{◌≡◌, ◌∷◌, ℕ, List, Some, IfOk};
 ghost use Rattle.json.specs.Token.{begin_array, string, boolean};
 ghost use Rattle.vortex_dtype_core.specs.View.{type_of};
