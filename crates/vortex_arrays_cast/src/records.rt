@@ -14,7 +14,7 @@ use vortex_dtype_core::dtype::DType;
 use vortex_dtype_core::struct_fields::StructFields;
 
 /// A struct array of these columns, with the names of the fields of the type, which are shared with
-/// the other array where that has them.
+/// the given array where that has them.
 pub(crate) fn of_columns(
     alloc: Global,
     dtype: &DType,

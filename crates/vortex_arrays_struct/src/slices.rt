@@ -38,7 +38,7 @@ pub fn slice_of_slice(
     Ok((part, twice, once))
 }
 
-/// The slice of all rows, which has the rows and the type of the array. Only memory can run out.
+/// The slice of all rows, which has the rows and the type of the array. `Memory` is the only error.
 #[tactic(auto, using(crate::proofs::Rows::whole))]
 pub fn slice_of_all(array: &ArrayRef, alloc: Global) -> Result<ArrayRef, ArrayError>
     ensures slice { IfOk result (λ all. Picks array.now all (len_of array.now - 0)

@@ -212,8 +212,8 @@ fn gather<M: LineHandler, W: Sink>(
     Ok(())
 }
 
-// Takes the next piece of the input, and answers each line that it completes, short answers in one
-// write.
+// Takes the next piece of the input, and answers each line that it completes, the short answers
+// together.
 fn feed<M: LineHandler, W: Sink>(
     alloc: Global,
     handler: &mut M,

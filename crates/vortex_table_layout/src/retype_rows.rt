@@ -168,8 +168,8 @@ fn convert_by_rows(
 /// where a column of strings or bytes is too large for views and buffers.
 ///
 /// The integers of a leaf column are not tested if the target has their least and their greatest.
-/// `ranges` is a buffer for that. Names of fields are shared with the other array where that has
-/// the same ones.
+/// `ranges` is a buffer for that. Names of fields are shared with `other` where that has the same
+/// ones.
 #[inline(never)]
 #[tactic(auto, using(crate::proofs::ConvertedRows::all_convertible))]
 pub(crate) fn convert_chunk<'a>(

@@ -48,9 +48,9 @@ impl Retyping<'_> {
     ghost use Rattle.vortex_arrays_builder.specs.TooLarge.{AreTooLarge};
     ghost use Rattle.vortex_table_layout.specs.AnyTooLarge.{AnyTooLarge};
 
-    // `first` is the index of the chunk's first row in the table. Names are shared with the other
-    // array where that has the same ones, and `ranges` is a buffer. It is not inlined, so that its
-    // work on a chunk uses a small frame instead of that of all commands.
+    // `first` is the index of the chunk's first row in the table. Names are shared with `other`
+    // where that has the same ones, and `ranges` is a buffer. It is not inlined, so that its work
+    // on a chunk uses a small frame instead of that of all commands.
     #[inline(never)]
     fn retype_chunk<'a>(
         &self,

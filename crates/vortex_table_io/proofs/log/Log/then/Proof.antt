@@ -22,7 +22,7 @@ self_slot = shr_ref_to (0 ∷ []) tt (plain (λ _. the_row))
 abbrev piece_slot : Slot 3
 piece_slot = shr_ref_to (1 ∷ []) tt (plain piece_row)
 
--- the two references lend nothing
+-- nothing is kept of the two references
 abbrev stayed : Stays f.ended.signature.params f.ended.kept
 stayed = (stay_dropped _ yes, (stay_dropped _ yes, tt))
 
