@@ -57,7 +57,7 @@ impl Mask {
         Mask { bits, true_count }
     }
 
-    /// A mask that keeps the rows at the positions.
+    /// A mask that keeps the rows at the indices.
     pub fn from_indices(alloc: Global, len: usize, indices: &[usize]) -> Result<Mask, AllocError>
         requires { All (λ i. i < len) indices.now }
         ensures { IfOk result (λ mask. mask ≡ bits_at len indices.now) }
@@ -134,7 +134,7 @@ impl Mask {
         Ok(Mask::from_buffer(bits))
     }
 
-    /// The positions of the kept rows, ascending.
+    /// The indices of the kept rows, ascending.
     pub fn indices(&self, alloc: Global) -> Result<Vec<usize>, AllocError>
         ensures { IfOk result (λ positions. positions.items ≡ positions_of self.now) }
     {

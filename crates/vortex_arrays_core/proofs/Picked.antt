@@ -93,7 +93,7 @@ pub not_nullable : (m : Nullability) → is_nullable m ≡ false → m ≡ non_n
 not_nullable non_nullable e = refl
 not_nullable nullable e = cc
 
--- an integer that can't be null is a position
+-- an integer that can't be null is an index
 is_position : (k : LogicalType) (c : Content) → IsInteger k → nullability_of k ≡ non_nullable → IsContent k c → is_valid_some required (position_of c) ≡ true
 is_position (integer_type i n) null g e h = absurd (let b : IsNullable non_nullable = subst IsNullable e h in b)
 is_position (integer_type i n) (integer z) g e h = refl
@@ -108,7 +108,7 @@ valid_alike : (p : Option ℕ) → is_valid_some all_valid p ≡ is_valid_some r
 valid_alike None = refl
 valid_alike (Some i) = refl
 
--- which rows are null at positions that can't be null
+-- which rows are null at indices that can't be null
 pub taken_required : (c : Layout) → IsSound c → IsInteger (array_type_of c) → nullability_of (array_type_of c) ≡ non_nullable → PicksSomeValid required required (nullability_of (array_type_of c)) (len_of c) (λ i. position_of (content_at c i))
 taken_required c s g e = record {
   fits = tt;
@@ -123,11 +123,11 @@ taken_all_valid c s g e = record {
   bits = λ i l. let p : is_valid_some required (position_of (content_at c i)) ≡ true = is_position (array_type_of c) (content_at c i) g e (rows_valid c s i l) in sym (valid_alike (position_of (content_at c i)) ∙ p);
 }
 
--- each row of an array of nulls is null at each position
+-- each row of an array of nulls is null at each index
 pub taken_all_null : (m : Nullability) (n : ℕ) (f : ℕ → Option ℕ) → PicksSomeValid all_null all_null m n f
 taken_all_null m n f = record { fits = tt; nullability = sym (either_second m); bits = λ i l. sym (no_row_valid (f i)) }
 
--- which rows are null, for each position
+-- which rows are null, for each index
 pub taken_by_array : (v : Valid) (m : Nullability) (n : ℕ) (f : ℕ → Option ℕ) (a : Layout) (bs : List Bool) → either_nullable m (nullability_by v) ≡ nullable → a ≡ bools bs required → length bs ≡ n → ((i : ℕ) → i < n → get_or bs i false ≡ is_valid_some v (f i)) → PicksSomeValid v (by_array a) m n f
 taken_by_array v m n f a bs e made many same = subst (λ b. PicksSomeValid v (by_array b) m n f) (sym made) (record {
   fits = (tt, many, refl);
@@ -135,7 +135,7 @@ taken_by_array v m n f a bs e made many same = subst (λ b. PicksSomeValid v (by
   bits = λ i l. same i l;
 })
 
--- a position is null where its validity is false
+-- an index is null where its validity is false
 told : (b : Bool) (z : ℤ) → b ≡ is_valid_some required (position_of (cond b (integer z) null))
 told true z = refl
 told false z = refl
@@ -148,7 +148,7 @@ is_nullable_too : (m : Nullability) → is_nullable m ≡ true → m ≡ either_
 is_nullable_too non_nullable e = cc
 is_nullable_too nullable e = refl
 
--- where no row is null, the rows with a null position are null
+-- where no row is null, the rows with a null index are null
 pub taken_by_nulls : (c : Layout) (k : IntKind) (xs : List ℤ) (w u : Valid) → c ≡ numbers k xs w → IsSound c → u ≡ w → PicksSomeValid required u (nullability_of (array_type_of c)) (len_of c) (λ i. position_of (content_at c i))
 taken_by_nulls c k xs w u e s d =
     let h : IsSound (numbers k xs w) = subst IsSound e s in
@@ -234,7 +234,7 @@ told_where bits n (pos i) true h = and_true (get_or bits i false)
 told_where bits n (negsuc i) true h = absurd h
 told_where bits n z false h = and_false (bit_at_number bits z)
 
--- rows that are not null at positions that are not null
+-- rows that are not null at indices that are not null
 pub taken_by_bits : (v : Valid) (c r : Layout) (k : IntKind) (zs : List ℤ) (w u : Valid) (bits chosen : List Bool) (n m : ℕ) → v ≡ by_array (bools bits required) → c ≡ numbers k zs w → r ≡ bools chosen required → chosen ≡ map (bit_at_number bits) zs → n ≡ length zs → AreWithin c m → IsValidInBoth (by_array r) w u n → PicksSomeValid v u (nullability_of (array_type_of c)) (len_of c) (λ i. position_of (content_at c i))
 taken_by_bits v c r k zs w u bits chosen n m is e made read many within both =
     let codes : AreWithin (numbers k zs w) m = subst (λ x. AreWithin x m) e within in

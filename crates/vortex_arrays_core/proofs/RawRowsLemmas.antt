@@ -1,4 +1,4 @@
--- The raw value at a position has the content there, and is one of the array's type.
+-- The raw value at an index has the content there, and is one of the array's type.
 use Rattle.std.proofs.Common.{◌≡◌, ◌<◌, ◌≤◌, ◌+◌, ◌*◌, ℕ, zero, suc, pos, Bool, true, false, cond, List, [], ◌∷◌, get_or, map, refl, sym, ap, subst, ◌∙◌, arith}
 use Rattle.std.specs.List.{range_with_len, All}
 use Rattle.std.proofs.lemmas.Nat.{mul-le}

@@ -1,4 +1,4 @@
--- What is read at a position.
+-- What is read at an index.
 use Rattle.std.proofs.Common.{◌≡◌, ◌↔◌, ◌&&◌, ℕ, true, false, not, Bool, cond, IsTrue, List, Some, None, refl}
 use Rattle.vortex_model.specs.LogicalType.{Nullability, non_nullable, nullable, LogicalType, boolean_type, integer_type, with_nullability, nullability_of, is_nullable}
 use Rattle.vortex_model.specs.Content.{null, is_null, content_of, Raw, raw_null, raw_boolean, raw_number}

@@ -18,7 +18,7 @@ IsSliceFault Memory n start end = Unit {0}
 IsSliceFault OutOfRange n start end = ¬ ((start ≤ end) × (end ≤ n))
 IsSliceFault e n start end = ⊥
 
--- the errors of a take at positions of n rows
+-- the errors of a take at indices of n rows
 abbrev pub IsTakeFault : ArrayError → ℕ → Layout → Type 0
 IsTakeFault Memory n positions = Unit {0}
 IsTakeFault WrongType n positions = ¬ IsUnsigned (array_type_of positions)

@@ -1,4 +1,4 @@
-//! Values at a position.
+//! Values at an index.
 ghost use Rattle.std.specs.Prelude.{◌≡◌, ◌<◌, ◌↔◌, IsTrue, not};
 ghost use Rattle.vortex_model.specs.LogicalType.{boolean_type, non_nullable};
 ghost use Rattle.vortex_model.specs.Content.{is_null};
@@ -27,7 +27,7 @@ impl ArrayRef {
         self.dtype().is_int()
     }
 
-    /// The integer at a position, and `None` for null.
+    /// The integer at an index, and `None` for null.
     #[cycle(read)]
     #[tactic(auto, using(crate::proofs::Reading::integers))]
     pub fn integer(&self, i: usize) -> Option<i128>
@@ -55,7 +55,7 @@ impl ArrayRef {
         }
     }
 
-    /// Whether the value at a position is true. Null is not true, nor is a value of another type.
+    /// Whether the value at an index is true. Null is not true, nor is a value of another type.
     #[cycle(read)]
     #[tactic(auto, using(crate::proofs::Reading::truths))]
     pub fn truth(&self, i: usize) -> bool
@@ -78,7 +78,7 @@ impl ArrayRef {
         }
     }
 
-    /// Whether the value at a position is not null.
+    /// Whether the value at an index is not null.
     #[tactic(auto, using(crate::proofs::Reading::nulls))]
     pub fn is_valid(&self, i: usize) -> bool
         requires { i < len_of self.now }
@@ -104,7 +104,7 @@ impl ArrayRef {
         }
     }
 
-    /// Whether the value at a position is null.
+    /// Whether the value at an index is null.
     pub fn is_invalid(&self, i: usize) -> bool
         requires { i < len_of self.now }
         ensures { result ≡ is_null (content_at self.now i) }

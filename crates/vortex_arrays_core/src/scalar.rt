@@ -20,7 +20,7 @@ use vortex_scalar_value::clone::clone_value;
 use vortex_scalar_value::scalar_value::ScalarValue;
 
 impl ArrayRef {
-    /// The value at a position, with the type of the array, as Vortex's `execute_scalar`.
+    /// The value at an index, with the type of the array, as Vortex's `execute_scalar`.
     /// `OutOfRange` where there is no such row.
     ///
     /// A string or bytes of more than twelve bytes share their buffer and are not copied.
@@ -41,7 +41,7 @@ impl ArrayRef {
         Ok(Scalar::new_unchecked(dtype, value))
     }
 
-    // The value at a position, and `None` for null.
+    // The value at an index, and `None` for null.
     #[cycle(value)]
     #[tactic(auto, using(crate::proofs::RawRowsLemmas::values))]
     fn value(&self, alloc: Global, i: usize) -> Result<Option<ScalarValue>, AllocError>
@@ -99,7 +99,7 @@ impl ArrayRef {
     }
 }
 
-// The boolean at a position, and `None` for null.
+// The boolean at an index, and `None` for null.
 #[tactic(auto, using(vortex_scalar_value::proofs::Views::one_level))]
 fn truth_value(bits: &BitBuffer, validity: &Validity, i: usize) -> Option<ScalarValue>
     requires within { i < length bits.now }
@@ -113,7 +113,7 @@ fn truth_value(bits: &BitBuffer, validity: &Validity, i: usize) -> Option<Scalar
     }
 }
 
-// The integer at a position, and `None` for null.
+// The integer at an index, and `None` for null.
 #[tactic(auto, using(vortex_scalar_value::proofs::Views::one_level))]
 fn number_value(items: &PrimitiveBuffer, validity: &Validity, i: usize) -> Option<ScalarValue>
     requires within { i < length (integers_of items.now) }
@@ -130,7 +130,7 @@ fn number_value(items: &PrimitiveBuffer, validity: &Validity, i: usize) -> Optio
     }
 }
 
-// The string or the bytes at a position, and `None` for null.
+// The string or the bytes at an index, and `None` for null.
 #[tactic(auto, using(vortex_scalar_value::proofs::Views::one_level))]
 fn string_value(
     alloc: Global,
@@ -196,7 +196,7 @@ pub fn view_at(offsets: &ArrayRef, sizes: &ArrayRef, i: usize, count: usize) -> 
     }
 }
 
-// The values of rows from a position on.
+// The values of rows from an index on.
 #[cycle(value)]
 #[tactic(auto, using(crate::proofs::RawRowsLemmas::values))]
 fn values_from(

@@ -1,4 +1,4 @@
-//! The rows at positions.
+//! The rows at indices.
 ghost use Rattle.std.specs.Prelude.{◌≡◌, ◌↔◌, IsTrue, IfOk, IfErr};
 ghost use Rattle.vortex_model.specs.LogicalType.{nullable, nullability_of, either_nullable};
 ghost use Rattle.vortex_arrays_model.specs.Layout.{len_of, array_type_of, nullability_by, content_at, IsInteger, HasLength};
@@ -47,8 +47,8 @@ impl ArrayRef {
         true
     }
 
-    /// The rows at the positions, and null where a position is null, as Vortex's `ArrayRef::take`:
-    /// a dictionary whose codes are the positions. `WrongType` unless the positions are unsigned
+    /// The rows at the indices, and null where an index is null, as Vortex's `ArrayRef::take`: a
+    /// dictionary whose codes are the indices. `WrongType` unless the indices are unsigned
     /// integers, `OutOfRange` where one that is not null is no row.
     #[tactic(auto, using(crate::proofs::Picked::taken))]
     pub fn take(&self, alloc: Global, indices: &ArrayRef) -> Result<ArrayRef, ArrayError>
@@ -72,9 +72,8 @@ impl ArrayRef {
 }
 
 impl Validity {
-    /// Which of the rows at the positions are null, in an array of `len` rows, as Vortex's
-    /// `Validity::take`: also those whose position is null. The errors are those of
-    /// `ArrayRef::take`.
+    /// Which of the rows at the indices are null, in an array of `len` rows, as Vortex's
+    /// `Validity::take`: also those whose index is null. The errors are those of `ArrayRef::take`.
     pub fn take(
         &self,
         alloc: Global,
@@ -98,7 +97,7 @@ impl Validity {
         Ok(self.rows_at(alloc, indices, len)?)
     }
 
-    // Which of the rows at the positions are null, in an array of `len` rows.
+    // Which of the rows at the indices are null, in an array of `len` rows.
     #[tactic(auto, using(crate::proofs::Picked::rows_taken))]
     fn rows_at(&self, alloc: Global, indices: &ArrayRef, len: usize) -> Result<Validity, AllocError>
         requires kind { IsInteger (array_type_of indices.now) }
@@ -125,7 +124,7 @@ impl Validity {
         }
     }
 
-    // The null rows as an array of booleans, where a row or a position can be null.
+    // The null rows as an array of booleans, where a row or an index can be null.
     fn array_at(
         &self,
         alloc: Global,

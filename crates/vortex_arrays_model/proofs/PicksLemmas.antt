@@ -158,7 +158,7 @@ picks_picked a b c n m f g within p q = record {
   content = λ i l. q.content i l ∙ p.content (g i) (within i l);
 }
 
--- equal positions pick the same rows
+-- equal indices pick the same rows
 pub picks_same : (a r : Layout) (n : ℕ) (f g : ℕ → ℕ) → ((i : ℕ) → i < n → f i ≡ g i) → Picks a r n f → Picks a r n g
 picks_same a r n f g same p = record { sound = p.sound; len = p.len; kind = p.kind; content = λ i l. p.content i l ∙ ap (content_at a) (same i l) }
 

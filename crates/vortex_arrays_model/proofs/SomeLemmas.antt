@@ -1,4 +1,4 @@
--- Rows taken at positions, of which some may be null.
+-- Rows taken at indices, of which some may be null.
 use Rattle.std.proofs.Common.{◌≡◌, ◌<◌, ℕ, ℤ, pos, Bool, false, cond, List, length, get_or, Option, Some, None, refl, sym, ap, subst, ◌∙◌}
 use Rattle.std.specs.List.{All}
 use Rattle.vortex_model.specs.LogicalType.{Nullability, non_nullable, nullable, LogicalType, null_only, boolean_type, integer_type, float, decimal, utf8, binary, list, fixed_list, mapping, struct, union, variant, extension, IntKind, nullability_of, either_nullable, with_nullability, nullable_inside}
@@ -60,7 +60,7 @@ pick_by_position a (scalar k c) = refl
 pub picks_some_dictionary : (c v : Layout) (g : Bool) → IsSound (dictionary c v g) → PicksSome v (dictionary c v g) (nullability_of (array_type_of c)) (len_of c) (λ i. position_of (content_at c i))
 picks_some_dictionary c v g s = record { sound = s; len = refl; kind = refl; content = λ i l. pick_by_position v (content_at c i) }
 
--- where no position is null, the rows are picked
+-- where no index is null, the rows are picked
 pub picks_some_all : (a r : Layout) (n : ℕ) (f : ℕ → ℕ) → Picks a r n f → PicksSome a r non_nullable n (λ i. Some (f i))
 picks_some_all a r n f p = record { sound = p.sound; len = p.len; kind = p.kind ∙ sym (eq_type (array_type_of a)); content = p.content }
 

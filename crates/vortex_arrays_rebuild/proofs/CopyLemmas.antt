@@ -12,7 +12,7 @@ use Rattle.vortex_arrays_rebuild.specs.declared.runs.Run.{Run}
 use Rattle.vortex_arrays_rebuild.specs.Runs.{positions_of, positions_in, FitWithin, LiesWithin}
 use Rattle.vortex_arrays_rebuild.proofs.RunLemmas.{positions_push, length_added}
 
--- the positions of runs within the elements
+-- the indices of runs within the elements
 positions_below : (n : ℕ) (runs : List Run) → All (LiesWithin n) runs → All (λ i. i < n) (positions_in runs)
 positions_below n [] h = λ k d l. absurd (omega arith)
 positions_below n (r ∷ rs) h = All-append (λ i. i < n) (positions_of r) (positions_in rs) (All-range r.start r.len n (h 0 r (omega arith))) (positions_below n rs (λ k d l. h (suc k) d (omega arith)))
@@ -20,11 +20,11 @@ positions_below n (r ∷ rs) h = All-append (λ i. i < n) (positions_of r) (posi
 pub positions_within : (n : ℕ) (runs : List Run) → FitWithin n runs → All (λ i. i < n) (positions_in runs)
 positions_within n runs h = positions_below n runs h.each
 
--- the positions of one more run
+-- the indices of one more run
 pub positions_more : (runs : List Run) (i : ℕ) (r : Run) → i < length runs → r ≡ get_or runs i r → positions_in (take (i + 1) runs) ≡ positions_in (take i runs) ++ positions_of r
 positions_more runs i r l e = ap positions_in (take_more runs i r l ∙ ap (λ x. take i runs ++ x ∷ []) (sym e)) ∙ positions_push (take i runs) r
 
--- the number of positions with one more run
+-- the number of indices with one more run
 pub counted_more : (runs : List Run) (i next : ℕ) (r : Run) → i < length runs → r ≡ get_or runs i r → next ≡ length (positions_in (take i runs)) → next + r.len ≡ length (positions_in (take (i + 1) runs))
 counted_more runs i next r l e h = ap (λ n. n + r.len) h ∙ sym (ap length (positions_more runs i r l e) ∙ length_added (positions_in (take i runs)) r.start r.len)
 

@@ -25,7 +25,7 @@ items_all xs runs n h = ap (items_in xs) (take_all n runs h)
 
 pub ruleset copied = (items_more, items_all, run_within)
 
--- ---- the items at the positions
+-- ---- the items at the indices
 
 run_items : {A : Type 0} (xs : List A) (d : A) (n s : ℕ) → s + n ≤ length xs → take n (drop s xs) ≡ map (λ i. get_or xs i d) (range_with_len s n)
 run_items xs d zero s h = refl

@@ -14,7 +14,7 @@ use Rattle.vortex_arrays_nested.specs.Parts.{elements_of, offsets_of, sizes_of, 
 use Rattle.vortex_arrays_rebuild.specs.Rebuilds.{IsLaidOutView, IsRebuiltView, IsSumFault, IsTotalFault}
 use Rattle.vortex_arrays_rebuild.proofs.TrimLemmas.{many_lists}
 
--- the rows at positions
+-- the rows at indices
 rows_copied : (e r : Layout) (ps : List ℕ) → Picks e r (length ps) (λ i. get_or ps i 0) → rows_of r ≡ map (content_at e) ps
 rows_copied e r ps p = rows_by_position r (map (content_at e) ps) (length-map ps (content_at e) ∙ sym p.len) (λ k l. let m : k < length ps = subst (λ n. k < n) p.len l in get_or-map (content_at e) ps k 0 null m ∙ sym (p.content k m))
 

@@ -1,4 +1,4 @@
--- A list view with the elements from one position to another.
+-- A list view with the elements from one index to another.
 use Rattle.std.specs.Prelude.{◌≡◌, ◌<◌, ◌≤◌, ◌+◌, ◌-◌, ℕ, pos, List, map}
 use Rattle.vortex_model.specs.Content.{integer}
 use Rattle.vortex_dtype_ptype.specs.Numbers.{NumberKind, integral, floating, Has}
@@ -15,7 +15,7 @@ begin_of a i = number_in (content_at (offsets_of a) i)
 abbrev pub end_of : Layout → ℕ → ℕ
 end_of a i = begin_of a i + number_in (content_at (sizes_of a) i)
 
--- each list of the view, null or not, is between two positions of the elements
+-- each list of the view, null or not, is between two indices of the elements
 pub record LieBetween (a : Layout) (from to : ℕ) : Type 0 where
   pub order : from ≤ to
   pub room : to ≤ len_of (elements_of a)
@@ -39,8 +39,8 @@ HasLowered (floating k) xs by r = ⊥
 abbrev pub HasNatural : NumberKind → ℕ → Type 0
 HasNatural k n = Has k (pos n)
 
--- r is the view a with only the elements between two positions, and offsets of the same type
--- relative to the first of them; sizes, flag and nulls stay; with all elements it is a
+-- r is the view a with only the elements between two indices, and offsets of the same type relative
+-- to the first of them; sizes, flag and nulls stay; with all elements it is a
 pub record HasElementsBetween (a : Layout) (from to : ℕ) (r : Layout) : Type 0 where
   pub elements : Layout
   pub offsets : Layout

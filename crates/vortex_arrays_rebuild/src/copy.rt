@@ -43,7 +43,7 @@ fn slice_run(alloc: Global, array: &ArrayRef, run: Run) -> Result<ArrayRef, Arra
     array.slice(alloc, run.start..run.start + run.len)
 }
 
-/// A dictionary whose codes are the positions of the runs' rows.
+/// A dictionary whose codes are the indices of the runs' rows.
 #[tactic(auto, using(crate::proofs::NameLemmas::naming))]
 pub(crate) fn name_rows(
     alloc: Global,

@@ -81,7 +81,7 @@ pub(crate) fn copy_rows(
 }
 
 // The lists of the runs, of an array of fixed-size lists: their elements are copied run by run.
-// Where these are 2^64 or more, the lists are taken by a dictionary of their positions.
+// Where these are 2^64 or more, the lists are taken by a dictionary of their indices.
 #[cycle(copy)]
 fn copy_lists(
     alloc: Global,

@@ -155,7 +155,7 @@ impl Run {
     }
 }
 
-/// The positions of the runs' elements.
+/// The indices of the runs' elements.
 #[tactic(auto, using(crate::proofs::PlaceLemmas::placed))]
 pub(crate) fn positions_of_runs(alloc: Global, runs: &Runs) -> Result<Vec<u64>, AllocError>
     ensures { IfOk result (λ places. places.items ≡ positions_in runs.now.list.items) }
@@ -169,8 +169,8 @@ pub(crate) fn positions_of_runs(alloc: Global, runs: &Runs) -> Result<Vec<u64>, 
     Ok(places)
 }
 
-// Writes the positions of a run's elements from an index on, and returns the index after them. All
-// positions are below `len`.
+// Writes the indices of a run's elements to `places` from `at` on, and returns the index after
+// them. All of them are below `len`.
 fn put_positions(places: &mut Vec<u64>, at: usize, run: Run, len: usize) -> usize
     requires room { at + run.len ≤ length places.old.items }
     requires within { LiesWithin len run }

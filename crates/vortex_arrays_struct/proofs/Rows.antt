@@ -6,7 +6,7 @@ use Rattle.vortex_arrays_model.specs.Picks.{Picks}
 use Rattle.vortex_arrays_model.proofs.PicksLemmas.{picks_part_of_part}
 use Rattle.vortex_arrays_model.proofs.RowsLemmas.{row_at_position, row_count, rows_by_position}
 
--- equal positions of one array have equal rows
+-- equal indices of one array have equal rows
 pub eq_rows : (a r s : Layout) (n : ℕ) (f : ℕ → ℕ) → Picks a r n f → Picks a s n f → rows_of r ≡ rows_of s
 eq_rows a r s n f p q = rows_by_position r (rows_of s) (row_count s ∙ q.len ∙ sym p.len) (λ i l.
     let small : i < n = subst (λ m. i < m) p.len l in

@@ -78,7 +78,7 @@ fn first_place(array: &ArrayRef, none: usize) -> usize
     }
 }
 
-// The index of a constant, at each position below `len`.
+// `place` at each of `indices` below `len`, and `none` at the others.
 fn repeated_at(
     alloc: Global,
     place: usize,

@@ -13,7 +13,7 @@ pub enum ArrayError {
     /// Memory ran out.
     #[error("out of memory")]
     Memory = 1,
-    /// A position is not that of a row.
+    /// An index is not the index of a row.
     #[error("the position is out of range")]
     OutOfRange = 2,
     /// Parts that belong together differ in length.

@@ -203,7 +203,7 @@ no_memory x a h = subst (λ y. IsCompactFault y a) (sym h) tt
 pub total_whole : (a : Layout) → IsWholeFault error.Total a → HasTooManyItems a
 total_whole a h = h
 
--- ---- seen rows, by position
+-- ---- seen rows, by index
 
 mutual
   pub shown_same : (f g : ℕ → Bool) (a b : Layout) → IsSound a → ((i : ℕ) → i < len_of a → f i ≡ g i) → IsShown f a b → IsShown g a b
