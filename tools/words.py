@@ -24,6 +24,17 @@ DONE = (
     "crates/vortex_dtype/CALLING.md",
     "vortex_scalar",
     "crates/vortex_scalar/CALLING.md",
+    "vortex_arrays",
+    "vortex_stats_bound",
+    "vortex_stats_set",
+    "vortex_stats_array",
+    "vortex_stats_laws",
+    "vortex_table_io",
+    "vortex_table_layout",
+    "vortex_table_response",
+    "vortex_table_request",
+    "vortex_table_columns",
+    "vortex_table_tokens",
 )
 # A line up to the mark of a comment, and the comment. In Rust a text or a character may have the
 # mark in it.
