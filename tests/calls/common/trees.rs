@@ -6,9 +6,7 @@ use vortex_dtype::{
     BufferString, DType, FieldName, FieldNames, Nullability, PType, StructField, StructFields,
 };
 use vortex_scalar::{Scalar, ScalarError, ScalarValue};
-use vortex_stats::{AggregateFn, Expression, StatsError, col, lit};
-use vortex_stats_expr::expression::Node;
-use vortex_stats_expr::operator::Comparison;
+use vortex_stats::{AggregateFn, Comparison, Expression, Node, StatsError, col, lit};
 
 pub const WITH: Nullability = Nullability::Nullable;
 

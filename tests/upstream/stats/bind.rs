@@ -11,7 +11,7 @@ use vortex_stats::{
     AggregateFn, BoundTree, Expression, StatBinder, StatsError, all_non_nan, and, bind, bind_stats,
     bound_literal, is_null, nan_count, or,
 };
-use vortex_stats_bind::bound::BoundNode;
+use vortex_stats::BoundNode;
 
 /// Knows, or doesn't, that three rows are NaN.
 #[derive(Drop)]

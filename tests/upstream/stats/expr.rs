@@ -13,7 +13,7 @@ use vortex_stats::Precision::{Exact, Inexact};
 use vortex_stats::{
     AggregateFn, Precision, Stat, StatsError, StatsSet, all_nan, bind, bound, root, stat_scalar,
 };
-use vortex_stats_bind::bound::BoundNode;
+use vortex_stats::BoundNode;
 
 pub fn run(alloc: Global, checks: &mut Checks<'_>) -> Done {
     bound_stats_constructor_preserves_child_and_dtype(alloc, checks)?;
