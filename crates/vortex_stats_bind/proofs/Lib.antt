@@ -2,9 +2,9 @@ pub mod Alike
 pub mod BoundValues
 mod ClassTests
 mod Columns
+pub mod FormedLiterals
 pub mod Items
-mod Made
-mod Reasons
+pub mod Made
 pub mod ReplacedValues
 mod TextPatterns
 pub mod Truths

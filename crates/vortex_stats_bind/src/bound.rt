@@ -9,7 +9,7 @@ ghost use Rattle.vortex_model_table.specs.Truth.{is_true};
 ghost use Rattle.vortex_dtype_core.specs.View.{type_of};
 ghost use Rattle.vortex_scalar_core.specs.Scalar.{scalar_type, scalar_content};
 ghost use Rattle.vortex_scalar_value.specs.View.{raw_of, content_at};
-ghost use Rattle.vortex_stats_bind.specs.Bound.{Provided, fixed, place, test, each, some, opposite, null_test, value_test, nan_test, range_test, match_test, count_of_rows, placeholder, place_of, evaluate_bound, bound_value};
+ghost use Rattle.vortex_stats_bind.specs.Bound.{Provided, fixed, test, each, some, opposite, null_test, value_test, nan_test, range_test, match_test, count_of_rows, placeholder, place_of, evaluate_bound, bound_value};
 ghost use Rattle.vortex_stats_bind.specs.OperandValue.{operand_value};
 ghost use Rattle.vortex_stats_expr.specs.Tree.{comparison_of, is_strict};
 ghost use Rattle.vortex_stats_expr.specs.Aggregate.{aggregate_of};
@@ -157,7 +157,8 @@ pub fn bound_or(
     BoundExpression::boxed(alloc, BoundNode::Or(left, right))
 }
 
-pub(crate) fn bound_not(
+/// NOT of an expression.
+pub fn bound_not(
     alloc: Global,
     input: Box<BoundExpression>,
 ) -> Result<Box<BoundExpression>, AllocError>
@@ -166,7 +167,8 @@ pub(crate) fn bound_not(
     BoundExpression::boxed(alloc, BoundNode::Not(input))
 }
 
-pub(crate) fn bound_is_null(
+/// IS NULL of an expression.
+pub fn bound_is_null(
     alloc: Global,
     input: Box<BoundExpression>,
 ) -> Result<Box<BoundExpression>, AllocError>
@@ -175,7 +177,8 @@ pub(crate) fn bound_is_null(
     BoundExpression::boxed(alloc, BoundNode::IsNull(input))
 }
 
-pub(crate) fn bound_is_not_null(
+/// IS NOT NULL of an expression.
+pub fn bound_is_not_null(
     alloc: Global,
     input: Box<BoundExpression>,
 ) -> Result<Box<BoundExpression>, AllocError>
@@ -206,7 +209,8 @@ pub(crate) fn bound_is_nan(
     BoundExpression::boxed(alloc, BoundNode::IsNan(input))
 }
 
-pub(crate) fn bound_like(
+/// LIKE of two expressions: the value and the pattern.
+pub fn bound_like(
     alloc: Global,
     value: Box<BoundExpression>,
     pattern: Box<BoundExpression>,
