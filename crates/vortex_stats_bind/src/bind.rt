@@ -122,7 +122,8 @@ fn bind_column(
     }
 }
 
-/// The column that a path of names leads to in rows of this type, and `None` where it leads nowhere.
+/// The column that a path of names leads to in rows of this type, and `None` where it leads
+/// nowhere.
 pub fn resolve(
     alloc: Global,
     path: &FieldNames,
