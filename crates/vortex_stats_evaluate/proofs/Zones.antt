@@ -13,10 +13,12 @@ use Rattle.vortex_model_table.specs.Statistics.{Statistics, IsHonest, placeholde
 use Rattle.vortex_model_table.specs.Truth.{evaluate, value_at, is_true, compared, kleene_and, kleene_or, kleene_not, liked, end_of, HasTruth, Satisfies}
 use Rattle.vortex_model_rules.specs.Faults.{ProofFault, or_fault, binding_fault}
 use Rattle.vortex_model_rules.specs.Rules.{Rule, Answer, proof, fals, sat}
+use Rattle.vortex_model_table.specs.Laws.{BuiltInProofsReadNoColumns}
+use Rattle.vortex_model_rules.proofs.ReadsNone.{reads_of, fals_none, sat_none}
 use Rattle.vortex_stats_bind.specs.Bound.{Bound, Provided, placeholder, placeholder_type, expression_of, bound_of, column_at, evaluate_bound, bound_value, in_row}
 use Rattle.vortex_stats_bind.specs.Bindings.{IsBoundTo}
 use Rattle.vortex_stats_bind.specs.Replaced.{Answers, replaced}
-use Rattle.vortex_stats_bind.proofs.Alike.{two_none, three_none, four_none, same_tree, truth_alike, reads_alike}
+use Rattle.vortex_stats_bind.proofs.Alike.{two_none, three_none, four_none, same_tree, truth_alike}
 use Rattle.vortex_stats_bind.proofs.BoundValues.{proof_says}
 use Rattle.vortex_stats_evaluate.proofs.RowTruths.{or_left, or_right}
 use Rattle.vortex_stats_evaluate.specs.Readers.{IsHonestValue, IsZone, IsPredicate, IsMade, FalsifiedZonesHoldNone, SatisfiedZonesHoldAll}
@@ -124,10 +126,13 @@ module _ (k : LogicalType) (answers : Answers) (p : Provided) (rows : List Conte
       sym (agrees (expression_of b) bound.faultless reads) ∙ ap (λ c. evaluate_bound p (replaced answers c)) (sym bound.tree)
       ∙ true_by (evaluate_bound p (replaced answers b)) holds
 
-module _ (rules : List Rule) where
+made_reads_none : (k : LogicalType) (a : Answer) (b : Bound) → IsMade k a b → reads_of a ≡ false → reads_names (expression_of b) ≡ false
+made_reads_none k a b made none = ap reads_of (sym made.made) ∙ none
+
+module _ (rules : List Rule) (built_in : BuiltInProofsReadNoColumns) where
   pub none_selected : ((k : LogicalType) (e q : Expression) → HasTruth k e → HasFormedLiterals e → fals k rules e ≡ proof q → IsSoundFalsifier k e q) → FalsifiedZonesHoldNone rules
   none_selected sound k e f answers p rows predicate made zone holds =
-      let reads : reads_names (expression_of f) ≡ false = reads_alike k (expression_of f) f made.bound ∙ made.columns in
+      let reads : reads_names (expression_of f) ≡ false = made_reads_none k (fals k rules (expression_of e)) f made (fals_none built_in k rules (expression_of e)) in
       each_row (λ row. ¬ (Satisfies k (expression_of e) row)) (λ row. is_true (bound_value e row) ≡ false)
       (λ row n. not_true (bound_value e row) (λ s. n (sym (row_value k (expression_of e) e row predicate.bound.tree) ∙ s))) rows
       (sound k (expression_of e) (expression_of f) (truth_alike k (expression_of e) e predicate.bound ∙ predicate.truth) predicate.formed made.made rows
@@ -135,7 +140,7 @@ module _ (rules : List Rule) where
 
   pub all_selected : ((k : LogicalType) (e q : Expression) → HasTruth k e → HasFormedLiterals e → sat k rules e ≡ proof q → IsSoundSatisfier k e q) → SatisfiedZonesHoldAll rules
   all_selected sound k e f answers p rows predicate made zone holds =
-      let reads : reads_names (expression_of f) ≡ false = reads_alike k (expression_of f) f made.bound ∙ made.columns in
+      let reads : reads_names (expression_of f) ≡ false = made_reads_none k (sat k rules (expression_of e)) f made (sat_none built_in k rules (expression_of e)) in
       each_row (λ row. Satisfies k (expression_of e) row) (λ row. is_true (bound_value e row) ≡ true)
       (λ row s. ap is_true (row_value k (expression_of e) e row predicate.bound.tree ∙ s)) rows
       (sound k (expression_of e) (expression_of f) (truth_alike k (expression_of e) e predicate.bound ∙ predicate.truth) predicate.formed made.made rows

@@ -11,7 +11,7 @@ use Rattle.vortex_model_rules.specs.Rules.{Rule, Answer, proof, fals, sat}
 use Rattle.vortex_stats_bind.specs.Bound.{Bound, Provided, placeholder, expression_of, evaluate_bound, bound_value}
 use Rattle.vortex_stats_bind.specs.Bindings.{IsBoundTo}
 use Rattle.vortex_stats_bind.specs.Replaced.{Answers, replaced}
-use Rattle.vortex_stats_bind.specs.Truths.{has_truth, reads_columns}
+use Rattle.vortex_stats_bind.specs.Truths.{has_truth}
 
 -- null, or the value of a statistic of these values by honest statistics of them
 abbrev pub IsHonestValue : Aggregate → List Content → Content → Type 0
@@ -37,7 +37,6 @@ pub record IsPredicate (k : LogicalType) (e : Bound) : Type 0 where
 pub record IsMade (k : LogicalType) (a : Answer) (p : Bound) : Type 0 where
   pub bound : IsBoundTo k p
   pub made : a ≡ proof (expression_of p)
-  pub columns : reads_columns p ≡ false
 
 -- Where the bound falsifier of a predicate is true of a zone, the predicate selects none of its rows.
 abbrev pub FalsifiedZonesHoldNone : List Rule → Type 0

@@ -4,6 +4,7 @@ ghost use Rattle.vortex_stats_rules.specs.Meanings.{rules_of};
 ghost use Rattle.vortex_stats_evaluate.specs.Readers.{FalsifiedZonesHoldNone, SatisfiedZonesHoldAll};
 ghost use Rattle.vortex_stats_evaluate.specs.Said.{BoundExpressionsSayTheSame};
 
+use vortex_model_laws::laws::built_in_proofs_read_no_columns;
 use vortex_stats_rules::laws::{falsifiers_are_sound, satisfiers_are_sound};
 use vortex_stats_rules::rule::StatsRewriteRuleRef;
 
@@ -19,6 +20,7 @@ pub fn bound_expressions_say_the_same()
 pub fn falsified_zones_hold_none(rules: &[StatsRewriteRuleRef])
     ensures { FalsifiedZonesHoldNone (rules_of meaning rules.now) }
 {
+    built_in_proofs_read_no_columns();
     falsifiers_are_sound(rules);
 }
 
@@ -26,5 +28,6 @@ pub fn falsified_zones_hold_none(rules: &[StatsRewriteRuleRef])
 pub fn satisfied_zones_hold_all(rules: &[StatsRewriteRuleRef])
     ensures { SatisfiedZonesHoldAll (rules_of meaning rules.now) }
 {
+    built_in_proofs_read_no_columns();
     satisfiers_are_sound(rules);
 }
