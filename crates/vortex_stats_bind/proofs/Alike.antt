@@ -36,29 +36,29 @@ four_none (Some f) q s t h = cc (h)
 
 module _ (k : LogicalType) where
   -- of one part, of two, and of three, where the whole has no fault
-  of_compare : (x y : Expression) → or_fault (binding_fault k x) (or_fault (binding_fault k y) (unless (are_alike k x y) unequal_types)) ≡ None →
+  pub of_compare : (x y : Expression) → or_fault (binding_fault k x) (or_fault (binding_fault k y) (unless (are_alike k x y) unequal_types)) ≡ None →
       (binding_fault k x ≡ None) × (binding_fault k y ≡ None) × (unless (are_alike k x y) unequal_types ≡ None)
   of_compare x y h = three_none (binding_fault k x) (binding_fault k y) (unless (are_alike k x y) unequal_types) h
 
-  of_both : (x y : Expression) → or_fault (binding_fault k x) (or_fault (binding_fault k y) (unless (is_truth k x && is_truth k y) not_boolean)) ≡ None →
+  pub of_both : (x y : Expression) → or_fault (binding_fault k x) (or_fault (binding_fault k y) (unless (is_truth k x && is_truth k y) not_boolean)) ≡ None →
       (binding_fault k x ≡ None) × (binding_fault k y ≡ None) × (unless (is_truth k x && is_truth k y) not_boolean ≡ None)
   of_both x y h = three_none (binding_fault k x) (binding_fault k y) (unless (is_truth k x && is_truth k y) not_boolean) h
 
-  of_like : (x y : Expression) → or_fault (binding_fault k x) (or_fault (binding_fault k y) (unless (is_text k x && is_text k y) unequal_types)) ≡ None →
+  pub of_like : (x y : Expression) → or_fault (binding_fault k x) (or_fault (binding_fault k y) (unless (is_text k x && is_text k y) unequal_types)) ≡ None →
       (binding_fault k x ≡ None) × (binding_fault k y ≡ None) × (unless (is_text k x && is_text k y) unequal_types ≡ None)
   of_like x y h = three_none (binding_fault k x) (binding_fault k y) (unless (is_text k x && is_text k y) unequal_types) h
 
-  of_between : (x lo hi : Expression) → or_fault (binding_fault k x) (or_fault (binding_fault k lo) (or_fault (binding_fault k hi) (unless (are_alike k x lo && are_alike k x hi) unequal_types))) ≡ None →
+  pub of_between : (x lo hi : Expression) → or_fault (binding_fault k x) (or_fault (binding_fault k lo) (or_fault (binding_fault k hi) (unless (are_alike k x lo && are_alike k x hi) unequal_types))) ≡ None →
       (binding_fault k x ≡ None) × (binding_fault k lo ≡ None) × (binding_fault k hi ≡ None) × (unless (are_alike k x lo && are_alike k x hi) unequal_types ≡ None)
   of_between x lo hi h = four_none (binding_fault k x) (binding_fault k lo) (binding_fault k hi) (unless (are_alike k x lo && are_alike k x hi) unequal_types) h
 
-  of_negation : (x : Expression) → or_fault (binding_fault k x) (unless (is_truth k x) not_boolean) ≡ None → (binding_fault k x ≡ None) × (unless (is_truth k x) not_boolean ≡ None)
+  pub of_negation : (x : Expression) → or_fault (binding_fault k x) (unless (is_truth k x) not_boolean) ≡ None → (binding_fault k x ≡ None) × (unless (is_truth k x) not_boolean ≡ None)
   of_negation x h = two_none (binding_fault k x) (unless (is_truth k x) not_boolean) h
 
-  of_nan : (x : Expression) → or_fault (binding_fault k x) (unless (expression_is_of_floats k x) unequal_types) ≡ None → (binding_fault k x ≡ None) × (unless (expression_is_of_floats k x) unequal_types ≡ None)
+  pub of_nan : (x : Expression) → or_fault (binding_fault k x) (unless (expression_is_of_floats k x) unequal_types) ≡ None → (binding_fault k x ≡ None) × (unless (expression_is_of_floats k x) unequal_types ≡ None)
   of_nan x h = two_none (binding_fault k x) (unless (expression_is_of_floats k x) unequal_types) h
 
-  of_statistic : (x : Expression) (a : Aggregate) → or_fault (binding_fault k x) (unless (is_some (option_and_then (type_of_aggregate a) (expression_type k x))) unsupported_aggregate) ≡ None →
+  pub of_statistic : (x : Expression) (a : Aggregate) → or_fault (binding_fault k x) (unless (is_some (option_and_then (type_of_aggregate a) (expression_type k x))) unsupported_aggregate) ≡ None →
       (binding_fault k x ≡ None) × (unless (is_some (option_and_then (type_of_aggregate a) (expression_type k x))) unsupported_aggregate ≡ None)
   of_statistic x a h = two_none (binding_fault k x) (unless (is_some (option_and_then (type_of_aggregate a) (expression_type k x))) unsupported_aggregate) h
 

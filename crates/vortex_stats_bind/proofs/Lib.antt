@@ -3,7 +3,7 @@ pub mod BoundValues
 mod ClassTests
 mod Columns
 pub mod Items
-mod Made
+pub mod Made
 mod Reasons
 pub mod ReplacedValues
 mod TextPatterns

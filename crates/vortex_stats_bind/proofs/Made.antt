@@ -21,13 +21,13 @@ text_some : (l : LogicalType) → is_utf8_type (Some l) ≡ is_text_type l
 text_some (utf8 n) = refl
 text_some l = refl
 
-truth_by : (k : LogicalType) (x : Expression) (a : Bound) → IsBound k x a → is_truth k x ≡ is_boolean_type (value_type a)
+pub truth_by : (k : LogicalType) (x : Expression) (a : Bound) → IsBound k x a → is_truth k x ≡ is_boolean_type (value_type a)
 truth_by k x a h = ap is_boolean (typed k x a h) ∙ boolean_some (value_type a)
 
-text_by : (k : LogicalType) (x : Expression) (a : Bound) → IsBound k x a → is_text k x ≡ is_text_type (value_type a)
+pub text_by : (k : LogicalType) (x : Expression) (a : Bound) → IsBound k x a → is_text k x ≡ is_text_type (value_type a)
 text_by k x a h = ap is_utf8_type (typed k x a h) ∙ text_some (value_type a)
 
-alike_by : (k : LogicalType) (x y : Expression) (a b : Bound) → IsBound k x a → IsBound k y b → are_alike k x y ≡ equal_ignoring_nullability (value_type a) (value_type b)
+pub alike_by : (k : LogicalType) (x y : Expression) (a b : Bound) → IsBound k x a → IsBound k y b → are_alike k x y ≡ equal_ignoring_nullability (value_type a) (value_type b)
 alike_by k x y a b h g = λ i. eq_optional_type (typed k x a h i) (typed k y b g i)
 
 -- ---- behind parts without a fault

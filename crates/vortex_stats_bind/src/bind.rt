@@ -122,8 +122,9 @@ fn bind_column(
     }
 }
 
-// The column that a path of names leads to, and `None` where it leads nowhere.
-fn resolve(
+/// The column that a path of names leads to in rows of this type, and `None` where it leads
+/// nowhere.
+pub fn resolve(
     alloc: Global,
     path: &FieldNames,
     dtype: &DType,

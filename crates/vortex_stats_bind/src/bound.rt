@@ -157,7 +157,8 @@ pub fn bound_or(
     BoundExpression::boxed(alloc, BoundNode::Or(left, right))
 }
 
-pub(crate) fn bound_not(
+/// NOT of an expression.
+pub fn bound_not(
     alloc: Global,
     input: Box<BoundExpression>,
 ) -> Result<Box<BoundExpression>, AllocError>
@@ -166,7 +167,8 @@ pub(crate) fn bound_not(
     BoundExpression::boxed(alloc, BoundNode::Not(input))
 }
 
-pub(crate) fn bound_is_null(
+/// IS NULL of an expression.
+pub fn bound_is_null(
     alloc: Global,
     input: Box<BoundExpression>,
 ) -> Result<Box<BoundExpression>, AllocError>
@@ -175,7 +177,8 @@ pub(crate) fn bound_is_null(
     BoundExpression::boxed(alloc, BoundNode::IsNull(input))
 }
 
-pub(crate) fn bound_is_not_null(
+/// IS NOT NULL of an expression.
+pub fn bound_is_not_null(
     alloc: Global,
     input: Box<BoundExpression>,
 ) -> Result<Box<BoundExpression>, AllocError>
@@ -206,7 +209,8 @@ pub(crate) fn bound_is_nan(
     BoundExpression::boxed(alloc, BoundNode::IsNan(input))
 }
 
-pub(crate) fn bound_like(
+/// LIKE of two expressions: the value and the pattern.
+pub fn bound_like(
     alloc: Global,
     value: Box<BoundExpression>,
     pattern: Box<BoundExpression>,

@@ -2,11 +2,12 @@
 //! `expr::bound`.
 //!
 //! What is bound is handed on in boxes, in which it ends up anyway.
-ghost use Rattle.std.specs.Prelude.{◌≡◌};
+ghost use Rattle.std.specs.Prelude.{◌≡◌, IfOk, IfErr};
 ghost use Rattle.vortex_model.specs.LogicalType.{LogicalType};
 ghost use Rattle.vortex_model_table.specs.Expression.{Expression, literal, compare, both, either, negation, is_null, is_not_null, is_nan, between, like, row_count, statistic};
 ghost use Rattle.vortex_scalar_core.specs.Scalar.{scalar_type, scalar_content};
 ghost use Rattle.vortex_stats_bind.specs.Bindings.{IsBound, IsBoxed};
+ghost use Rattle.vortex_stats_bind.specs.Placeholders.{IsPlaceholderOf, IsPlaceholderFault};
 ghost use Rattle.vortex_stats_expr.specs.Tree.{comparison_of, is_strict};
 ghost use Rattle.vortex_stats_expr.specs.Aggregate.{aggregate_of};
 
@@ -176,8 +177,11 @@ pub fn stat(
     aggregate: AggregateFn,
     input: Box<BoundExpression>,
 ) -> Result<Box<BoundExpression>, StatsError>
-    ensures { (k : LogicalType) (x : Expression) → IsBound k x input.value
+    ensures bound { (k : LogicalType) (x : Expression) → IsBound k x input.value
         → IsBoxed k (statistic x (aggregate_of aggregate)) result }
+    ensures placeholder { IfOk result
+        (λ bound. IsPlaceholderOf (aggregate_of aggregate) input.value bound.value) }
+    ensures refused { IfErr result (IsPlaceholderFault (aggregate_of aggregate) input.value) }
 {
     let dtype = input.dtype()?;
     match aggregate_dtype(alloc, aggregate, &dtype)? {

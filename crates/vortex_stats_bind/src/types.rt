@@ -6,7 +6,8 @@ ghost use Rattle.vortex_dtype_core.specs.Parts.{is_boolean_type, is_utf8_type};
 ghost use Rattle.vortex_dtype_core.specs.View.{type_of};
 ghost use Rattle.vortex_scalar_core.specs.Scalar.{scalar_type, scalar_content};
 ghost use Rattle.vortex_stats_expr.specs.Types.{IsOfClass};
-ghost use Rattle.vortex_stats_bind.specs.Bound.{fixed, value_type};
+ghost use Rattle.vortex_stats_expr.specs.Tree.{scalar_fn_of};
+ghost use Rattle.vortex_stats_bind.specs.Bound.{fixed, value_type, expression_of};
 ghost use Rattle.vortex_stats_bind.specs.Truths.{is_of_floats, is_free_of_backslash, has_truth, reads_columns, first_fault, unless_truth, is_literal, text_in};
 
 use crate::bound::{BoundExpression, BoundNode};
@@ -17,6 +18,7 @@ use vortex_dtype_ptype::nullability::Nullability;
 use vortex_dtype_ptype::ptype::PType;
 use vortex_scalar_core::scalar::Scalar;
 use vortex_stats_expr::error::StatsError;
+use vortex_stats_expr::scalar_fn::ScalarFnId;
 use vortex_stats_expr::stat::count_dtype;
 use vortex_stats_expr::types::{Leaf, TypeClass, class_of};
 use vortex_stats_match::like::has_backslash;
@@ -61,6 +63,27 @@ impl BoundExpression {
             | BoundNode::IsNan(_)
             | BoundNode::Between(_, _, _, _)
             | BoundNode::Like(_, _, _) => TypeClass::Leaf(Leaf::Bool),
+        }
+    }
+
+    /// The function of the root. Rules that rewrite predicates are chosen by it.
+    pub fn scalar_fn_id(&self) -> ScalarFnId
+        ensures { result ≡ scalar_fn_of (expression_of self.now) }
+    {
+        match &self.node {
+            BoundNode::Literal(_) => ScalarFnId::Literal,
+            BoundNode::Column(_) => ScalarFnId::Column,
+            BoundNode::Compare(_, _, _) | BoundNode::And(_, _) | BoundNode::Or(_, _) => {
+                ScalarFnId::Binary
+            }
+            BoundNode::Not(_) => ScalarFnId::Not,
+            BoundNode::IsNull(_) => ScalarFnId::IsNull,
+            BoundNode::IsNotNull(_) => ScalarFnId::IsNotNull,
+            BoundNode::IsNan(_) => ScalarFnId::IsNan,
+            BoundNode::Between(_, _, _, _) => ScalarFnId::Between,
+            BoundNode::Like(_, _, _) => ScalarFnId::Like,
+            BoundNode::RowCount => ScalarFnId::RowCount,
+            BoundNode::Stat(_, _, _) => ScalarFnId::Stat,
         }
     }
 
