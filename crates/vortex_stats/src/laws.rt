@@ -5,6 +5,10 @@ pub use vortex_stats_bound::laws::{
     scalar_lower_unions_commute, scalar_upper_unions_associate, scalar_upper_unions_commute,
     upper_unions_associate, upper_unions_commute,
 };
+pub use vortex_stats_bind::laws::binding_keeps_values;
+pub use vortex_stats_evaluate::laws::{
+    bound_expressions_say_the_same, falsified_zones_hold_none, satisfied_zones_hold_all,
+};
 pub use vortex_stats_expr::bitset::pruning_statistics_are_five;
 pub use vortex_stats_laws::laws::{
     combined_sets_are_honest, merges_are_honest, merges_of_many_are_honest,

@@ -1,5 +1,5 @@
 -- Truths at the rows of an array.
-use Rattle.std.proofs.Common.{not, ◌≡◌, refl, sym, ap, ◌∙◌, subst, ℕ, ◌+◌, ◌<◌, ◌≤◌, List, [], ◌∷◌, ◌++◌, map, take, Bool, true, false, ◌||◌, Option, ◌-◌, ◌^◌, min, arith}
+use Rattle.std.proofs.Common.{not, ◌≡◌, refl, sym, ap, ◌∙◌, subst, ℕ, ◌+◌, ◌<◌, ◌≤◌, List, [], ◌∷◌, ◌++◌, map, take, Bool, true, false, ◌||◌, Option, None, ◌-◌, ◌^◌, min, arith}
 use Rattle.std.proofs.lemmas.Bool.Decides.{nat_tests}
 use Rattle.std.proofs.lemmas.List.{map-append, take_more, take_all}
 use Rattle.std.specs.List.{zip}
@@ -123,12 +123,13 @@ pub ruleset tested = (tested_more, tested_all)
 -- ---- where placeholders are bound
 
 module _ (known : List ColumnStats) (n : ℕ) (b bound : Bound)
-    (is : bound ≡ replaced (answered (answers_by known n) (λ k. typed_null k)) b) where
+    (is : bound ≡ replaced (answered None (answers_by known n) (λ k. typed_null k)) b) where
   bound_at : (row : Content) →
       evaluate_bound (row_of n row) bound ≡ evaluate_bound (at_row known n row) b
   bound_at row = ap (evaluate_bound (row_of n row)) is
-      ∙ replacing_keeps_values (row_of n row) (answered (answers_by known n) (λ k. typed_null k))
-      (told_by known n) b (answers_worth known n (row_of n row))
+      ∙ replacing_keeps_values (row_of n row) (at_row known n row)
+      (answered None (answers_by known n) (λ k. typed_null k)) b
+      (answers_worth known n (at row) (λ x a. null))
 
   pub rows_bound : (rows : List Content) (truths : List (Option Bool)) →
       truths ≡ map (λ row. boolean_in (evaluate_bound (row_of n row) bound)) rows →

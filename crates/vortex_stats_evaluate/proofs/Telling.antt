@@ -133,7 +133,20 @@ worth_in p rows a k (Some c) = by_type (type_of_aggregate a (type_of c.dtype))
     by_type None = refl
     by_type (Some l) = refl
 
-pub answers_worth : (known : List ColumnStats) (rows : ℕ) (p : Provided) → HasValuesOf p
-    (answered (answers_by known rows) (λ k. typed_null k)) (told_by known rows)
-answers_worth known rows p (place xs is k) a l = worth_in p rows a l (stats_at known is)
-answers_worth known rows p x a l = refl
+pub answers_worth : (known : List ColumnStats) (rows : ℕ) (columns : Positions → Content)
+    (left : Bound → Aggregate → Content) →
+    HasValuesOf (record { columns = columns; statistics = left; rows = rows })
+    (record { columns = columns; statistics = told_by known rows; rows = rows })
+    (answered None (answers_by known rows) (λ k. typed_null k))
+answers_worth known rows columns left = record {
+  statistics = of;
+  columns = λ xs is k. refl;
+  rows = refl;
+}
+  where
+    of : (x : Bound) (a : Aggregate) (l : LogicalType) → evaluate_bound
+        (record { columns = columns; statistics = left; rows = rows })
+        (unwrap_or (answers_by known rows x a) (typed_null l)) ≡ told_by known rows x a
+    of (place xs is k) a l = worth_in (record { columns = columns; statistics = left; rows = rows })
+        rows a l (stats_at known is)
+    of x a l = refl

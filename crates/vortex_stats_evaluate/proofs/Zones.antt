@@ -1,10 +1,9 @@
 -- A proof that is bound by an honest binder says of a zone's rows what the proof says.
 use Rattle.std.proofs.Common.{◌≡◌, refl, sym, ap, ◌∙◌, subst, List, [], ◌∷◌, length, map, Bool, true, false, not, ◌&&◌, ◌||◌, Option, Some, None, ◌⊎◌, inl, inr}
-use Rattle.std.specs.Prelude.{pos}
 use Rattle.std.specs.List.{AllByRecursion}
 use Rattle.std.proofs.lemmas.List.{length-map}
 use Rattle.vortex_model.specs.LogicalType.{LogicalType}
-use Rattle.vortex_model.specs.Content.{Content, null, boolean, integer, is_null as is_null_content}
+use Rattle.vortex_model.specs.Content.{Content, null, boolean, is_null as is_null_content}
 use Rattle.vortex_model.specs.Path.{Names, Positions, positions, at}
 use Rattle.vortex_model.specs.Valid.{IsContent}
 use Rattle.vortex_model_table.specs.Expression.{Expression, literal, column, compare, both, either, negation, is_null, is_not_null, is_nan, between, like, row_count, statistic, Aggregate, HasFormedLiterals, reads_columns as reads_names}
@@ -65,7 +64,7 @@ each_row P Q f (row ∷ rows) h = (f row h.0, each_row P Q f rows h.1)
 
 module _ (k : LogicalType) (answers : Answers) (p : Provided) (rows : List Content) (zone : IsZone k answers p rows) where
   answer_to : Expression → Aggregate → Bound
-  answer_to x a = answers (bound_of k x) a (placeholder_type a (bound_of k x))
+  answer_to x a = answers.statistic (bound_of k x) a (placeholder_type a (bound_of k x))
 
   -- what placeholders stand for: what their answers have, where they have no fault
   worth : Option ProofFault → Content → Content
@@ -116,7 +115,7 @@ module _ (k : LogicalType) (answers : Answers) (p : Provided) (rows : List Conte
   agrees (like x form n false) h r =
       let f = three_none (binding_fault k x) (binding_fault k form) _ h in
       λ i. liked (agrees x f.0 (or_left (reads_names x) (reads_names form) r) i) (agrees form f.1 (or_right (reads_names x) (reads_names form) r) i) n
-  agrees row_count h r = ap (λ n. integer (pos n)) zone.counted
+  agrees row_count h r = zone.counted
   agrees (statistic x a) h r = sym (ap (λ o. worth o (evaluate_bound p (answer_to x a))) h)
 
   -- so where it is true, the proof is

@@ -1,8 +1,8 @@
 -- What a reader of files may believe of proofs that it binds to its own statistics.
-use Rattle.std.specs.Prelude.{◌≡◌, ◌⊎◌, List, length, map, true, false}
+use Rattle.std.specs.Prelude.{◌≡◌, ◌⊎◌, pos, List, length, map, true, false}
 use Rattle.std.specs.List.{AllByRecursion}
 use Rattle.vortex_model.specs.LogicalType.{LogicalType}
-use Rattle.vortex_model.specs.Content.{Content, null}
+use Rattle.vortex_model.specs.Content.{Content, null, integer}
 use Rattle.vortex_model.specs.Valid.{IsContent}
 use Rattle.vortex_model_table.specs.Expression.{Aggregate, HasFormedLiterals}
 use Rattle.vortex_model_table.specs.Statistics.{Statistics, IsHonest, placeholder_value}
@@ -18,14 +18,14 @@ abbrev pub IsHonestValue : Aggregate → List Content → Content → Type 0
 IsHonestValue a values c = (c ≡ null) ⊎ ((s : Statistics) × IsHonest s values ×
     (c ≡ placeholder_value a s (length values)))
 
--- Rows of a type, and what the answers of an honest binder stand for beside them: as many rows, and
+-- Rows of a type, and what the answers of an honest binder stand for beside them: their number, and
 -- for each statistic of an expression an honest value of what the expression is at the rows.
 pub record IsZone (k : LogicalType) (answers : Answers) (p : Provided) (rows : List Content)
     : Type 0 where
   pub typed : AllByRecursion (IsContent k) rows
-  pub counted : p.rows ≡ length rows
+  pub counted : evaluate_bound p answers.rows ≡ integer (pos (length rows))
   pub honest : (x : Bound) (a : Aggregate) (l : LogicalType) → IsBoundTo k (placeholder x a l) →
-      IsHonestValue a (map (bound_value x) rows) (evaluate_bound p (answers x a l))
+      IsHonestValue a (map (bound_value x) rows) (evaluate_bound p (answers.statistic x a l))
 
 -- a predicate that is bound to the type and has a truth
 pub record IsPredicate (k : LogicalType) (e : Bound) : Type 0 where
