@@ -77,8 +77,11 @@ module _ (k : LogicalType) (answers : Answers) (p : Provided) (rows : List Conte
   of_answer : (x : Expression) (a : Aggregate) → IsHonestValue a (map (bound_value (bound_of k x)) rows) (evaluate_bound p (answer_to x a)) →
       (evaluate_bound p (answer_to x a) ≡ null) ⊎ ((s : Statistics) × IsHonest s (map (value_at k x) rows) × (evaluate_bound p (answer_to x a) ≡ placeholder_value a s (length rows)))
   of_answer x a (inl h) = inl h
-  of_answer x a (inr h) = inr (h.0, subst (IsHonest h.0) (row_values k x (bound_of k x) rows refl) h.1,
-      h.2 ∙ ap (placeholder_value a h.0) (length-map rows (bound_value (bound_of k x))))
+  of_answer x a (inr h) = inr (
+    h.0,
+    subst (IsHonest h.0) (row_values k x (bound_of k x) rows refl) h.1,
+    h.2 ∙ ap (placeholder_value a h.0) (length-map rows (bound_value (bound_of k x))),
+  )
 
   honest_by : (x : Expression) (a : Aggregate) (o : Option ProofFault) → binding_fault k (statistic x a) ≡ o →
       (worth o (evaluate_bound p (answer_to x a)) ≡ null) ⊎ ((s : Statistics) × IsHonest s (map (value_at k x) rows) × (worth o (evaluate_bound p (answer_to x a)) ≡ placeholder_value a s (length rows)))

@@ -26,10 +26,7 @@ pub fn min_max(
 }
 
 /// The sum: a u64, an i64 or an f64, by the type of the values.
-pub fn sum(
-    alloc: Global,
-    input: Box<BoundExpression>,
-) -> Result<Box<BoundExpression>, StatsError>
+pub fn sum(alloc: Global, input: Box<BoundExpression>) -> Result<Box<BoundExpression>, StatsError>
     ensures placeholder { IfOk result (λ bound. IsPlaceholderOf sum input.value bound.value) }
     ensures refused { IfErr result (IsPlaceholderFault sum input.value) }
 {
