@@ -12,7 +12,7 @@ use Rattle.vortex_stats_bind.proofs.Alike.{truth_alike, reads_alike}
 use Rattle.vortex_stats_bind.proofs.Made.{truth_by}
 use Rattle.vortex_stats_expr.specs.declared.error.StatsError.{StatsError}
 use Rattle.vortex_stats_expr.specs.declared.error.StatsError.TheVariants as error
-use Rattle.vortex_stats_rules.specs.Meanings.{IsBoundTruth, IsAnswer, IsJudged}
+use Rattle.vortex_stats_rules.specs.Meanings.{IsBoundTruth, IsAnswer, IsJudged, is_usable}
 use Rattle.vortex_stats_rules.specs.Table.{Boxed}
 
 abbrev judged_by : Expression → Option ProofFault → Answer
@@ -27,11 +27,24 @@ fault_by : (k : LogicalType) (b : Bound) → IsBoundTo k b →
     proof_fault k (expression_of b) ≡ tested_by (has_truth b) (is_boolean_type (value_type b)) (reads_columns b)
 fault_by k b h = λ i. or_fault (h.faultless i) (tested_by (truth_alike k _ b h i) (truth_by k _ b h i) (reads_alike k _ b h i))
 
-pub accepted : (k : LogicalType) (b : Bound) → IsBoundTo k b → has_truth b ≡ true → is_boolean_type (value_type b) ≡ true → reads_columns b ≡ false →
-    (judged k (proof (expression_of b)) ≡ proof (expression_of b)) × IsBoundTruth k b
-accepted k b h t u r = (
-  ap (judged_by (expression_of b)) (fault_by k b h ∙ (λ i. tested_by (t i) (u i) (r i))),
-  record { bound = h; boolean = u },
+accepted_by : (p : Expression) (truth boolean reads : Bool) → truth && (boolean && not reads) ≡ true → judged_by p (tested_by truth boolean reads) ≡ proof p
+accepted_by p true true false h = refl
+accepted_by p true true true h = cc (h)
+accepted_by p true false reads h = cc (h)
+accepted_by p false boolean reads h = cc (h)
+
+boolean_so : (truth boolean reads : Bool) → truth && (boolean && not reads) ≡ true → boolean ≡ true
+boolean_so truth true reads h = refl
+boolean_so true false reads h = cc (h)
+boolean_so false false reads h = cc (h)
+
+-- a proof that may be used, in its box
+pub accepted : (k : LogicalType) (p : Bound) (b : Boxed) → b.value ≡ p → is_usable p ≡ true → IsBoundTo k p → IsJudged k (Ok (Some b)) (judged k (proof (expression_of p)))
+accepted k p b is t h = (
+  ap (judged_by (expression_of p)) (fault_by k p h)
+      ∙ accepted_by (expression_of p) (has_truth p) (is_boolean_type (value_type p)) (reads_columns p) t
+      ∙ ap (λ c. proof (expression_of c)) (sym is),
+  subst (IsBoundTruth k) (sym is) record { bound = h; boolean = boolean_so (has_truth p) (is_boolean_type (value_type p)) (reads_columns p) t },
 )
 
 faulty_by : (p : Expression) (truth boolean reads : Bool) → truth && (boolean && not reads) ≡ false → judged_by p (tested_by truth boolean reads) ≡ fault
@@ -40,16 +53,28 @@ faulty_by p true false reads h = refl
 faulty_by p false boolean reads h = refl
 faulty_by p true true false h = cc (h)
 
-pub faulty : (k : LogicalType) (b : Bound) → IsBoundTo k b → has_truth b && (is_boolean_type (value_type b) && not (reads_columns b)) ≡ false →
-    judged k (proof (expression_of b)) ≡ fault
-faulty k b h f = ap (judged_by (expression_of b)) (fault_by k b h) ∙ faulty_by _ _ _ _ f
+pub faulty : (k : LogicalType) (p : Bound) → is_usable p ≡ false → IsBoundTo k p → judged k (proof (expression_of p)) ≡ fault
+faulty k p f h =
+    ap (judged_by (expression_of p)) (fault_by k p h) ∙ faulty_by (expression_of p) (has_truth p) (is_boolean_type (value_type p)) (reads_columns p) f
 
--- what is judged is what was answered
-pub of_answer : (k : LogicalType) (r : Result (Option Boxed) StatsError) (a : Answer) (b : Bound) → IsAnswer k (Ok (Some b)) a →
-    (IsBoundTo k b → IsJudged k r (judged k (proof (expression_of b)))) → IsJudged k r (judged k a)
-of_answer k r a b h j = subst (λ c. IsJudged k r (judged k c)) (sym h.0) (j h.1)
+-- what is judged is what was answered: a proof
+pub of_proof : (k : LogicalType) (r : Result (Option Boxed) StatsError) (answer : Result (Option Bound) StatsError) (a : Answer) (b : Bound) → answer ≡ Ok (Some b) →
+    (IsBoundTo k b → IsJudged k r (judged k (proof (expression_of b)))) → IsAnswer k answer a → IsJudged k r (judged k a)
+of_proof k r answer a b is j h =
+    let said : (a ≡ proof (expression_of b)) × IsBoundTo k b = subst (λ x. IsAnswer k x a) is h in
+    subst (λ c. IsJudged k r (judged k c)) (sym said.0) (j said.1)
+
+-- none
+pub of_none : (k : LogicalType) (answer : Result (Option Bound) StatsError) (a : Answer) → answer ≡ Ok None → IsAnswer k answer a → IsJudged k (Ok None) (judged k a)
+of_none k answer a is h =
+    let said : a ≡ no_proof = subst (λ x. IsAnswer k x a) is h in
+    (ap (judged k) said, tt)
+
+faulty_answer : (k : LogicalType) (e : StatsError) (a : Answer) → e ≢ error.Memory → IsAnswer k (Err e) a → judged k a ≡ fault
+faulty_answer k error.Memory a u h = absurd (u refl)
+faulty_answer k e a u h = ap (judged k) h
 
 -- an error other than for want of memory
-pub of_error : (k : LogicalType) (e : StatsError) (a : Answer) → e ≢ error.Memory → IsAnswer k (Err e) a → judged k a ≡ fault
-of_error k error.Memory a u h = absurd (u refl)
-of_error k e a u h = ap (judged k) h
+pub of_error : (k : LogicalType) (answer : Result (Option Bound) StatsError) (e : StatsError) (a : Answer) → answer ≡ Err e → e ≢ error.Memory → IsAnswer k answer a →
+    judged k a ≡ fault
+of_error k answer e a is u h = faulty_answer k e a u (subst (λ x. IsAnswer k x a) is h)

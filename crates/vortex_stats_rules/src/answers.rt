@@ -4,7 +4,7 @@ ghost use Rattle.vortex_model.specs.LogicalType.{LogicalType};
 ghost use Rattle.vortex_model_rules.specs.Rules.{Answer, proof, joined_answers, answer_of, judged};
 ghost use Rattle.vortex_stats_bind.specs.Bound.{expression_of};
 ghost use Rattle.vortex_stats_bind.specs.Bindings.{IsBoundTo};
-ghost use Rattle.vortex_stats_rules.specs.Meanings.{rules_of, IsAnswer, AreProofs, IsProofIn, expression_in, expressions_in, IsFault, IsJudged, AreJoined, IsPushed, asked_of, answers_to};
+ghost use Rattle.vortex_stats_rules.specs.Meanings.{rules_of, IsAnswer, AreProofs, IsProofIn, expression_in, expressions_in, IsFault, IsJudged, AreJoined, IsPushed, asked_of, answers_to, is_usable};
 ghost use Rattle.vortex_stats_rules.specs.Visits.{visited};
 
 use crate::joined::{as_list, join_proofs};
@@ -96,15 +96,19 @@ fn push_answer(
         (λ error. IsFault error
         (asked_of claim k (expression_of e.now) (meaning rule.now).rule)) }
 {
-    match ask(alloc, claim, e, rule)? {
-        Some(proof) => proofs.push(proof)?,
-        None => {}
+    let answer = ask(alloc, claim, e, rule)?;
+    match answer {
+        Some(proof) => {
+            proofs.push(proof)?;
+            Ok(())
+        }
+        None => Ok(()),
     }
-    Ok(())
 }
 
 // What a rule answers at a node, which is handed to it where the function of its root is the
 // rule's.
+#[tactic(auto, using(crate::proofs::Roots::handed))]
 fn ask(
     alloc: Global,
     claim: Claim,
@@ -139,14 +143,20 @@ fn judge(
     }
 }
 
-// A proof may be used where it has a truth, is boolean, and reads no column outside placeholders.
 fn judge_proof(alloc: Global, p: BoundExpression) -> Result<Option<Proof>, StatsError>
     ensures { (k : LogicalType) → IsBoundTo k p →
         IsJudged k result (judged k (proof (expression_of p))) }
 {
-    if p.has_truth() && p.is_boolean() && !p.reads_columns() {
-        Ok(Some(Box::new(alloc, p)?))
-    } else {
-        Err(StatsError::RuleFault)
+    if !is_usable(&p) {
+        return Err(StatsError::RuleFault);
     }
+    let proof = Box::new(alloc, p)?;
+    Ok(Some(proof))
+}
+
+// A proof may be used where it has a truth, is boolean, and reads no column outside placeholders.
+fn is_usable(p: &BoundExpression) -> bool
+    ensures { result ≡ is_usable p.now }
+{
+    p.has_truth() && p.is_boolean() && !p.reads_columns()
 }

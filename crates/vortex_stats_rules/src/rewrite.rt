@@ -33,7 +33,7 @@
 //! the rules whose function is that of its root: for `falsify` the predicate itself, both sides of
 //! each AND and OR among the nodes that are handed over, and of each BETWEEN its AND with both
 //! comparisons; for `satisfy` the predicate alone.
-ghost use Rattle.std.specs.Prelude.{◌≡◌, Some, length, IfOk, IfErr, IfSome, OnOk, OnErr, chars, option_map, string_bytes};
+ghost use Rattle.std.specs.Prelude.{◌≡◌, Some, length, not, IfOk, IfErr, IfSome, OnOk, OnErr, chars, option_map, string_bytes};
 ghost use Rattle.vortex_model.specs.LogicalType.{LogicalType};
 ghost use Rattle.vortex_model_table.specs.Expression.{at_least};
 ghost use Rattle.vortex_model_table.specs.Rewrite.{exact_text, beginning};
@@ -44,7 +44,7 @@ ghost use Rattle.vortex_stats_expr.specs.Aggregate.{aggregate_of};
 ghost use Rattle.vortex_stats_expr.specs.Tree.{comparison_of, is_strict};
 ghost use Rattle.vortex_stats_rules.specs.Meanings.{rules_of, IsJudged};
 ghost use Rattle.vortex_stats_rules.specs.Refusals.{IsPredicate, IsRefusal};
-ghost use Rattle.vortex_stats_rules.specs.Table.{unboxed, all_unboxed, range_of, truth_proofs, falsifiers, satisfiers, comparison_proofs, is_comparable, may_be_nan, guarded, no_nan, refuted, low, high, counted, no_nulls, only_nulls, no_nans, only_nans, like_proof, shape_proof, outside};
+ghost use Rattle.vortex_stats_rules.specs.Table.{unboxed, all_unboxed, range_of, truth_proofs, falsifiers, satisfiers, comparison_proofs, is_comparable, may_be_nan, kept_from_nan, guarded, no_nan, refuted, low, high, counted, no_nulls, only_nulls, no_nans, only_nans, like_proof, shape_proof, outside};
 ghost use Rattle.vortex_stats_rules.specs.Visits.{visited};
 
 use crate::answers::{Claim, join_answer, join_answers};
@@ -205,7 +205,7 @@ fn falsifiers(alloc: Global, e: &BoundExpression) -> Result<Vec<Proof>, AllocErr
     ensures { IfOk result (λ proofs. all_unboxed proofs.items ≡ falsifiers e.now) }
 {
     match &e.node {
-        BoundNode::Literal(value) => truth_proofs(alloc, truth_in(value).map(|flag| !flag)),
+        BoundNode::Literal(value) => truth_proofs(alloc, opposite(truth_in(value))),
         BoundNode::Compare(comparison, x, y) => comparison_proofs(alloc, *comparison, x, y),
         BoundNode::IsNull(x) => no_nulls(alloc, x),
         BoundNode::IsNotNull(x) => only_nulls(alloc, x),
@@ -245,6 +245,12 @@ pub(crate) fn satisfiers(alloc: Global, e: &BoundExpression) -> Result<Vec<Proof
     }
 }
 
+fn opposite(value: Option<bool>) -> Option<bool>
+    ensures { result ≡ option_map not value }
+{
+    Some(!value?)
+}
+
 // The literal of a truth value, where there is one, as Vortex's `LiteralStatsRewrite`.
 fn truth_proofs(alloc: Global, value: Option<bool>) -> Result<Vec<Proof>, AllocError>
     ensures { IfOk result (λ proofs. all_unboxed proofs.items ≡ truth_proofs value) }
@@ -280,6 +286,21 @@ fn comparison_proofs(
     }
     let left = may_be_nan(x);
     let right = may_be_nan(y);
+    keep_from_nan(alloc, comparison, left, right, x, y)
+}
+
+// The proof, and where it may hold NaN twice. `left` and `right` tell which sides may.
+fn keep_from_nan(
+    alloc: Global,
+    comparison: Comparison,
+    left: bool,
+    right: bool,
+    x: &BoundExpression,
+    y: &BoundExpression,
+) -> Result<Vec<Proof>, AllocError>
+    ensures { IfOk result (λ proofs. all_unboxed proofs.items ≡ kept_from_nan left right x.now y.now
+        (refuted (comparison_of comparison) x.now y.now)) }
+{
     if left || right {
         let by_count = guarded(alloc, NanGuard::Count, comparison, left, right, x, y)?;
         let by_flag = guarded(alloc, NanGuard::Flag, comparison, left, right, x, y)?;
@@ -304,13 +325,12 @@ fn may_be_nan(x: &BoundExpression) -> bool
 }
 
 // The statistic by which a proof asks that no value is NaN.
-#[derive(Clone, Copy, Debug, PartialEq, Eq)]
+#[derive(Clone, Copy)]
 pub(crate) enum NanGuard {
     Count,
     Flag,
 }
 
-// `left` and `right` tell which sides may hold NaN.
 fn guarded(
     alloc: Global,
     guard: NanGuard,
