@@ -38,31 +38,36 @@ boolean_so truth true reads h = refl
 boolean_so true false reads h = cc (h)
 boolean_so false false reads h = cc (h)
 
--- a proof that may be used, in its box
-pub accepted : (k : LogicalType) (p : Bound) (b : Boxed) → b.value ≡ p → is_usable p ≡ true → IsBoundTo k p → IsJudged k (Ok (Some b)) (judged k (proof (expression_of p)))
-accepted k p b is t h = (
-  ap (judged_by (expression_of p)) (fault_by k p h)
-      ∙ accepted_by (expression_of p) (has_truth p) (is_boolean_type (value_type p)) (reads_columns p) t
-      ∙ ap (λ c. proof (expression_of c)) (sym is),
-  subst (IsBoundTruth k) (sym is) record { bound = h; boolean = boolean_so (has_truth p) (is_boolean_type (value_type p)) (reads_columns p) t },
-)
-
 faulty_by : (p : Expression) (truth boolean reads : Bool) → truth && (boolean && not reads) ≡ false → judged_by p (tested_by truth boolean reads) ≡ fault
 faulty_by p true true true h = refl
 faulty_by p true false reads h = refl
 faulty_by p false boolean reads h = refl
 faulty_by p true true false h = cc (h)
 
-pub faulty : (k : LogicalType) (p : Bound) → is_usable p ≡ false → IsBoundTo k p → judged k (proof (expression_of p)) ≡ fault
-faulty k p f h =
-    ap (judged_by (expression_of p)) (fault_by k p h) ∙ faulty_by (expression_of p) (has_truth p) (is_boolean_type (value_type p)) (reads_columns p) f
+-- a proof that was answered
+answered : (k : LogicalType) (answer : Result (Option Bound) StatsError) (a : Answer) (p : Bound) → answer ≡ Ok (Some p) → IsAnswer k answer a →
+    (a ≡ proof (expression_of p)) × IsBoundTo k p
+answered k answer a p is h = subst (λ x. IsAnswer k x a) is h
 
--- what is judged is what was answered: a proof
-pub of_proof : (k : LogicalType) (r : Result (Option Boxed) StatsError) (answer : Result (Option Bound) StatsError) (a : Answer) (b : Bound) → answer ≡ Ok (Some b) →
-    (IsBoundTo k b → IsJudged k r (judged k (proof (expression_of b)))) → IsAnswer k answer a → IsJudged k r (judged k a)
-of_proof k r answer a b is j h =
-    let said : (a ≡ proof (expression_of b)) × IsBoundTo k b = subst (λ x. IsAnswer k x a) is h in
-    subst (λ c. IsJudged k r (judged k c)) (sym said.0) (j said.1)
+-- one that may be used, in its box
+pub accepted : (k : LogicalType) (answer : Result (Option Bound) StatsError) (a : Answer) (p : Bound) (b : Boxed) → answer ≡ Ok (Some p) → b.value ≡ p → is_usable p ≡ true →
+    IsAnswer k answer a → IsJudged k (Ok (Some b)) (judged k a)
+accepted k answer a p b is same t h =
+    let said = answered k answer a p is h in (
+      ap (judged k) said.0 ∙ ap (judged_by (expression_of p)) (fault_by k p said.1)
+          ∙ accepted_by (expression_of p) (has_truth p) (is_boolean_type (value_type p)) (reads_columns p) t
+          ∙ ap (λ c. proof (expression_of c)) (sym same),
+      subst (IsBoundTruth k) (sym same)
+          record { bound = said.1; boolean = boolean_so (has_truth p) (is_boolean_type (value_type p)) (reads_columns p) t },
+    )
+
+-- and one that may not
+pub faulty : (k : LogicalType) (answer : Result (Option Bound) StatsError) (a : Answer) (p : Bound) → answer ≡ Ok (Some p) → is_usable p ≡ false → IsAnswer k answer a →
+    judged k a ≡ fault
+faulty k answer a p is f h =
+    let said = answered k answer a p is h in
+    ap (judged k) said.0 ∙ ap (judged_by (expression_of p)) (fault_by k p said.1)
+    ∙ faulty_by (expression_of p) (has_truth p) (is_boolean_type (value_type p)) (reads_columns p) f
 
 -- none
 pub of_none : (k : LogicalType) (answer : Result (Option Bound) StatsError) (a : Answer) → answer ≡ Ok None → IsAnswer k answer a → IsJudged k (Ok None) (judged k a)
