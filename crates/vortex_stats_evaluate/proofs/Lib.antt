@@ -1,7 +1,7 @@
 mod Adding
-mod Binding
-mod Faults
 mod Found
 mod RowTruths
+mod Saying
 mod Telling
 pub mod Told
+mod Zones

@@ -3,7 +3,7 @@ use Rattle.std.proofs.lemmas.Str.{IsUtf8-string_bytes}
 use Rattle.vortex_stats_rules.specs.Table.{outside, unboxed}
 use Rattle.vortex_model_table.specs.Expression.{greater}
 use Rattle.vortex_stats_rules.proofs.Outside.{outside_text}
-use Rattle.vortex_stats_rules.proofs.like.falsify_text.Goals as goal
+use Rattle.vortex_stats_rules.proofs.rewrite.falsify_text.Goals as goal
 
 pub returns : goal.returns
 returns c =

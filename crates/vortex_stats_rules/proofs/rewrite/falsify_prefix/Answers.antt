@@ -3,7 +3,7 @@ use Rattle.std.proofs.lemmas.Str.{IsUtf8-string_bytes}
 use Rattle.vortex_model_table.specs.Bounds.{IsRaise}
 use Rattle.vortex_stats_rules.specs.Table.{unboxed}
 use Rattle.vortex_stats_rules.proofs.Outside.{outside_beginning, not_raised}
-use Rattle.vortex_stats_rules.proofs.like.falsify_prefix.Goals as goal
+use Rattle.vortex_stats_rules.proofs.rewrite.falsify_prefix.Goals as goal
 
 pub returns-in-Some : goal.returns-in-Some
 returns-in-Some c =
