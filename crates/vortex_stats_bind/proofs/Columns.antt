@@ -8,7 +8,7 @@ use Rattle.vortex_model.specs.Path.{Names, Positions, positions, position_in, pa
 use Rattle.vortex_model_table.specs.Command.{part_named}
 use Rattle.vortex_model_table.specs.Expression.{column}
 use Rattle.vortex_model_rules.specs.Faults.{unless, unknown_column, binding_fault}
-use Rattle.vortex_stats_expr.proofs.Classes.{positions-stop, positions-step, type_of_column-step}
+use Rattle.vortex_stats_expr.proofs.Classes.{positions-stop, positions-step}
 use Rattle.vortex_stats_bind.specs.Bound.{Bound, place, bound_of, column_at}
 use Rattle.vortex_stats_bind.specs.Bindings.{IsBound}
 
@@ -69,6 +69,15 @@ at_start k names = record { behind = same_positions (positions k names); inside 
 one_more : (before : Positions) (i : ℕ) (o : Option Positions) → option_map (λ is. (before ++ i ∷ []) ++ is) o ≡ option_map (λ is. before ++ is) (option_map (λ is. i ∷ is) o)
 one_more before i None = refl
 one_more before i (Some is) = ap Some (append_assoc before (i ∷ []) is)
+
+type_behind : (k part : LogicalType) (i : ℕ) (o : Option Positions) → part_at k i ≡ Some part →
+    option_and_then (type_at k) (option_map (λ is. i ∷ is) o) ≡ option_map (nullable_inside (nullability_of k)) (option_and_then (type_at part) o)
+type_behind k part i None q = refl
+type_behind k part i (Some is) q = ap (λ o. option_map (nullable_inside (nullability_of k)) (option_and_then (λ part. type_at part is) o)) q
+
+type_of_column-step : (k part : LogicalType) (i : ℕ) (x : List ℕ) (xs : Names) → position_in k x ≡ Some i → part_at k i ≡ Some part →
+    type_of_column k (x ∷ xs) ≡ option_map (nullable_inside (nullability_of k)) (type_of_column part xs)
+type_of_column-step k part i x xs p q = ap (option_and_then (type_at k)) (positions-step k part i x xs p q) ∙ type_behind k part i (positions part xs) q
 
 step : (k : LogicalType) (names : Names) (part next : LogicalType) (n : Nullability) (before : Positions) (i : ℕ) (x : List ℕ) (rest : Names) →
     position_in part x ≡ Some i → part_at part i ≡ Some next → IsAt k names part n before (x ∷ rest) →

@@ -9,9 +9,9 @@ ghost use Rattle.vortex_stats_rules.specs.PushedIn.{pushed_in, negated};
 use crate::joined::join_proofs;
 use crate::meter::Meter;
 use crate::negation::truth_in;
-use crate::rewrite::{compared, falsify_node, out_of_box, satisfiers};
+use crate::rewrite::{falsify_node, satisfiers};
 use crate::rule::StatsRewriteRule;
-use crate::stats::{copied, truth};
+use crate::stats::{compared, copied, out_of_box, truth};
 use std::alloc::{AllocError, Global};
 use vortex_scalar_core::scalar::Scalar;
 use vortex_stats_bind::bound::{

@@ -16,7 +16,7 @@ use Rattle.vortex_model_table.specs.Scan.{known, told, proves, chunk_zone, chunk
 use Rattle.vortex_model_laws.proofs.Groups.{map_twice}
 use Rattle.vortex_model_laws.proofs.LeafOrder.{bounds_of_column}
 use Rattle.vortex_arrays_model.specs.Layout.{len_of}
-use Rattle.vortex_stats_bind.specs.Bound.{Bound, Provided, evaluate_bound, bound_of, expression_of, column_at, by_names}
+use Rattle.vortex_stats_bind.specs.Bound.{Bound, Provided, evaluate_bound, bound_of, column_at, by_names}
 use Rattle.vortex_stats_bind.specs.Bindings.{IsBoundProof}
 use Rattle.vortex_stats_bind.proofs.BoundValues.{proof_says}
 use Rattle.vortex_table_schema.specs.Leaves.{leaf_positions}

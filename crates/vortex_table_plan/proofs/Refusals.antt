@@ -1,5 +1,5 @@
 -- The proofs of predicates that scans accept, and why scans with callers' rules are refused.
-use Rattle.std.proofs.Common.{◌≡◌, refl, sym, ◌∙◌, ap, List, [], Bool, true, false, ◌||◌, Option, Some, None, IfSome, option_map}
+use Rattle.std.proofs.Common.{◌≡◌, refl, sym, ◌∙◌, ap, subst, List, [], Bool, true, false, ◌||◌, Option, Some, None, IfSome, option_map}
 use Rattle.vortex_model.specs.LogicalType.{LogicalType}
 use Rattle.vortex_model_table.specs.Expression.{Expression}
 use Rattle.vortex_model_table.specs.Typing.{expression_type}
@@ -43,6 +43,16 @@ accepted_to k e b is = bound_to k e b is.bound
 
 pub accepted_so : (k : LogicalType) (e : Expression) (b : Bound) → IsAccepted k e b → expression_of b ≡ e
 accepted_so k e b is = expression_of_bound k e b is.bound
+
+-- what is answered of the bound predicate is answered of the predicate
+pub answered_so : (k : LogicalType) (e : Expression) (b : Bound) (answer : Expression → Answer) (a : Answer) → IsAccepted k e b → answer (expression_of b) ≡ a → answer e ≡ a
+answered_so k e b answer a is h = ap answer (sym (accepted_so k e b is)) ∙ h
+
+pub fails_so : (k : LogicalType) (e : Expression) (b : Bound) (answer : Expression → Answer) (x : StatsError) → IsAccepted k e b → IsRefusal k (expression_of b) (answer (expression_of b)) x → IsOfRules (is_fault (answer e)) x
+fails_so k e b answer x is r =
+    let same = accepted_so k e b is in
+    subst (λ d. IsOfRules (is_fault (answer d)) x) same
+    (refused_so k (expression_of b) (answer (expression_of b)) x (is_predicate k (expression_of b) (ap (predicate_fault k) same ∙ is.faultless)) r)
 
 pub proof_bound : (k : LogicalType) (o : Option Bound) → IfSome o (λ b. IsBoundTo k b) → IsBoundProof k (option_map expression_of o) o
 proof_bound k None h = tt
