@@ -9,18 +9,19 @@ use Rattle.vortex_model.specs.Valid.{IsContent}
 use Rattle.vortex_model_table.specs.Expression.{Expression, literal, column, compare, both, either, negation, is_null, is_not_null, is_nan, between, like, row_count, statistic, Aggregate, HasFormedLiterals, reads_columns as reads_names}
 use Rattle.vortex_model_table.specs.Sound.{Placeholders, AreHonest, of_proof, IsSoundFalsifier, IsSoundSatisfier}
 use Rattle.vortex_model_table.specs.Statistics.{Statistics, IsHonest, placeholder_value}
-use Rattle.vortex_model_table.specs.Truth.{evaluate, value_at, is_true, compared, kleene_and, kleene_or, kleene_not, liked, end_of, HasTruth, Satisfies}
+use Rattle.vortex_model_table.specs.Truth.{evaluate, value_at, is_true, selects, compared, kleene_and, kleene_or, kleene_not, liked, end_of, HasTruth, Satisfies}
 use Rattle.vortex_model_rules.specs.Faults.{ProofFault, or_fault, binding_fault}
 use Rattle.vortex_model_rules.specs.Rules.{Rule, Answer, proof, fals, sat}
 use Rattle.vortex_model_table.specs.Laws.{BuiltInProofsReadNoColumns}
 use Rattle.vortex_model_rules.proofs.ReadsNone.{reads_of, fals_none, sat_none}
 use Rattle.vortex_stats_bind.specs.Bound.{Bound, Provided, placeholder, placeholder_type, expression_of, bound_of, column_at, evaluate_bound, bound_value, in_row}
-use Rattle.vortex_stats_bind.specs.Bindings.{IsBoundTo}
+use Rattle.vortex_stats_bind.specs.Bindings.{IsBound, IsBoundTo}
 use Rattle.vortex_stats_bind.specs.Replaced.{Answers, replaced}
+use Rattle.vortex_stats_bind.specs.Truths.{has_truth}
 use Rattle.vortex_stats_bind.proofs.Alike.{two_none, three_none, four_none, same_tree, truth_alike}
 use Rattle.vortex_stats_bind.proofs.BoundValues.{proof_says}
 use Rattle.vortex_stats_evaluate.proofs.RowTruths.{or_left, or_right}
-use Rattle.vortex_stats_evaluate.specs.Readers.{IsHonestValue, IsZone, IsPredicate, IsMade, FalsifiedZonesHoldNone, SatisfiedZonesHoldAll}
+use Rattle.vortex_stats_evaluate.specs.Readers.{IsHonestValue, IsZone, IsMade, FalsifiedZonesHoldNone, SatisfiedZonesHoldAll}
 
 -- ---- values at rows
 
@@ -133,17 +134,28 @@ made_reads_none k a b made none = ap reads_of (sym made.made) ∙ none
 
 module _ (rules : List Rule) (built_in : BuiltInProofsReadNoColumns) where
   pub none_selected : ((k : LogicalType) (e q : Expression) → HasTruth k e → HasFormedLiterals e → fals k rules e ≡ proof q → IsSoundFalsifier k e q) → FalsifiedZonesHoldNone rules
-  none_selected sound k e f answers p rows predicate made zone holds =
-      let reads : reads_names (expression_of f) ≡ false = made_reads_none k (fals k rules (expression_of e)) f made (fals_none built_in k rules (expression_of e)) in
-      each_row (λ row. ¬ (Satisfies k (expression_of e) row)) (λ row. is_true (bound_value e row) ≡ false)
-      (λ row n. not_true (bound_value e row) (λ s. n (sym (row_value k (expression_of e) e row predicate.bound.tree) ∙ s))) rows
-      (sound k (expression_of e) (expression_of f) (truth_alike k (expression_of e) e predicate.bound ∙ predicate.truth) predicate.formed made.made rows
-      (given k answers p rows zone) zone.typed (are_honest k answers p rows zone) (reads, proves k answers p rows zone f made.bound reads holds))
+  none_selected sound k e f answers truth formed made p rows zone holds =
+      let reads : reads_names (expression_of f) ≡ false = made_reads_none k (fals k rules e) f made (fals_none built_in k rules e) in
+      each_row (λ row. ¬ (Satisfies k e row)) (λ row. selects k e row ≡ false) (λ row n. not_true (value_at k e row) n) rows
+      (sound k e (expression_of f) truth formed made.made rows (given k answers p rows zone) zone.typed (are_honest k answers p rows zone) (reads, proves k answers p rows zone f made.bound reads holds))
 
   pub all_selected : ((k : LogicalType) (e q : Expression) → HasTruth k e → HasFormedLiterals e → sat k rules e ≡ proof q → IsSoundSatisfier k e q) → SatisfiedZonesHoldAll rules
-  all_selected sound k e f answers p rows predicate made zone holds =
-      let reads : reads_names (expression_of f) ≡ false = made_reads_none k (sat k rules (expression_of e)) f made (sat_none built_in k rules (expression_of e)) in
-      each_row (λ row. Satisfies k (expression_of e) row) (λ row. is_true (bound_value e row) ≡ true)
-      (λ row s. ap is_true (row_value k (expression_of e) e row predicate.bound.tree ∙ s)) rows
-      (sound k (expression_of e) (expression_of f) (truth_alike k (expression_of e) e predicate.bound ∙ predicate.truth) predicate.formed made.made rows
-      (given k answers p rows zone) zone.typed (are_honest k answers p rows zone) (reads, proves k answers p rows zone f made.bound reads holds))
+  all_selected sound k e f answers truth formed made p rows zone holds =
+      let reads : reads_names (expression_of f) ≡ false = made_reads_none k (sat k rules e) f made (sat_none built_in k rules e) in
+      each_row (λ row. Satisfies k e row) (λ row. selects k e row ≡ true) (λ row s. ap is_true s) rows
+      (sound k e (expression_of f) truth formed made.made rows (given k answers p rows zone) zone.typed (are_honest k answers p rows zone) (reads, proves k answers p rows zone f made.bound reads holds))
+
+-- ---- by the calls
+
+module _ (k : LogicalType) (e : Expression) (b : Bound) (h : IsBound k e b) where
+  pub bound_predicate : IsBoundTo k b
+  bound_predicate = subst (IsBoundTo k) (sym h.tree) (bound_to k e h.faultless)
+
+  pub its_truth : has_truth b ≡ true → HasTruth k e
+  its_truth t = truth_alike k e b h ∙ t
+
+  pub is_made : (make : Expression → Answer) (f : Bound) → IsBoundTo k f → make (expression_of b) ≡ proof (expression_of f) → IsMade k (make e) f
+  is_made make f bound made = record {
+    bound = bound;
+    made = ap make (sym (same_tree k e h.faultless) ∙ ap expression_of (sym h.tree)) ∙ made;
+  }

@@ -3,6 +3,9 @@ use Rattle.std.proofs.Common.{◌≡◌, refl, sym, ap, ◌∙◌, ℕ, zero, su
 use Rattle.std.specs.Prelude.{slice_get, nat_lt, if◌then◌else◌}
 use Rattle.std.specs.List.{position, position_or_len}
 use Rattle.std.specs.Option.{unwrap_or}
+use Rattle.std.specs.Coded.{Coded-set, coded_list, coded_bool}
+use Rattle.std.proofs.Math.Logic.{∥∥₁_elim}
+use Rattle.std.proofs.lemmas.Simd.{map-map}
 use Rattle.std.specs.Ordering.{is_eq}
 use Rattle.std.specs.declared.cmp.Ordering.TheVariants.{Less, Equal, Greater}
 use Rattle.std.proofs.lemmas.Bool.{ltb-true}
@@ -10,18 +13,24 @@ use Rattle.vortex_model.specs.Content.{null, boolean, integer, contents_from, nt
 use Rattle.vortex_model.specs.LogicalType.{LogicalType}
 use Rattle.vortex_model.specs.Path.{Positions, eq_positions, at}
 use Rattle.vortex_model_table.specs.Expression.{Aggregate, min, max, null_count, all_null, all_non_null, equal}
-use Rattle.vortex_model_table.specs.Truth.{compared}
-use Rattle.vortex_stats_bind.specs.Bound.{Bound, Provided, place, place_of, value_type, in_row, evaluate_bound}
+use Rattle.vortex_model_table.specs.Truth.{compared, is_true}
+use Rattle.vortex_model_table.specs.ZoneMap.{values_at}
+use Rattle.vortex_stats_bind.specs.Bound.{Bound, Provided, place, place_of, value_type, in_row, evaluate_bound, bound_value}
 use Rattle.vortex_stats_bind.specs.Replaced.{answered, typed_null}
 use Rattle.vortex_stats_bind.proofs.ReplacedValues.{replacing_keeps_values}
+use Rattle.vortex_stats_mask.specs.Wanted.{is_wanted}
+use Rattle.vortex_stats_mask.proofs.Truths.{wanted_true}
+use Rattle.vortex_stats_select.specs.Wants.{wanted_rows}
 use Rattle.vortex_table_chunk.specs.BoundStat.{bounds_at, stat_value_or_null, zone_stat, zone_provided}
 use Rattle.vortex_table_chunk.specs.zones.StatValue.{stat_value}
 use Rattle.vortex_table_chunk.specs.declared.zones.bounds.ColumnBounds.{ColumnBounds}
 use Rattle.vortex_table_zonemaps.specs.Answers.{row_counts, leaf_answer, answer_of, zone_answers, bound_to}
+use Rattle.vortex_table_zonemaps.specs.Proved.{proved_at}
 use Rattle.vortex_table_zonemaps.specs.Stats.{Zone, leaf_stat, rows_stat}
 use Rattle.vortex_table_zonemaps.specs.Zone.{stat_in, stat_of, positions_of, leaf_row, zone_row, columns_of, Tells}
 use Rattle.vortex_table_zonemaps.specs.declared.place.ZoneStat.{ZoneStat}
 use Rattle.vortex_table_zonemaps.specs.declared.place.ZoneStat.TheVariants as stat
+use Rattle.vortex_table_zonemaps.specs.declared.predicate.ZonePredicate.{ZonePredicate}
 
 -- ---- a zone as a row
 
@@ -54,13 +63,30 @@ columns_tell zone (stat.High j) = refl
 columns_tell zone (stat.NullCount j) = refl
 columns_tell zone stat.Rows = refl
 
+-- ---- columns by where they stand
+
+same : {A : Type 0} (x y : A) → Some x ≡ Some y → x ≡ y
+same x y e = ap (λ o. unwrap_or o x) e
+
 -- what stands at positions at which there is a column
-pub column_at : (is : Positions) (s : ZoneStat) → stat_of is ≡ Some s → is ≡ positions_of s
-column_at (zero ∷ j ∷ zero ∷ []) s h = ap positions_of (told h)
-  where
-    told : {t : ZoneStat} → Some t ≡ Some s → t ≡ s
-    told e = cc e
+column_at : (is : Positions) (s : ZoneStat) → stat_of is ≡ Some s → is ≡ positions_of s
+column_at (zero ∷ j ∷ zero ∷ []) s h = ap positions_of (same (stat.Low j) s h)
+column_at (zero ∷ j ∷ suc zero ∷ []) s h = ap positions_of (same (stat.High j) s h)
+column_at (zero ∷ j ∷ suc (suc zero) ∷ []) s h = ap positions_of (same (stat.NullCount j) s h)
+column_at (suc zero ∷ []) s h = ap positions_of (same stat.Rows s h)
 column_at is s h = absurd (cc h)
+
+-- zones have in a column what their rows have there
+pub stats_at : (is : Positions) (s : ZoneStat) → stat_of is ≡ Some s → (zones : List Zone) → map (stat_in s) zones ≡ values_at is (map zone_row zones)
+stats_at is s h zones =
+    (λ i. map (λ zone. sym (row_tells zone s) i) zones) ∙ sym (map-map (λ row. at row (positions_of s)) zone_row zones)
+    ∙ ap (λ js. values_at js (map zone_row zones)) (sym (column_at is s h))
+
+-- and rows that are selected are zones of which the predicate is true
+pub zones_selected : (proof : ZonePredicate) (zones : List Zone) → wanted_rows true proof.bound (map zone_row zones) ≡ map (proved_at (Some proof)) zones
+zones_selected proof zones =
+    map-map (λ row. is_wanted true (bound_value proof.bound row)) zone_row zones
+    ∙ ∥∥₁_elim proof.reads (Coded-set (coded_list coded_bool) _ _) (λ reads i. map (λ zone. (sym (wanted_true (bound_value proof.bound (zone_row zone))) ∙ ap is_true (reads zone)) i) zones)
 
 -- ---- statistics
 
@@ -127,10 +153,7 @@ bounds_found (js ∷ leaves) (b ∷ bounds) is = here (eq_positions js is)
 -- ---- answers
 
 pub at_a_column : (leaves : List Positions) (x : Bound) (is : Positions) (a : Aggregate) → place_of x ≡ Some is → answer_of (position (λ leaf. eq_positions leaf is) leaves) (value_type x) a ≡ zone_answers leaves x a
-at_a_column leaves (place xs js k) is a h = λ i. answer_of (position (λ leaf. eq_positions leaf (sym (told h) i)) leaves) k a
-  where
-    told : {us vs : Positions} → Some us ≡ Some vs → us ≡ vs
-    told e = cc e
+at_a_column leaves (place xs js k) is a h = λ i. answer_of (position (λ leaf. eq_positions leaf (sym (same js is h) i)) leaves) k a
 at_a_column leaves x is a h = absurd (cc h)
 
 pub not_a_column : (leaves : List Positions) (x : Bound) (a : Aggregate) → place_of x ≡ None → None ≡ zone_answers leaves x a

@@ -83,8 +83,8 @@ fn all_null(alloc: Global, leaf: usize) -> Result<Box<BoundExpression>, AllocErr
     ensures { IfOk result (λ bound. bound.value ≡ test equal (null_counts leaf) row_counts) }
 {
     let nulls = null_counts(alloc, leaf)?;
-    let rows = row_counts(alloc)?;
-    bound_compare(alloc, Comparison::Eq, nulls, rows)
+    let all = row_counts(alloc)?;
+    bound_compare(alloc, Comparison::Eq, nulls, all)
 }
 
 fn none_null(alloc: Global, leaf: usize) -> Result<Box<BoundExpression>, AllocError>
