@@ -121,7 +121,7 @@ pub nothing : (held : ZoneColumn) → IsColumnOf held []
 nothing (column.Unknown known) = (refl, refl)
 nothing (column.Bools known) = refl
 nothing (column.Integers known) = refl
-nothing (column.Strings kind s) = (∣ tt ∣₁, refl)
+nothing (column.Strings s) = (∣ tt ∣₁, refl)
 nothing column.Other = tt
 
 pub no_zones : (j : ℕ) (leaf : LeafZones) → IsLeaf j leaf []

@@ -4,7 +4,7 @@ use Rattle.std.specs.List.{All}
 use Rattle.std.proofs.Math.Logic.{∥∥₁_map, ∥∥₁_elim}
 use Rattle.std.specs.Coded.{Coded-set, coded_list}
 use Rattle.std.proofs.lemmas.Bool.{cases_lt}
-use Rattle.std.proofs.Math.Seq.{take-length}
+use Rattle.std.proofs.Math.Seq.{take-length, get_or-append_seam}
 use Rattle.std.proofs.lemmas.List.{length-take, length-append, length-replicate, take-replicate, get_or-take}
 use Rattle.std.proofs.lemmas.List.Elements.{All-head, All-tail}
 use Rattle.vortex_model.specs.Content.{Content, null}
@@ -17,7 +17,7 @@ use Rattle.vortex_stats_match.specs.Heads.{HasHead}
 use Rattle.vortex_stats_match.proofs.HeadLemmas.{has_head}
 use Rattle.vortex_table_chunk.specs.BoundCode.{coded_content}
 use Rattle.vortex_table_zonemaps.specs.Known.{AreKnown, IsKept, IsPut}
-use Rattle.vortex_table_zonemaps.specs.Views.{AreViewsKnown}
+use Rattle.vortex_table_zonemaps.specs.Views.{IsViewIn, AreViewsKnown}
 use Rattle.vortex_table_zonemaps.proofs.Columns.{front, part_of_front, none_known, known_long, known_put, known_kept}
 use Rattle.vortex_table_zonemaps.specs.declared.views.Views.{Views}
 
@@ -49,6 +49,14 @@ module _ (bs cs : List (List ℕ)) (grown : take (length bs) cs ≡ bs) where
   pub values_stay : (f : List ℕ → Content) (vs : List (List ℕ)) → All (λ v. HasValue v bs) vs → map (λ v. f (value_of v cs)) vs ≡ map (λ v. f (value_of v bs)) vs
   values_stay f [] h = refl
   values_stay f (v ∷ vs) h = λ i. f (value_stays v (All-head (λ x. HasValue x bs) v vs h) i) ∷ values_stay f vs (All-tail (λ x. HasValue x bs) v vs h) i
+
+-- the view of a value that is the last of the buffers where it is long
+pub view_made : (bs cs : List (List ℕ)) (v : List ℕ) (i : ℕ) → length v < 2 ^ 32 → i < 2 ^ 32 → i ≡ length bs → (12 < length v → cs ≡ bs ++ v ∷ []) → IsViewIn cs v (view_of v i 0)
+view_made bs cs v i n x e put = views_read_back v cs i 0 n x (omega arith) (λ long.
+    let many = length-append bs (v ∷ []) in let same = ap length (put long) in record {
+      there = omega (arith, e, many, same);
+      here = ap (take (length v)) ((λ k. get_or (put long k) (e k) []) ∙ get_or-append_seam bs v [] []) ∙ take-length v;
+    })
 
 no_bytes : (bs : List (List ℕ)) → HasValue (short_view []) bs
 no_bytes bs = (views_read_back [] bs 0 0 (omega arith) (omega arith) (omega arith) (λ h. absurd (omega (arith, h)))).0

@@ -1,14 +1,12 @@
 //! What a statistic is in each zone, as a column that grows.
 ghost use Rattle.std.specs.Prelude.{◌≡◌, ◌+◌, ◌≤◌, List, length, replicate, take, drop, IfOk, IfSome};
 ghost use Rattle.vortex_model.specs.Content.{Content, content_of, boolean, integer, null};
-ghost use Rattle.vortex_arrays_model.specs.Layout.{string_content};
-ghost use Rattle.vortex_arrays_core.specs.LayoutOf.{strings_of};
 ghost use Rattle.vortex_scalar_value.specs.View.{raw_of};
 ghost use Rattle.vortex_stats_bind.specs.OperandValue.{operand_value};
 ghost use Rattle.vortex_stats_mask.specs.Columns.{column_of};
 ghost use Rattle.vortex_table_zonemaps.specs.Column.{IsColumnOf, IsEntryOf};
 ghost use Rattle.vortex_table_zonemaps.specs.Known.{AreKnown};
-ghost use Rattle.vortex_table_zonemaps.specs.Views.{AreViewsKnown};
+ghost use Rattle.vortex_table_zonemaps.specs.Views.{AreStrings};
 
 use crate::known::Known;
 use crate::views::Views;
@@ -26,7 +24,7 @@ pub enum ZoneColumn {
     Unknown(Known<i64>),
     Bools(Known<bool>),
     Integers(Known<i64>),
-    Strings(StringKind, Views),
+    Strings(Views),
     /// Not held here, since the values are of several kinds, or of none of these.
     Other,
 }
@@ -95,8 +93,8 @@ fn begun(alloc: Global, count: usize, entry: Entry) -> Result<Option<ZoneColumn>
             Ok(Some(ZoneColumn::Integers(known)))
         }
         Entry::String(kind, _) => {
-            let views = Views::none_of(alloc, count)?;
-            Ok(Some(ZoneColumn::Strings(kind, views)))
+            let views = Views::none_of(alloc, kind, count)?;
+            Ok(Some(ZoneColumn::Strings(views)))
         }
         Entry::Absent => Ok(None),
         Entry::Other => Ok(None),
@@ -142,9 +140,9 @@ impl ZoneColumn {
             (ZoneColumn::Integers(known), Entry::Integer(number)) => {
                 known.put(count, number, true)
             }
-            (ZoneColumn::Strings(_, views), Entry::Absent) => views.put_null(count),
-            (ZoneColumn::Strings(kind, views), Entry::String(other, value)) => {
-                let is_held = *kind == other && views.put(count, value)?;
+            (ZoneColumn::Strings(views), Entry::Absent) => views.put_null(count),
+            (ZoneColumn::Strings(views), Entry::String(kind, value)) => {
+                let is_held = views.put(count, kind, value)?;
                 if !is_held {
                     *self = ZoneColumn::Other;
                 }
@@ -194,18 +192,17 @@ fn bools_in<'a>(known: &'a Known<bool>, first: usize, count: usize) -> Column<'a
     }
 }
 
-fn strings_in<'a>(kind: StringKind, s: &'a Views, first: usize, count: usize) -> Column<'a>
-    requires { (cs : List Content) × AreViewsKnown (string_content (strings_of kind)) s.now cs
-        × (first + count ≤ length cs) }
-    ensures { (cs : List Content) → AreViewsKnown (string_content (strings_of kind)) s.now cs
-        → first + count ≤ length cs → column_of result ≡ take count (drop first cs) }
+fn strings_in<'a>(s: &'a Views, first: usize, count: usize) -> Column<'a>
+    requires { (cs : List Content) × AreStrings s.now cs × (first + count ≤ length cs) }
+    ensures { (cs : List Content) → AreStrings s.now cs → first + count ≤ length cs
+        → column_of result ≡ take count (drop first cs) }
 {
     let strings = Strings {
         views: s.views.values_in(first, count),
         buffers: s.buffers.as_slice(),
     };
     let validity = ValidRows::Flags(s.views.flags_in(first, count));
-    match kind {
+    match s.kind {
         StringKind::Utf8 => Column {
             items: Items::Texts(strings),
             validity,
@@ -233,7 +230,7 @@ impl ZoneColumn {
             ZoneColumn::Unknown(known) => Some(integers_in(known, first, count)),
             ZoneColumn::Bools(known) => Some(bools_in(known, first, count)),
             ZoneColumn::Integers(known) => Some(integers_in(known, first, count)),
-            ZoneColumn::Strings(kind, views) => Some(strings_in(*kind, views, first, count)),
+            ZoneColumn::Strings(views) => Some(strings_in(views, first, count)),
             ZoneColumn::Other => None,
         }
     }
