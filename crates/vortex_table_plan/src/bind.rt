@@ -57,11 +57,7 @@ pub fn bind(alloc: Global, e: &Expression, dtype: &DType) -> Result<BoundExpress
 
 // What has no fault is bound, unless for want of memory.
 #[tactic(auto, using(crate::proofs::Checks::checked))]
-fn bind_checked(
-    alloc: Global,
-    e: &Expression,
-    dtype: &DType,
-) -> Result<BoundExpression, TableError>
+fn bind_checked(alloc: Global, e: &Expression, dtype: &DType) -> Result<BoundExpression, TableError>
     requires { expression_fault (type_of dtype.now) e.now ≡ None }
     ensures bound { IfOk result (λ bound. IsBound (type_of dtype.now) e.now bound) }
     ensures formed { OnOk result (HasFormedLiterals e.now) }
