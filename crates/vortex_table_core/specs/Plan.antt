@@ -1,5 +1,5 @@
 -- A scan of a table, with what is made of it before its chunks.
-use Rattle.std.specs.Prelude.{◌≡◌, ℕ, List, Bool, map, option_map, take, drop}
+use Rattle.std.specs.Prelude.{ℕ, List, Bool, map, option_map, take, drop}
 use Rattle.vortex_model_table.specs.Table as model
 use Rattle.vortex_model_table.specs.Scan.{ScanAnswer}
 use Rattle.vortex_stats_bind.specs.Bound.{expression_of}

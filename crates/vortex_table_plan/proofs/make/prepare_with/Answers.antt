@@ -1,6 +1,6 @@
 use Rattle.std.proofs.lemmas.Result.{err_from_is_err_and}
 use Rattle.vortex_dtype_core.specs.View.{type_of}
-use Rattle.vortex_table_plan.proofs.Refusals.{fault_first, fault_second, refused_first, refused_behind}
+use Rattle.vortex_table_plan.proofs.Refusals.{fault_first, fault_second, refused_behind}
 use Rattle.vortex_table_plan.proofs.make.prepare_with.Goals as goal
 
 pub returns-in_err-falsifier-clause-refused : goal.returns-in_err-falsifier-clause-refused
