@@ -1,5 +1,5 @@
 -- Leaves of groups, whose statistics are those of their chunks joined.
-use Rattle.std.proofs.Common.{◌≡◌, ◌∙◌, ap, subst, ℕ, List, Bool, true, false, Some, if◌then◌else◌, [], map, ◌∷◌, ◌||◌}
+use Rattle.std.proofs.Common.{◌≡◌, refl, ◌∙◌, ap, subst, ℕ, List, Bool, true, false, Some, if◌then◌else◌, [], map, ◌∷◌, ◌||◌}
 use Rattle.std.specs.List.{AllByRecursion}
 use Rattle.vortex_model.specs.LogicalType.{LogicalType}
 use Rattle.vortex_model.specs.Content.{Content}
