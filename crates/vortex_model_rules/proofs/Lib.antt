@@ -7,7 +7,7 @@ pub mod NullComparison
 pub mod PushedIn
 pub mod PushNot
 mod NullSides
-mod ReadsNone
+pub mod ReadsNone
 mod SameValue
 mod ScanExamples
 mod Scans

@@ -4,5 +4,6 @@ pub mod BoundCode
 pub mod BoundFalls
 pub mod BoundTree
 pub mod OperandValue
+pub mod Placeholders
 pub mod Replaced
 pub mod Truths

@@ -1,56 +1,65 @@
-//! `bind_stats`. A binder answers the value of a statistic where the Rust crate's answers the
-//! column of a table of statistics.
+//! `bind_stats`, to a binder that answers the column of a table of statistics.
 
 use crate::Done;
 use crate::checks::Checks;
-use crate::trees::{WITHOUT, column, floats, record, truth};
+use crate::trees::{WITH, WITHOUT, column, floats, record, truth};
 use std::alloc::{AllocError, Global};
-use vortex_dtype::DType;
-use vortex_scalar::{PValue, ScalarValue};
+use vortex_dtype::{DType, PType};
 use vortex_stats::{
-    AggregateFn, BoundTree, Expression, StatBinder, StatsError, all_non_nan, and, bind, bind_stats,
-    bound_literal, is_null, nan_count, or,
+    AggregateFn, BoundExpression, BoundNode, Expression, StatBinder, StatsError, all_non_nan, and,
+    bind, bind_stats, is_null, nan_count, null_of, or,
 };
-use vortex_stats_bind::bound::BoundNode;
 
-/// Knows, or doesn't, that three rows are NaN.
+/// Has, or hasn't, the column of the counts of NaN.
 #[derive(Drop)]
 struct TestBinder {
-    bind_nan_count: bool,
+    nan_counts: Option<BoundExpression>,
 }
 
-// Nothing here is proved, so the ghost members say nothing.
+impl TestBinder {
+    fn new(alloc: Global, bind_nan_count: bool) -> Result<TestBinder, StatsError> {
+        if !bind_nan_count {
+            return Ok(TestBinder { nan_counts: None });
+        }
+        let counts = DType::Primitive(PType::U64, WITHOUT);
+        let stats_scope = record(alloc, ["f_nan_count"], [counts])?;
+        let column = bind(alloc, &column(alloc, &["f_nan_count"])?, &stats_scope)?;
+        Ok(TestBinder {
+            nan_counts: Some(column),
+        })
+    }
+}
+
+// Nothing here is proved, so the ghost member says nothing.
 impl StatBinder for TestBinder {
-    ghost use Rattle.vortex_model.specs.Content.{null};
+    ghost use Rattle.std.specs.Prelude.{None};
 
-    ghost meaning = { λ _ _ _. null };
-
-    ghost missing = { λ _. null };
+    ghost answers = { λ _ _ _. None };
 
     fn bind_aggregate(
         &self,
         _alloc: Global,
-        _input: &BoundTree,
+        _input: &BoundExpression,
         aggregate: AggregateFn,
-    ) -> Result<Option<BoundTree>, AllocError> {
-        if aggregate == AggregateFn::NanCount && self.bind_nan_count {
-            let count = ScalarValue::Primitive(PValue::U64(3));
-            return Ok(Some(bound_literal(Some(count))));
+        _stat_dtype: &DType,
+    ) -> Result<Option<BoundExpression>, AllocError> {
+        match &self.nan_counts {
+            Some(column) if aggregate == AggregateFn::NanCount => Ok(Some(column.clone()?)),
+            _ => Ok(None),
         }
-        Ok(None)
     }
 
-    fn missing_stat(&self, _alloc: Global) -> Result<BoundTree, AllocError> {
-        Ok(bound_literal(None))
+    fn missing_stat(&self, alloc: Global, dtype: &DType) -> Result<BoundExpression, AllocError> {
+        null_of(alloc, dtype)
     }
 }
 
 pub fn run(alloc: Global, checks: &mut Checks<'_>) -> Done {
-    let dtype = record(alloc, ["f"], [floats(WITHOUT)])?;
-    nan_count_binds_to_direct_stat_slot(alloc, checks, &dtype)?;
-    all_non_nan_does_not_derive_from_nan_count(alloc, checks, &dtype)?;
-    missing_stats_bind_to_null_without_reducing(alloc, checks, &dtype)?;
-    unrelated_expressions_are_preserved(alloc, checks, &dtype)
+    let input_scope = record(alloc, ["f"], [floats(WITHOUT)])?;
+    nan_count_binds_to_direct_stat_slot(alloc, checks, &input_scope)?;
+    all_non_nan_does_not_derive_from_nan_count(alloc, checks, &input_scope)?;
+    missing_stats_bind_to_null_without_reducing(alloc, checks, &input_scope)?;
+    unrelated_expressions_are_preserved(alloc, checks, &input_scope)
 }
 
 /// What is left of the expression over these rows.
@@ -59,20 +68,40 @@ fn left(
     dtype: &DType,
     expr: Expression,
     bind_nan_count: bool,
-) -> Result<BoundTree, StatsError> {
+) -> Result<BoundExpression, StatsError> {
     let bound = bind(alloc, &expr, dtype)?;
-    let left = bind_stats(alloc, &bound, &TestBinder { bind_nan_count })?;
-    Ok(left.tree)
+    Ok(bind_stats(alloc, &bound, &TestBinder::new(alloc, bind_nan_count)?)?)
 }
 
-fn is_null_literal(bound: &BoundTree) -> bool {
-    matches!(&bound.node, BoundNode::Literal(None))
-}
-
-fn is_truth(bound: &BoundTree, wanted: bool) -> bool {
+/// The first column, of this name and type, and nothing else.
+fn is_column(bound: &BoundExpression, name: &str, dtype: &DType) -> bool {
     match &bound.node {
-        BoundNode::Literal(Some(value)) => value.as_bool() == Some(wanted),
+        BoundNode::Column(column) => {
+            let names = column.names.as_slice();
+            names.len() == 1
+                && names[0].as_str() == name
+                && column.positions.as_slice() == &[0]
+                && column.dtype == *dtype
+        }
         _ => false,
+    }
+}
+
+/// Null of booleans.
+fn is_null_truth(bound: &BoundExpression) -> bool {
+    match bound.as_literal() {
+        Some(value) => value.value().is_none() && *value.dtype() == DType::Bool(WITH),
+        None => false,
+    }
+}
+
+fn is_truth(bound: &BoundExpression, wanted: bool) -> bool {
+    match bound.as_literal() {
+        Some(value) => match value.value() {
+            Some(value) => value.as_bool() == Some(wanted),
+            None => false,
+        },
+        None => false,
     }
 }
 
@@ -82,10 +111,7 @@ fn nan_count_binds_to_direct_stat_slot(
     dtype: &DType,
 ) -> Done {
     let bound = left(alloc, dtype, nan_count(alloc, column(alloc, &["f"])?)?, true)?;
-    let holds = match &bound.node {
-        BoundNode::Literal(Some(ScalarValue::Primitive(PValue::U64(count)))) => *count == 3,
-        _ => false,
-    };
+    let holds = is_column(&bound, "f_nan_count", &DType::Primitive(PType::U64, WITHOUT));
     checks.holds("nan_count_binds_to_direct_stat_slot", holds);
     Ok(())
 }
@@ -96,7 +122,7 @@ fn all_non_nan_does_not_derive_from_nan_count(
     dtype: &DType,
 ) -> Done {
     let bound = left(alloc, dtype, all_non_nan(alloc, column(alloc, &["f"])?)?, true)?;
-    checks.holds("all_non_nan_does_not_derive_from_nan_count", is_null_literal(&bound));
+    checks.holds("all_non_nan_does_not_derive_from_nan_count", is_null_truth(&bound));
     Ok(())
 }
 
@@ -109,14 +135,14 @@ fn missing_stats_bind_to_null_without_reducing(
     let flag = all_non_nan(alloc, column(alloc, &["f"])?)?;
     let bound = left(alloc, dtype, and(alloc, truth(false), flag)?, false)?;
     let holds = match &bound.node {
-        BoundNode::And(x, y) => is_truth(x, false) && is_null_literal(y),
+        BoundNode::And(x, y) => is_truth(x, false) && is_null_truth(y),
         _ => false,
     };
     checks.holds_at(name, 0, holds);
     let flag = all_non_nan(alloc, column(alloc, &["f"])?)?;
     let bound = left(alloc, dtype, or(alloc, truth(true), flag)?, false)?;
     let holds = match &bound.node {
-        BoundNode::Or(x, y) => is_truth(x, true) && is_null_literal(y),
+        BoundNode::Or(x, y) => is_truth(x, true) && is_null_truth(y),
         _ => false,
     };
     checks.holds_at(name, 1, holds);
@@ -130,7 +156,7 @@ fn unrelated_expressions_are_preserved(
 ) -> Done {
     let bound = left(alloc, dtype, is_null(alloc, column(alloc, &["f"])?)?, false)?;
     let holds = match &bound.node {
-        BoundNode::IsNull(input) => input.as_column() == Some(&[0]),
+        BoundNode::IsNull(input) => is_column(input, "f", &floats(WITHOUT)),
         _ => false,
     };
     checks.holds("unrelated_expressions_are_preserved", holds);
