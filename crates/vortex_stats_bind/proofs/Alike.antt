@@ -217,3 +217,11 @@ reads_alike k e b h = same_reading k e h.faultless ∙ ap reads_columns (sym h.t
 
 pub fault_alike : (k : LogicalType) (e : Expression) (b : Bound) → IsBound k e b → first_fault_of k e ≡ first_fault b
 fault_alike k e b h = same_fault k e h.faultless ∙ ap first_fault (sym h.tree)
+
+place_named : (k : LogicalType) (xs : Names) (o : Option Positions) → place_of (column_at k xs o) ≡ o
+place_named k xs None = refl
+place_named k xs (Some is) = refl
+
+-- a column stands at the positions that its names lead to
+pub positions_alike : (k : LogicalType) (xs : Names) (b : Bound) → IsBound k (column xs) b → place_of b ≡ positions k xs
+positions_alike k xs b h = ap place_of h.tree ∙ place_named k xs (positions k xs)

@@ -52,6 +52,10 @@ judged k e b t f tree fault = record {
   failed = λ p. fault ∙ ap (λ s. unless s f) p;
 }
 
+-- what was made is it
+pub made : (k : LogicalType) (e : Expression) (r b : Bound) (t : Bool) (f : ProofFault) → r ≡ b → IsJudged k e b t f → t ≡ true → IsBound k e r
+made k e r b t f is j p = subst (IsBound k e) (sym is) (j.passed p)
+
 module _ (k : LogicalType) (x y : Expression) (a b : Bound) (h : IsBound k x a) (g : IsBound k y b) where
   pub compare_judged : (op : Comparison) → IsJudged k (compare op x y) (test op a b) (equal_ignoring_nullability (value_type a) (value_type b)) unequal_types
   compare_judged op =
