@@ -6,7 +6,7 @@ use Rattle.vortex_arrays_model.specs.Layout.{string_content}
 use Rattle.vortex_arrays_core.specs.LayoutOf.{strings_of}
 use Rattle.vortex_table_chunk.specs.BoundCode.{coded_content}
 use Rattle.vortex_table_zonemaps.specs.Known.{AreKnown}
-use Rattle.vortex_table_zonemaps.specs.Views.{AreViewsKnown, AreViewsKnown-prop}
+use Rattle.vortex_table_zonemaps.specs.Views.{AreStrings, AreViewsKnown-prop}
 use Rattle.vortex_table_zonemaps.specs.declared.column.Entry.{Entry}
 use Rattle.vortex_table_zonemaps.specs.declared.column.Entry.TheVariants as entry
 use Rattle.vortex_table_zonemaps.specs.declared.column.ZoneColumn.{ZoneColumn}
@@ -18,7 +18,7 @@ IsColumnOf (column.Unknown known) cs =
     AreKnown integer known cs × (cs ≡ replicate (length cs) null)
 IsColumnOf (column.Bools known) cs = AreKnown boolean known cs
 IsColumnOf (column.Integers known) cs = AreKnown integer known cs
-IsColumnOf (column.Strings kind s) cs = AreViewsKnown (string_content (strings_of kind)) s cs
+IsColumnOf (column.Strings s) cs = AreStrings s cs
 IsColumnOf column.Other cs = Unit {0}
 
 -- it is this content
@@ -40,6 +40,6 @@ IsColumnOf-prop (column.Bools known) cs =
     λ p q i. Coded-set (coded_list coded_content) _ _ p q i
 IsColumnOf-prop (column.Integers known) cs =
     λ p q i. Coded-set (coded_list coded_content) _ _ p q i
-IsColumnOf-prop (column.Strings kind s) cs =
-    AreViewsKnown-prop (string_content (strings_of kind)) s cs
+IsColumnOf-prop (column.Strings s) cs =
+    AreViewsKnown-prop (string_content (strings_of s.kind)) s cs
 IsColumnOf-prop column.Other cs = Unit-prop

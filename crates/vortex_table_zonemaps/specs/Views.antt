@@ -3,6 +3,8 @@ use Rattle.std.specs.Prelude.{◌≡◌, ℕ, List, length, take, All}
 use Rattle.std.specs.Coded.{Coded-set, coded_list}
 use Rattle.std.proofs.Math.Logic.{∥∥₁_prop}
 use Rattle.vortex_model.specs.Content.{Content}
+use Rattle.vortex_arrays_model.specs.Layout.{string_content}
+use Rattle.vortex_arrays_core.specs.LayoutOf.{strings_of}
 use Rattle.vortex_arrays_view.specs.Views.{value_of, HasValue}
 use Rattle.vortex_table_chunk.specs.BoundCode.{coded_content}
 use Rattle.vortex_table_zonemaps.specs.Known.{AreKnown}
@@ -17,6 +19,10 @@ abbrev pub AreViewsKnown : (List ℕ → Content) → Views → List Content →
 AreViewsKnown f s cs =
     ∥ All (λ v. HasValue v s.buffers.items) (take (length cs) s.views.values.items) ∥₁
     × AreKnown (λ v. f (value_of v s.buffers.items)) s.views cs
+
+-- the same of texts, or of bytes, as their kind says
+abbrev pub AreStrings : Views → List Content → Type 0
+AreStrings s cs = AreViewsKnown (string_content (strings_of s.kind)) s cs
 
 pub AreViewsKnown-prop : (f : List ℕ → Content) (s : Views) (cs : List Content) →
     IsProp (AreViewsKnown f s cs)

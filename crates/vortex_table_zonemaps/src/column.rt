@@ -1,14 +1,15 @@
 //! What a statistic is in each zone, as a column that grows.
-ghost use Rattle.std.specs.Prelude.{◌≡◌, ◌+◌, ◌≤◌, List, length, replicate, take, drop, IfOk, IfSome};
+ghost use Rattle.std.specs.Prelude.{◌≡◌, ◌+◌, ◌≤◌, Bool, List, Option, length, map, replicate, take, drop, IfOk, IfSome};
 ghost use Rattle.vortex_model.specs.Content.{Content, content_of, boolean, integer, null};
 ghost use Rattle.vortex_arrays_model.specs.Layout.{string_content};
 ghost use Rattle.vortex_arrays_core.specs.LayoutOf.{strings_of};
 ghost use Rattle.vortex_scalar_value.specs.View.{raw_of};
 ghost use Rattle.vortex_stats_bind.specs.OperandValue.{operand_value};
-ghost use Rattle.vortex_stats_mask.specs.Columns.{column_of};
+ghost use Rattle.vortex_stats_mask.specs.Columns.{column_of, contents_of, values_of};
+ghost use Rattle.vortex_stats_mask.specs.Headed.{AreHeaded, HaveHeads};
 ghost use Rattle.vortex_table_zonemaps.specs.Column.{IsColumnOf, IsEntryOf};
 ghost use Rattle.vortex_table_zonemaps.specs.Known.{AreKnown};
-ghost use Rattle.vortex_table_zonemaps.specs.Views.{AreViewsKnown};
+ghost use Rattle.vortex_table_zonemaps.specs.Views.{AreStrings};
 
 use crate::known::Known;
 use crate::views::Views;
@@ -26,7 +27,7 @@ pub enum ZoneColumn {
     Unknown(Known<i64>),
     Bools(Known<bool>),
     Integers(Known<i64>),
-    Strings(StringKind, Views),
+    Strings(Views),
     /// Not held here, since the values are of several kinds, or of none of these.
     Other,
 }
@@ -95,8 +96,8 @@ fn begun(alloc: Global, count: usize, entry: Entry) -> Result<Option<ZoneColumn>
             Ok(Some(ZoneColumn::Integers(known)))
         }
         Entry::String(kind, _) => {
-            let views = Views::none_of(alloc, count)?;
-            Ok(Some(ZoneColumn::Strings(kind, views)))
+            let views = Views::none_of(alloc, kind, count)?;
+            Ok(Some(ZoneColumn::Strings(views)))
         }
         Entry::Absent => Ok(None),
         Entry::Other => Ok(None),
@@ -132,7 +133,7 @@ impl ZoneColumn {
         ensures kept { (cs : List Content) → length cs ≡ count
             → IsColumnOf self.old cs → IsColumnOf self.new cs }
         ensures put { OnOk result ((cs : List Content) (c : Content) → length cs ≡ count
-            → IsEntryOf entry c → IsColumnOf self.old cs → IsColumnOf self.new (cs ++ c ∷ [])) }
+            → IsEntryOf entry.entry c → IsColumnOf self.old cs → IsColumnOf self.new (cs ++ c ∷ [])) }
     {
         match (&mut *self, entry) {
             (ZoneColumn::Unknown(known), Entry::Absent) => known.put(count, 0, false),
@@ -142,9 +143,9 @@ impl ZoneColumn {
             (ZoneColumn::Integers(known), Entry::Integer(number)) => {
                 known.put(count, number, true)
             }
-            (ZoneColumn::Strings(_, views), Entry::Absent) => views.put_null(count),
-            (ZoneColumn::Strings(kind, views), Entry::String(other, value)) => {
-                let is_held = *kind == other && views.put(count, value)?;
+            (ZoneColumn::Strings(views), Entry::Absent) => views.put_null(count),
+            (ZoneColumn::Strings(views), Entry::String(kind, value)) => {
+                let is_held = views.put(count, kind, value)?;
                 if !is_held {
                     *self = ZoneColumn::Other;
                 }
@@ -194,26 +195,30 @@ fn bools_in<'a>(known: &'a Known<bool>, first: usize, count: usize) -> Column<'a
     }
 }
 
-fn strings_in<'a>(kind: StringKind, s: &'a Views, first: usize, count: usize) -> Column<'a>
-    requires { (cs : List Content) × AreViewsKnown (string_content (strings_of kind)) s.now cs
-        × (first + count ≤ length cs) }
-    ensures { (cs : List Content) → AreViewsKnown (string_content (strings_of kind)) s.now cs
-        → first + count ≤ length cs → column_of result ≡ take count (drop first cs) }
+fn string_items<'a>(kind: StringKind, strings: &Strings<'a>) -> Items<'a>
+    ensures values { contents_of result
+        ≡ map (string_content (strings_of kind)) (values_of strings.now) }
+    ensures headed { (valid : Option (List Bool)) → HaveHeads valid strings.now
+        → AreHeaded result valid }
+{
+    match kind {
+        StringKind::Utf8 => Items::Texts(*strings),
+        StringKind::Binary => Items::Binaries(*strings),
+    }
+}
+
+fn strings_in<'a>(s: &'a Views, first: usize, count: usize) -> Column<'a>
+    requires { (cs : List Content) × AreStrings s.now cs × (first + count ≤ length cs) }
+    ensures { (cs : List Content) → AreStrings s.now cs → first + count ≤ length cs
+        → column_of result ≡ take count (drop first cs) }
 {
     let strings = Strings {
         views: s.views.values_in(first, count),
         buffers: s.buffers.as_slice(),
     };
-    let validity = ValidRows::Flags(s.views.flags_in(first, count));
-    match kind {
-        StringKind::Utf8 => Column {
-            items: Items::Texts(strings),
-            validity,
-        },
-        StringKind::Binary => Column {
-            items: Items::Binaries(strings),
-            validity,
-        },
+    Column {
+        items: string_items(s.kind, &strings),
+        validity: ValidRows::Flags(s.views.flags_in(first, count)),
     }
 }
 
@@ -233,7 +238,7 @@ impl ZoneColumn {
             ZoneColumn::Unknown(known) => Some(integers_in(known, first, count)),
             ZoneColumn::Bools(known) => Some(bools_in(known, first, count)),
             ZoneColumn::Integers(known) => Some(integers_in(known, first, count)),
-            ZoneColumn::Strings(kind, views) => Some(strings_in(*kind, views, first, count)),
+            ZoneColumn::Strings(views) => Some(strings_in(views, first, count)),
             ZoneColumn::Other => None,
         }
     }

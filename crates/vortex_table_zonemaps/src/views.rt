@@ -5,12 +5,14 @@ ghost use Rattle.vortex_table_zonemaps.specs.Views.{IsViewIn};
 use crate::known::Known;
 use bytes::Bytes;
 use std::alloc::{AllocError, Global};
+use vortex_arrays_core::array::StringKind;
 use vortex_arrays_view::view::{BinaryView, MAX_INLINED_SIZE};
 
-/// Views of texts or of bytes, and the buffers that long ones lie in, each in one of its own, which
-/// is shared.
+/// Views of texts, or of bytes, and the buffers that long ones lie in, each in one of its own,
+/// which is shared.
 #[derive(Drop)]
 pub struct Views {
+    pub kind: StringKind,
     pub views: Known<BinaryView>,
     pub buffers: Vec<Bytes>,
 }
@@ -41,26 +43,42 @@ impl Views {
     ghost use Rattle.vortex_table_zonemaps.specs.Views.{AreViewsKnown};
 
     // So many, none of which is known.
-    pub(crate) fn none_of(alloc: Global, count: usize) -> Result<Views, AllocError>
+    pub(crate) fn none_of(
+        alloc: Global,
+        kind: StringKind,
+        count: usize,
+    ) -> Result<Views, AllocError>
         ensures { IfOk result
             (λ made. (f : List ℕ → Content) → AreViewsKnown f made (replicate count null)) }
     {
         let views = vec![in alloc; BinaryView::empty_view(); count]?;
         let views = Known::none_of(views)?;
         Ok(Views {
+            kind,
             views,
             buffers: Vec::new(alloc),
         })
     }
 
-    // Puts a value that is known behind those of so many zones. Tells whether it can be held.
-    pub(crate) fn put(&mut self, count: usize, value: &Bytes) -> Result<bool, AllocError>
+    // Puts a value that is known behind those of so many zones. Tells whether it can be held: it is
+    // of their kind, and counts are of 32 bits.
+    pub(crate) fn put(
+        &mut self,
+        count: usize,
+        kind: StringKind,
+        value: &Bytes,
+    ) -> Result<bool, AllocError>
+        ensures kind { self.new.kind ≡ self.old.kind }
+        ensures alike { IfOk result (λ is_held. is_held ≡ true → self.old.kind ≡ kind) }
         ensures kept { (f : List ℕ → Content) (cs : List Content) → length cs ≡ count
             → AreViewsKnown f self.old cs → AreViewsKnown f self.new cs }
         ensures put { IfOk result (λ is_held. is_held ≡ true
             → (f : List ℕ → Content) (cs : List Content) → length cs ≡ count
             → AreViewsKnown f self.old cs → AreViewsKnown f self.new (cs ++ f value.now ∷ [])) }
     {
+        if self.kind != kind {
+            return Ok(false);
+        }
         let Some(view) = view_in(&mut self.buffers, value)? else {
             return Ok(false);
         };
@@ -70,6 +88,7 @@ impl Views {
 
     // Puts one that isn't known.
     pub(crate) fn put_null(&mut self, count: usize) -> Result<(), AllocError>
+        ensures kind { self.new.kind ≡ self.old.kind }
         ensures kept { (f : List ℕ → Content) (cs : List Content) → length cs ≡ count
             → AreViewsKnown f self.old cs → AreViewsKnown f self.new cs }
         ensures put { OnOk result ((f : List ℕ → Content) (cs : List Content) → length cs ≡ count
