@@ -33,9 +33,8 @@
 //! the rules whose function is that of its root: for `falsify` the predicate itself, both sides of
 //! each AND and OR among the nodes that are handed over, and of each BETWEEN its AND with both
 //! comparisons; for `satisfy` the predicate alone.
-ghost use Rattle.std.specs.Prelude.{◌≡◌, Some, length, IfOk, IfErr, IfSome, OnOk, OnErr, chars, option_map, string_bytes};
+ghost use Rattle.std.specs.Prelude.{◌≡◌, length, not, IfOk, IfErr, IfSome, OnOk, OnErr, chars, option_map, string_bytes};
 ghost use Rattle.vortex_model.specs.LogicalType.{LogicalType};
-ghost use Rattle.vortex_model_table.specs.Expression.{at_least};
 ghost use Rattle.vortex_model_table.specs.Rewrite.{exact_text, beginning};
 ghost use Rattle.vortex_model_rules.specs.Rules.{answer_of, fals, sat, handed_over};
 ghost use Rattle.vortex_stats_bind.specs.Bound.{test, expression_of};
@@ -44,10 +43,10 @@ ghost use Rattle.vortex_stats_expr.specs.Aggregate.{aggregate_of};
 ghost use Rattle.vortex_stats_expr.specs.Tree.{comparison_of, is_strict};
 ghost use Rattle.vortex_stats_rules.specs.Meanings.{rules_of, IsJudged};
 ghost use Rattle.vortex_stats_rules.specs.Refusals.{IsPredicate, IsRefusal};
-ghost use Rattle.vortex_stats_rules.specs.Table.{unboxed, all_unboxed, range_of, truth_proofs, falsifiers, satisfiers, comparison_proofs, is_comparable, may_be_nan, guarded, no_nan, refuted, low, high, counted, no_nulls, only_nulls, no_nans, only_nans, like_proof, shape_proof, outside};
+ghost use Rattle.vortex_stats_rules.specs.Table.{unboxed, all_unboxed, range_of, truth_proofs, falsifiers, satisfiers, comparison_proofs, is_comparable, may_be_nan, kept_from_nan, guarded, no_nan, refuted, low, high, counted, no_nulls, only_nulls, no_nans, only_nans, like_proof, shape_proof, outside};
 ghost use Rattle.vortex_stats_rules.specs.Visits.{visited};
 
-use crate::answers::{Claim, join_answer, join_answers};
+use crate::answers::{Claim, join_answers};
 use crate::joined::{as_list, both_proofs, either_proof, one, two};
 use crate::like_variant::{LikeVariant, like_variant};
 use crate::meter::Meter;
@@ -151,18 +150,21 @@ pub(crate) fn falsify_node(
             let left = falsify_node(alloc, x, rules, meter)?;
             let right = falsify_node(alloc, y, rules, meter)?;
             let built_in = either_proof(alloc, left, right)?;
-            join_answer(alloc, Claim::NoRow, e, built_in, rules, meter)
+            let proofs = as_list(alloc, built_in)?;
+            join_answers(alloc, Claim::NoRow, e, proofs, rules, meter)
         }
         BoundNode::Or(x, y) => {
             let left = falsify_node(alloc, x, rules, meter)?;
             let right = falsify_node(alloc, y, rules, meter)?;
             let built_in = both_proofs(alloc, left, right)?;
-            join_answer(alloc, Claim::NoRow, e, built_in, rules, meter)
+            let proofs = as_list(alloc, built_in)?;
+            join_answers(alloc, Claim::NoRow, e, proofs, rules, meter)
         }
         BoundNode::Between(x, lower, upper, options) => {
             let range = compare_ends(alloc, x, lower, upper, *options)?;
             let built_in = falsify_node(alloc, &range, rules, meter)?;
-            join_answer(alloc, Claim::NoRow, e, built_in, rules, meter)
+            let proofs = as_list(alloc, built_in)?;
+            join_answers(alloc, Claim::NoRow, e, proofs, rules, meter)
         }
         BoundNode::Literal(_)
         | BoundNode::Column(_)
@@ -205,7 +207,7 @@ fn falsifiers(alloc: Global, e: &BoundExpression) -> Result<Vec<Proof>, AllocErr
     ensures { IfOk result (λ proofs. all_unboxed proofs.items ≡ falsifiers e.now) }
 {
     match &e.node {
-        BoundNode::Literal(value) => truth_proofs(alloc, truth_in(value).map(|flag| !flag)),
+        BoundNode::Literal(value) => truth_proofs(alloc, opposite(truth_in(value))),
         BoundNode::Compare(comparison, x, y) => comparison_proofs(alloc, *comparison, x, y),
         BoundNode::IsNull(x) => no_nulls(alloc, x),
         BoundNode::IsNotNull(x) => only_nulls(alloc, x),
@@ -245,6 +247,12 @@ pub(crate) fn satisfiers(alloc: Global, e: &BoundExpression) -> Result<Vec<Proof
     }
 }
 
+fn opposite(value: Option<bool>) -> Option<bool>
+    ensures { result ≡ option_map not value }
+{
+    Some(!value?)
+}
+
 // The literal of a truth value, where there is one, as Vortex's `LiteralStatsRewrite`.
 fn truth_proofs(alloc: Global, value: Option<bool>) -> Result<Vec<Proof>, AllocError>
     ensures { IfOk result (λ proofs. all_unboxed proofs.items ≡ truth_proofs value) }
@@ -280,6 +288,21 @@ fn comparison_proofs(
     }
     let left = may_be_nan(x);
     let right = may_be_nan(y);
+    keep_from_nan(alloc, comparison, left, right, x, y)
+}
+
+// The proof, and where it may hold NaN twice. `left` and `right` tell which sides may.
+fn keep_from_nan(
+    alloc: Global,
+    comparison: Comparison,
+    left: bool,
+    right: bool,
+    x: &BoundExpression,
+    y: &BoundExpression,
+) -> Result<Vec<Proof>, AllocError>
+    ensures { IfOk result (λ proofs. all_unboxed proofs.items ≡ kept_from_nan left right x.now y.now
+        (refuted (comparison_of comparison) x.now y.now)) }
+{
     if left || right {
         let by_count = guarded(alloc, NanGuard::Count, comparison, left, right, x, y)?;
         let by_flag = guarded(alloc, NanGuard::Flag, comparison, left, right, x, y)?;
@@ -304,13 +327,12 @@ fn may_be_nan(x: &BoundExpression) -> bool
 }
 
 // The statistic by which a proof asks that no value is NaN.
-#[derive(Clone, Copy, Debug, PartialEq, Eq)]
+#[derive(Clone, Copy)]
 pub(crate) enum NanGuard {
     Count,
     Flag,
 }
 
-// `left` and `right` tell which sides may hold NaN.
 fn guarded(
     alloc: Global,
     guard: NanGuard,
@@ -428,8 +450,7 @@ pub(crate) fn only_nulls(alloc: Global, x: &BoundExpression) -> Result<Vec<Proof
     counted(alloc, nulls, all, AggregateFn::AllNull, x)
 }
 
-// No value is NaN, by Vortex's `IsNanNaNCountStatsRewrite` and `IsNanAllNonNanStatsRewrite`. Only
-// floats have these proofs.
+// No value is NaN, by Vortex's `IsNanNaNCountStatsRewrite` and `IsNanAllNonNanStatsRewrite`.
 fn no_nans(alloc: Global, x: &BoundExpression) -> Result<Vec<Proof>, AllocError>
     ensures { IfOk result (λ proofs. all_unboxed proofs.items ≡ no_nans x.now) }
 {
@@ -441,8 +462,7 @@ fn no_nans(alloc: Global, x: &BoundExpression) -> Result<Vec<Proof>, AllocError>
     counted(alloc, nans, none, AggregateFn::AllNonNan, x)
 }
 
-// Each value is NaN, by Vortex's `IsNanNaNCountStatsRewrite` and `IsNanAllNanStatsRewrite`. Only
-// floats have these proofs.
+// Each value is NaN, by Vortex's `IsNanNaNCountStatsRewrite` and `IsNanAllNanStatsRewrite`.
 fn only_nans(alloc: Global, x: &BoundExpression) -> Result<Vec<Proof>, AllocError>
     ensures { IfOk result (λ proofs. all_unboxed proofs.items ≡ only_nans x.now) }
 {
@@ -471,9 +491,8 @@ fn counted(
     two(alloc, by_count, by_flag)
 }
 
-// Vortex's `LikeStatsRewrite`. `None` where the LIKE is negated or ignores case, where its pattern
-// is no literal text or ends in a lone backslash, and where it begins with a wildcard or with a
-// text that can't be raised.
+// Vortex's `LikeStatsRewrite`. There is none where a lone backslash ends the pattern, nor where it
+// begins with a wildcard or a text that can't be raised.
 fn falsify_like(
     alloc: Global,
     x: &BoundExpression,
@@ -520,24 +539,14 @@ fn falsify_prefix(
         (λ proof. unboxed proof ≡ shape_proof x.now (beginning (chars (string_bytes prefix)))) }
 {
     match raise(alloc, &prefix)? {
-        Some(raised) => outside_prefix(alloc, x, prefix, raised),
+        Some(raised) => {
+            let below = BufferString::from_string(prefix)?;
+            let above = BufferString::from_string(raised)?;
+            let proof = outside(alloc, Comparison::Gte, x, below, above)?;
+            Ok(Some(proof))
+        }
         None => Ok(None),
     }
-}
-
-fn outside_prefix(
-    alloc: Global,
-    x: &BoundExpression,
-    prefix: String,
-    raised: String,
-) -> Result<Option<Proof>, AllocError>
-    ensures { IfOk result (λ proof. unboxed proof
-        ≡ Some (outside x.now (string_bytes prefix) (string_bytes raised) at_least)) }
-{
-    let below = BufferString::from_string(prefix)?;
-    let above = BufferString::from_string(raised)?;
-    let proof = outside(alloc, Comparison::Gte, x, below, above)?;
-    Ok(Some(proof))
 }
 
 // The least value compares with `above`, or the greatest is less than `below`.
