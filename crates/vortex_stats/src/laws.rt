@@ -7,7 +7,8 @@ pub use vortex_stats_bound::laws::{
     upper_unions_associate, upper_unions_commute,
 };
 pub use vortex_stats_evaluate::laws::{
-    bound_expressions_say_the_same, falsified_zones_hold_none, satisfied_zones_hold_all,
+    bound_expressions_say_the_same, bound_falsifier, bound_satisfier, falsified_zones_hold_none,
+    satisfied_zones_hold_all,
 };
 pub use vortex_stats_expr::bitset::pruning_statistics_are_five;
 pub use vortex_stats_laws::laws::{

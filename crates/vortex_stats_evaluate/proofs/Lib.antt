@@ -1,5 +1,6 @@
 mod Adding
 mod Found
+mod Refused
 mod RowTruths
 mod Saying
 mod Telling

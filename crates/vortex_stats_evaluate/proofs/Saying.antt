@@ -59,5 +59,3 @@ says_the_same k e b h = record {
   columns = sym (reads_alike k e b h);
   fault = sym (fault_alike k e b h);
 }
-
-pub ruleset said = (says_the_same)

@@ -64,15 +64,15 @@ each_row P Q f (row ∷ rows) h = (f row h.0, each_row P Q f rows h.1)
 -- ---- a zone
 
 module _ (k : LogicalType) (answers : Answers) (p : Provided) (rows : List Content) (zone : IsZone k answers p rows) where
-  answer_to : Expression → Aggregate → Bound
+  abbrev answer_to : Expression → Aggregate → Bound
   answer_to x a = answers.statistic (bound_of k x) a (placeholder_type a (bound_of k x))
 
   -- what placeholders stand for: what their answers have, where they have no fault
-  worth : Option ProofFault → Content → Content
+  abbrev worth : Option ProofFault → Content → Content
   worth None c = c
   worth (Some f) c = null
 
-  given : Placeholders
+  abbrev given : Placeholders
   given x a = worth (binding_fault k (statistic x a)) (evaluate_bound p (answer_to x a))
 
   of_answer : (x : Expression) (a : Aggregate) → IsHonestValue a (map (bound_value (bound_of k x)) rows) (evaluate_bound p (answer_to x a)) →

@@ -19,7 +19,8 @@ pub fn min_max(
     alloc: Global,
     input: Box<BoundExpression>,
 ) -> Result<Box<BoundExpression>, StatsError>
-    ensures placeholder { IfOk result (λ bound. IsPlaceholderOf min_max input.value bound.value) }
+    ensures placeholder { IfOk result
+        (λ bound. IsPlaceholderOf min_max input.value bound.value) }
     ensures refused { IfErr result (IsPlaceholderFault min_max input.value) }
 {
     stat(alloc, AggregateFn::MinMax, input)
@@ -27,7 +28,8 @@ pub fn min_max(
 
 /// The sum: a u64, an i64 or an f64, by the type of the values.
 pub fn sum(alloc: Global, input: Box<BoundExpression>) -> Result<Box<BoundExpression>, StatsError>
-    ensures placeholder { IfOk result (λ bound. IsPlaceholderOf sum input.value bound.value) }
+    ensures placeholder { IfOk result
+        (λ bound. IsPlaceholderOf sum input.value bound.value) }
     ensures refused { IfErr result (IsPlaceholderFault sum input.value) }
 {
     stat(alloc, AggregateFn::Sum, input)
@@ -38,7 +40,8 @@ pub fn null_count(
     alloc: Global,
     input: Box<BoundExpression>,
 ) -> Result<Box<BoundExpression>, StatsError>
-    ensures placeholder { IfOk result (λ bound. IsPlaceholderOf null_count input.value bound.value) }
+    ensures placeholder { IfOk result
+        (λ bound. IsPlaceholderOf null_count input.value bound.value) }
     ensures refused { IfErr result (IsPlaceholderFault null_count input.value) }
 {
     stat(alloc, AggregateFn::NullCount, input)
@@ -49,7 +52,8 @@ pub fn all_null(
     alloc: Global,
     input: Box<BoundExpression>,
 ) -> Result<Box<BoundExpression>, StatsError>
-    ensures placeholder { IfOk result (λ bound. IsPlaceholderOf all_null input.value bound.value) }
+    ensures placeholder { IfOk result
+        (λ bound. IsPlaceholderOf all_null input.value bound.value) }
     ensures refused { IfErr result (IsPlaceholderFault all_null input.value) }
 {
     stat(alloc, AggregateFn::AllNull, input)
@@ -60,7 +64,8 @@ pub fn all_nan(
     alloc: Global,
     input: Box<BoundExpression>,
 ) -> Result<Box<BoundExpression>, StatsError>
-    ensures placeholder { IfOk result (λ bound. IsPlaceholderOf all_nan input.value bound.value) }
+    ensures placeholder { IfOk result
+        (λ bound. IsPlaceholderOf all_nan input.value bound.value) }
     ensures refused { IfErr result (IsPlaceholderFault all_nan input.value) }
 {
     stat(alloc, AggregateFn::AllNan, input)
@@ -71,7 +76,8 @@ pub fn all_non_null(
     alloc: Global,
     input: Box<BoundExpression>,
 ) -> Result<Box<BoundExpression>, StatsError>
-    ensures placeholder { IfOk result (λ bound. IsPlaceholderOf all_non_null input.value bound.value) }
+    ensures placeholder { IfOk result
+        (λ bound. IsPlaceholderOf all_non_null input.value bound.value) }
     ensures refused { IfErr result (IsPlaceholderFault all_non_null input.value) }
 {
     stat(alloc, AggregateFn::AllNonNull, input)
@@ -82,7 +88,8 @@ pub fn all_non_nan(
     alloc: Global,
     input: Box<BoundExpression>,
 ) -> Result<Box<BoundExpression>, StatsError>
-    ensures placeholder { IfOk result (λ bound. IsPlaceholderOf all_non_nan input.value bound.value) }
+    ensures placeholder { IfOk result
+        (λ bound. IsPlaceholderOf all_non_nan input.value bound.value) }
     ensures refused { IfErr result (IsPlaceholderFault all_non_nan input.value) }
 {
     stat(alloc, AggregateFn::AllNonNan, input)
@@ -93,7 +100,8 @@ pub fn nan_count(
     alloc: Global,
     input: Box<BoundExpression>,
 ) -> Result<Box<BoundExpression>, StatsError>
-    ensures placeholder { IfOk result (λ bound. IsPlaceholderOf nan_count input.value bound.value) }
+    ensures placeholder { IfOk result
+        (λ bound. IsPlaceholderOf nan_count input.value bound.value) }
     ensures refused { IfErr result (IsPlaceholderFault nan_count input.value) }
 {
     stat(alloc, AggregateFn::NanCount, input)

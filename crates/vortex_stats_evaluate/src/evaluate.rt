@@ -86,6 +86,7 @@ fn check_truth(e: &BoundExpression) -> Result<(), StatsError>
 }
 
 // Whether each part may stand in a proof, and then whether it is a boolean.
+#[tactic(auto, using(crate::proofs::Refused::of_proofs))]
 fn check_proof(e: &BoundExpression) -> Result<(), StatsError>
     ensures provable { OnOk result (IsProvable e.now) }
     ensures refused { IfErr result (IsProofFault e.now) }

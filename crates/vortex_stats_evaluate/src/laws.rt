@@ -23,7 +23,6 @@ use vortex_stats_rules::rule::StatsRewriteRuleRef;
 
 /// What `bind` makes has the value of its expression, at rows and over what is known of rows, its
 /// type, and a truth, a column that is read and a fault as a proof exactly where it has one.
-#[tactic(auto, using(crate::proofs::Saying::said))]
 pub fn bound_expressions_say_the_same()
     ensures { BoundExpressionsSayTheSame }
 {}

@@ -49,8 +49,8 @@ impl Operands for Row {
     }
 }
 
-/// The truth of an expression without placeholders over so many rows of which nothing is known, where
-/// `None` is null.
+/// The truth of an expression without placeholders over so many rows of which nothing is known,
+/// where `None` is null.
 pub(crate) fn truth_over(e: &BoundExpression, rows: u64) -> Option<bool>
     ensures { result ≡ boolean_in (evaluate_bound (row_of rows null) e.now) }
 {
@@ -66,8 +66,8 @@ fn truth_at(e: &BoundExpression, row: &Row) -> Option<bool>
     truth_of(value_of(e, row))
 }
 
-/// The truth of an expression without placeholders at each row of an array, where `None` is null. The
-/// array is a part of so many rows.
+/// The truth of an expression without placeholders at each row of an array, where `None` is null.
+/// The array is a part of so many rows.
 #[tactic(auto, using(crate::proofs::RowTruths::whole))]
 pub(crate) fn truths_of(
     alloc: Global,

@@ -4,8 +4,10 @@ use Rattle.std.specs.Prelude.{Option, Some, None, slice_get, option_map, IfSome,
 use Rattle.std.specs.Borrow.{Bor}
 use Rattle.std.proofs.lemmas.Bool.{cases_eq}
 use Rattle.std.proofs.lemmas.Option.{slice_get_past, slice_get_read}
+use Rattle.std.proofs.lemmas.List.Elements.{All-nil}
 use Rattle.std.proofs.lemmas.List.{length-map, length-take, length-drop, map-append, take-map, drop-map, get_or_default, get_or-set_same, get_or-set_other, length-set}
 use Rattle.vortex_model.specs.Content.{Content}
+use Rattle.vortex_arrays_view.specs.Views.{HasValue}
 use Rattle.vortex_model_table.specs.Expression.{Aggregate}
 use Rattle.vortex_table_chunk.specs.BoundStat.{stat_value_or_null}
 use Rattle.vortex_table_chunk.specs.declared.zones.bounds.ColumnBounds.{ColumnBounds}
@@ -121,7 +123,7 @@ pub nothing : (held : ZoneColumn) → IsColumnOf held []
 nothing (column.Unknown known) = (refl, refl)
 nothing (column.Bools known) = refl
 nothing (column.Integers known) = refl
-nothing (column.Strings s) = (∣ tt ∣₁, refl)
+nothing (column.Strings s) = (∣ All-nil (λ v. HasValue v s.buffers.items) ∣₁, refl)
 nothing column.Other = tt
 
 pub no_zones : (j : ℕ) (leaf : LeafZones) → IsLeaf j leaf []

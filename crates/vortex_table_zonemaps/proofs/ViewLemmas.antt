@@ -6,7 +6,7 @@ use Rattle.std.specs.Coded.{Coded-set, coded_list}
 use Rattle.std.proofs.lemmas.Bool.{cases_lt}
 use Rattle.std.proofs.Math.Seq.{take-length, get_or-append_seam}
 use Rattle.std.proofs.lemmas.List.{length-take, length-append, length-replicate, take-replicate, get_or-take}
-use Rattle.std.proofs.lemmas.List.Elements.{All-head, All-tail}
+use Rattle.std.proofs.lemmas.List.Elements.{All-head, All-tail, All-weaker, All-push, All-replicate, All-take, All-drop}
 use Rattle.vortex_model.specs.Content.{Content, null}
 use Rattle.vortex_arrays_view.specs.Views.{size_of, index_of, offset_of, value_of, HasValue}
 use Rattle.vortex_arrays_view.proofs.Made.{value_short, value_long, views_read_back}
@@ -35,16 +35,15 @@ module _ (bs cs : List (List ℕ)) (grown : take (length bs) cs ≡ bs) where
     | inr short ↦ value_short v cs short ∙ sym (value_short v bs short)
   ]
 
-  pub still_valued : (v : List ℕ) → HasValue v bs → HasValue v cs
+  still_valued : (v : List ℕ) → HasValue v bs → HasValue v cs
   still_valued v h = record {
     there = λ long. let here = h.there long in let all = more in omega (arith, here, all);
     inside = λ long. subst (λ b. offset_of v + size_of v ≤ length b) (sym (buffer_stays (index_of v) (h.there long))) (h.inside long);
     prefix = λ long. h.prefix long ∙ ap (take 4) (sym (value_stays v h));
   }
 
-  pub all_valued : (vs : List (List ℕ)) → All (λ v. HasValue v bs) vs → All (λ v. HasValue v cs) vs
-  all_valued [] h = tt
-  all_valued (v ∷ vs) h = (still_valued v (All-head (λ x. HasValue x bs) v vs h), all_valued vs (All-tail (λ x. HasValue x bs) v vs h))
+  all_valued : (vs : List (List ℕ)) → All (λ v. HasValue v bs) vs → All (λ v. HasValue v cs) vs
+  all_valued vs h = All-weaker (λ v. HasValue v bs) (λ v. HasValue v cs) still_valued vs h
 
   pub values_stay : (f : List ℕ → Content) (vs : List (List ℕ)) → All (λ v. HasValue v bs) vs → map (λ v. f (value_of v cs)) vs ≡ map (λ v. f (value_of v bs)) vs
   values_stay f [] h = refl
@@ -60,10 +59,6 @@ view_made bs cs v i n x e put = views_read_back v cs i 0 n x (omega arith) (λ l
 
 no_bytes : (bs : List (List ℕ)) → HasValue (short_view []) bs
 no_bytes bs = (views_read_back [] bs 0 0 (omega arith) (omega arith) (omega arith) (λ h. absurd (omega (arith, h)))).0
-
-all_more : (P : List ℕ → Type 0) (vs : List (List ℕ)) (v : List ℕ) → All P vs → P v → All P (vs ++ v ∷ [])
-all_more P [] v h p = (p, tt)
-all_more P (x ∷ vs) v h p = (All-head P x vs h, all_more P vs v (All-tail P x vs h) p)
 
 module _ (f : List ℕ → Content) (old new : Views) (cs : List Content) (n : ℕ) (count : length cs ≡ n)
     (grown : take (length old.buffers.items) new.buffers.items ≡ old.buffers.items) (h : AreViewsKnown f old cs) where
@@ -95,7 +90,7 @@ module _ (f : List ℕ → Content) (old new : Views) (cs : List Content) (n : �
       let long = known_long value_old old.views cs n count h.1 in let many = length-append cs (c ∷ []) in
       let whole = front old.views.values.items new.views.values.items view n (length (cs ++ c ∷ [])) long.0 (omega (arith, many, count)) put.values in (
         ∥∥₁_map (still_all (take n old.views.values.items) (ap (λ m. take m old.views.values.items) (sym count))) (λ all.
-            subst (λ vs. All (λ v. HasValue v new.buffers.items) vs) (sym whole) (all_more (λ v. HasValue v new.buffers.items) (take n old.views.values.items) view all has)),
+            subst (λ vs. All (λ v. HasValue v new.buffers.items) vs) (sym whole) (All-push (λ v. HasValue v new.buffers.items) (take n old.views.values.items) view all has)),
         known_put value_new old.views new.views cs n count still_known view k c put says,
       )
 
@@ -107,30 +102,16 @@ no_view_put f old new cs n count same h put =
 
 -- ---- views of which nothing is known
 
-all_empty : (bs : List (List ℕ)) (n : ℕ) → All (λ v. HasValue v bs) (replicate n (short_view []))
-all_empty bs zero = tt
-all_empty bs (suc n) = (no_bytes bs, all_empty bs n)
-
 pub no_views : (f : List ℕ → Content) (s : Views) (vs : List (List ℕ)) (n : ℕ) → vs ≡ replicate n (short_view []) → s.views.values.items ≡ vs → s.views.flags.items ≡ replicate (length vs) false →
     AreViewsKnown f s (replicate n null)
 no_views f s vs n empty same none =
     let long : length vs ≡ n = ap length empty ∙ length-replicate n (short_view []) in (
       ∣ subst (λ ws. All (λ v. HasValue v s.buffers.items) ws)
-          (sym ((λ i. take (length-replicate n null i) ((same ∙ empty) i)) ∙ take-replicate n n (short_view []) (omega arith))) (all_empty s.buffers.items n) ∣₁,
+          (sym ((λ i. take (length-replicate n null i) ((same ∙ empty) i)) ∙ take-replicate n n (short_view []) (omega arith))) (All-replicate (λ v. HasValue v s.buffers.items) n (short_view []) (no_bytes s.buffers.items)) ∣₁,
       none_known (λ v. f (value_of v s.buffers.items)) s.views n (ap length same ∙ long) (none ∙ ap (λ m. replicate m false) long),
     )
 
 -- ---- parts
-
-all_front : (P : List ℕ → Type 0) (n : ℕ) (vs : List (List ℕ)) → All P vs → All P (take n vs)
-all_front P zero vs h = tt
-all_front P (suc n) [] h = tt
-all_front P (suc n) (v ∷ vs) h = (All-head P v vs h, all_front P n vs (All-tail P v vs h))
-
-all_behind : (P : List ℕ → Type 0) (n : ℕ) (vs : List (List ℕ)) → All P vs → All P (drop n vs)
-all_behind P zero vs h = h
-all_behind P (suc n) [] h = h
-all_behind P (suc n) (v ∷ vs) h = all_behind P n vs (All-tail P v vs h)
 
 valid_heads : (bs : List (List ℕ)) (ks : List Bool) (vs : List (List ℕ)) → All (λ v. HasValue v bs) vs → AllValid (λ v. HasHead v bs) ks vs
 valid_heads bs [] vs h = tt
@@ -144,4 +125,4 @@ part_headed f s cs first count within h vs js bs p q =
     let front = take (length cs) s.views.values.items in
     ∥∥₁_map h.0 (λ all. subst (λ ys. AllValid (λ v. HasHead v bs) js ys) (part_of_front count first (length cs) s.views.values.items within ∙ sym p)
     (subst (λ zs. AllValid (λ v. HasHead v zs) js (take count (drop first front))) (sym q)
-    (valid_heads s.buffers.items js (take count (drop first front)) (all_front (λ v. HasValue v s.buffers.items) count (drop first front) (all_behind (λ v. HasValue v s.buffers.items) first front all)))))
+    (valid_heads s.buffers.items js (take count (drop first front)) (All-take (λ v. HasValue v s.buffers.items) count (drop first front) (All-drop (λ v. HasValue v s.buffers.items) first front all)))))

@@ -1,9 +1,12 @@
 //! What a statistic is in each zone, as a column that grows.
-ghost use Rattle.std.specs.Prelude.{◌≡◌, ◌+◌, ◌≤◌, List, length, replicate, take, drop, IfOk, IfSome};
+ghost use Rattle.std.specs.Prelude.{◌≡◌, ◌+◌, ◌≤◌, Bool, List, Option, length, map, replicate, take, drop, IfOk, IfSome};
 ghost use Rattle.vortex_model.specs.Content.{Content, content_of, boolean, integer, null};
+ghost use Rattle.vortex_arrays_model.specs.Layout.{string_content};
+ghost use Rattle.vortex_arrays_core.specs.LayoutOf.{strings_of};
 ghost use Rattle.vortex_scalar_value.specs.View.{raw_of};
 ghost use Rattle.vortex_stats_bind.specs.OperandValue.{operand_value};
-ghost use Rattle.vortex_stats_mask.specs.Columns.{column_of};
+ghost use Rattle.vortex_stats_mask.specs.Columns.{column_of, contents_of, values_of};
+ghost use Rattle.vortex_stats_mask.specs.Headed.{AreHeaded, HaveHeads};
 ghost use Rattle.vortex_table_zonemaps.specs.Column.{IsColumnOf, IsEntryOf};
 ghost use Rattle.vortex_table_zonemaps.specs.Known.{AreKnown};
 ghost use Rattle.vortex_table_zonemaps.specs.Views.{AreStrings};
@@ -130,7 +133,7 @@ impl ZoneColumn {
         ensures kept { (cs : List Content) → length cs ≡ count
             → IsColumnOf self.old cs → IsColumnOf self.new cs }
         ensures put { OnOk result ((cs : List Content) (c : Content) → length cs ≡ count
-            → IsEntryOf entry c → IsColumnOf self.old cs → IsColumnOf self.new (cs ++ c ∷ [])) }
+            → IsEntryOf entry.entry c → IsColumnOf self.old cs → IsColumnOf self.new (cs ++ c ∷ [])) }
     {
         match (&mut *self, entry) {
             (ZoneColumn::Unknown(known), Entry::Absent) => known.put(count, 0, false),
@@ -192,6 +195,18 @@ fn bools_in<'a>(known: &'a Known<bool>, first: usize, count: usize) -> Column<'a
     }
 }
 
+fn string_items<'a>(kind: StringKind, strings: &Strings<'a>) -> Items<'a>
+    ensures values { contents_of result
+        ≡ map (string_content (strings_of kind)) (values_of strings.now) }
+    ensures headed { (valid : Option (List Bool)) → HaveHeads valid strings.now
+        → AreHeaded result valid }
+{
+    match kind {
+        StringKind::Utf8 => Items::Texts(*strings),
+        StringKind::Binary => Items::Binaries(*strings),
+    }
+}
+
 fn strings_in<'a>(s: &'a Views, first: usize, count: usize) -> Column<'a>
     requires { (cs : List Content) × AreStrings s.now cs × (first + count ≤ length cs) }
     ensures { (cs : List Content) → AreStrings s.now cs → first + count ≤ length cs
@@ -201,16 +216,9 @@ fn strings_in<'a>(s: &'a Views, first: usize, count: usize) -> Column<'a>
         views: s.views.values_in(first, count),
         buffers: s.buffers.as_slice(),
     };
-    let validity = ValidRows::Flags(s.views.flags_in(first, count));
-    match s.kind {
-        StringKind::Utf8 => Column {
-            items: Items::Texts(strings),
-            validity,
-        },
-        StringKind::Binary => Column {
-            items: Items::Binaries(strings),
-            validity,
-        },
+    Column {
+        items: string_items(s.kind, &strings),
+        validity: ValidRows::Flags(s.views.flags_in(first, count)),
     }
 }
 

@@ -2,14 +2,15 @@
 //! rows, which are the zones.
 
 use crate::checks::Checks;
-use crate::expressions::{column, number, pairs, path, rows_alone, told};
+use crate::expressions::{column, number, pairs, path, refusal, rows_alone, text, told};
 use crate::make_arrays::{numbers, valid_where};
 use std::alloc::{AllocError, Global};
 use vortex_arrays::{ArrayRef, Validity};
 use vortex_dtype::{DType, DTypeError};
+use vortex_stats::laws::{bound_falsifier, bound_satisfier};
 use vortex_stats::{
-    AggregateFn, BoundExpression, Expression, Meter, StatBinder, and, bind, bind_stats_in_zones,
-    col, evaluate, falsify, gt, is_not_null, is_null, null_of, satisfy,
+    AggregateFn, BoundExpression, Expression, LikeOptions, Meter, StatBinder, StatsError, and,
+    bind, col, evaluate, gt, is_not_null, is_null, like, null_of,
 };
 
 /// The columns of the table that are statistics of the column a.
@@ -75,7 +76,16 @@ impl Reader {
         told(bind(alloc, &col(path(alloc, names)?), self.zones.dtype()))
     }
 
-    /// The truth of the proof at each zone, where there is one.
+    /// The table's statistics of the column a.
+    fn binder(&self, alloc: Global) -> Result<Zones, DTypeError> {
+        Ok(Zones {
+            least: self.zone_column(alloc, &["bounds", "least"])?,
+            greatest: self.zone_column(alloc, &["bounds", "greatest"])?,
+            null_count: self.zone_column(alloc, &["counts", "nulls"])?,
+        })
+    }
+
+    /// The truth of the bound proof at each zone, where there is one.
     fn at_zones(
         &self,
         alloc: Global,
@@ -84,15 +94,8 @@ impl Reader {
         let Some(proof) = proof else {
             return Ok(None);
         };
-        let zones = Zones {
-            least: self.zone_column(alloc, &["bounds", "least"])?,
-            greatest: self.zone_column(alloc, &["bounds", "greatest"])?,
-            null_count: self.zone_column(alloc, &["counts", "nulls"])?,
-        };
-        let row_counts = self.zone_column(alloc, &["counts", "rows"])?;
-        let bound = bind_stats_in_zones(alloc, proof, &zones, &row_counts)?;
         let scope = rows_alone(alloc, &self.zones)?;
-        Ok(Some(told(evaluate(alloc, &bound, &scope, &mut Meter::new()))?))
+        Ok(Some(told(evaluate(alloc, proof, &scope, &mut Meter::new()))?))
     }
 
     /// Where the falsifier and the satisfier of a predicate have these truths at the zones.
@@ -101,17 +104,35 @@ impl Reader {
         alloc: Global,
         checks: &mut Checks<'_>,
         name: &str,
-        predicate: Expression,
+        e: Expression,
         wanted: [Option<[Option<bool>; 3]>; 2],
     ) -> Result<(), DTypeError> {
-        let bound = told(bind(alloc, &predicate, &self.rows))?;
+        let zones = self.binder(alloc)?;
+        let rows = self.zone_column(alloc, &["counts", "rows"])?;
+        let counts = Some(&rows);
         let mut meter = Meter::new();
-        let falsifier = told(falsify(alloc, &bound, &[], &mut meter))?;
-        let found = self.at_zones(alloc, &falsifier)?;
+        let proof = bound_falsifier(alloc, &e, &self.rows, &[], &zones, counts, &mut meter);
+        let found = self.at_zones(alloc, &told(proof)?)?;
         checks.holds_at(name, 0, are(&found, &wanted[0]));
-        let satisfier = told(satisfy(alloc, &bound, &[], &mut meter))?;
-        let found = self.at_zones(alloc, &satisfier)?;
+        let proof = bound_satisfier(alloc, &e, &self.rows, &[], &zones, counts, &mut meter);
+        let found = self.at_zones(alloc, &told(proof)?)?;
         checks.holds_at(name, 1, are(&found, &wanted[1]));
+        Ok(())
+    }
+
+    /// A predicate without a truth has no proof.
+    fn refuses(&self, alloc: Global, checks: &mut Checks<'_>) -> Result<(), DTypeError> {
+        let options = LikeOptions {
+            negated: false,
+            case_insensitive: false,
+        };
+        let e = like(alloc, text("a"), text("a\\%"), options)?;
+        let zones = self.binder(alloc)?;
+        let mut meter = Meter::new();
+        let proof = bound_falsifier(alloc, &e, &self.rows, &[], &zones, None, &mut meter);
+        checks.holds("no falsifier", refusal(proof)? == Some(StatsError::NotEvaluable));
+        let proof = bound_satisfier(alloc, &e, &self.rows, &[], &zones, None, &mut meter);
+        checks.holds("no satisfier", refusal(proof)? == Some(StatsError::NotEvaluable));
         Ok(())
     }
 }
@@ -144,5 +165,6 @@ pub fn run(alloc: Global, checks: &mut Checks<'_>) -> Result<(), DTypeError> {
     let wanted = [Some([Some(true), None, Some(true)]), None];
     reader.check(alloc, checks, "AND", both, wanted)?;
     let other = gt(alloc, column(alloc, "b")?, number(4))?;
-    reader.check(alloc, checks, "a column without zones", other, [Some([None; 3]), None])
+    reader.check(alloc, checks, "a column without zones", other, [Some([None; 3]), None])?;
+    reader.refuses(alloc, checks)
 }
