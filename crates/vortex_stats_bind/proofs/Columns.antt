@@ -1,16 +1,10 @@
 -- Columns, step by step.
 use Rattle.std.proofs.Common.{◌≡◌, ◌+◌, ◌<◌, ◌≤◌, ◌++◌, ℕ, suc, add-one, List, [], ◌∷◌, length, get_or, drop, drop-cons, Option, Some, None, option_map, refl, sym, ap, ◌∙◌, subst, append_assoc, append-nil}
 use Rattle.std.proofs.lemmas.List.{drop_all}
-use Rattle.std.specs.Prelude.{option_and_then, is_some}
-use Rattle.std.specs.Option.{unwrap_or}
-use Rattle.vortex_model.specs.LogicalType.{LogicalType, null_only, boolean_type, integer_type, float, decimal, utf8, binary, list, fixed_list, mapping, struct, union, variant, extension, Nullability, non_nullable, nullable, nullability_of, either_nullable, with_nullability, nullable_inside}
+use Rattle.std.specs.Prelude.{option_and_then}
+use Rattle.vortex_model.specs.LogicalType.{LogicalType, extension, Nullability, non_nullable, nullable, nullability_of, either_nullable, with_nullability, nullable_inside}
 use Rattle.vortex_model.specs.Path.{Names, Positions, positions, position_in, part_at, type_at, type_of_column}
-use Rattle.vortex_model_table.specs.Command.{part_named}
-use Rattle.vortex_model_table.specs.Expression.{column}
-use Rattle.vortex_model_rules.specs.Faults.{unless, unknown_column, binding_fault}
-use Rattle.vortex_stats_expr.proofs.Classes.{positions-stop, positions-step}
-use Rattle.vortex_stats_bind.specs.Bound.{Bound, place, bound_of, column_at}
-use Rattle.vortex_stats_bind.specs.Bindings.{IsBound}
+use Rattle.vortex_stats_expr.proofs.Classes.{positions-step}
 
 -- ---- nullability on the way
 
@@ -99,39 +93,10 @@ at_next k names part next n m r before after i x ds j within at p q own joined g
     (subst (λ s. IsAt k names next s (before ++ i ∷ []) (drop (j + 1) ds)) (sym (joined ∙ ap (either_nullable n) own))
     (step k names part next n before i x (drop (j + 1) ds) p q (subst (IsAt k names part n before) (first_of ds j x within at) a)))
 
--- no part has the name
-pub leads_nowhere : (k : LogicalType) (names : Names) (part : LogicalType) (n : Nullability) (before : Positions) (x : List ℕ) (ds : Names) (j : ℕ) →
-    j < length ds → x ≡ get_or ds j x → part_named part x ≡ None → IsAt k names part n before (drop j ds) → positions k names ≡ None
-leads_nowhere k names part n before x ds j within at none a =
-    sym a.behind ∙ ap (λ ys. option_map (λ is. before ++ is) (positions part ys)) (first_of ds j x within at)
-    ∙ ap (option_map (λ is. before ++ is)) (positions-stop part x (drop (j + 1) ds) none)
-
-pub record IsFound (k : LogicalType) (names : Names) (is : Positions) (t : LogicalType) : Type 0 where
-  pub stands : positions k names ≡ Some is
-  pub typed : type_of_column k names ≡ Some t
-
 -- the names are over
 pub at_end : (k : LogicalType) (names : Names) (part : LogicalType) (n : Nullability) (before : Positions) (ds : Names) (j : ℕ) (t : LogicalType) →
-    length ds ≤ j → t ≡ with_nullability (either_nullable (nullability_of part) n) part → IsAt k names part n before (drop j ds) → IsFound k names before t
+    length ds ≤ j → t ≡ with_nullability (either_nullable (nullability_of part) n) part → IsAt k names part n before (drop j ds) →
+    (positions k names ≡ Some before) × (type_of_column k names ≡ Some t)
 at_end k names part n before ds j t past made a =
     let b : IsAt k names part n before [] = subst (IsAt k names part n before) (drop_all j ds past) a in
-    record { stands = sym b.behind ∙ ap Some (append-nil before); typed = sym b.inside ∙ ap Some (sym (made ∙ inside_one n part)) }
-
--- ---- bound columns
-
-found_at : (k : LogicalType) (names : Names) (is : Positions) (t : LogicalType) → IsFound k names is t → place names is t ≡ column_at k names (positions k names)
-found_at k names is t f =
-    sym (ap (λ (o : Option LogicalType). place names is (unwrap_or o null_only)) (ap (option_and_then (type_at k)) (sym f.stands) ∙ f.typed))
-    ∙ ap (column_at k names) (sym f.stands)
-
-pub column_bound : (k : LogicalType) (names xs : Names) (is : Positions) (t : LogicalType) → xs ≡ names → positions k names ≡ Some is → type_of_column k names ≡ Some t →
-    IsBound k (column names) (place xs is t)
-column_bound k names xs is t same p q = record {
-  tree = ap (λ ys. place ys is t) same ∙ found_at k names is t (record { stands = p; typed = q });
-  faultless = ap (λ (o : Option LogicalType). unless (is_some o) unknown_column) q;
-}
-
-pub column_unknown : (k : LogicalType) (names : Names) → positions k names ≡ None → binding_fault k (column names) ≡ Some unknown_column
-column_unknown k names p = ap (λ o. unless (is_some (option_and_then (type_at k) o)) unknown_column) p
-
-pub ruleset columns = (column_bound, column_unknown)
+    (sym b.behind ∙ ap Some (append-nil before), sym b.inside ∙ ap Some (sym (made ∙ inside_one n part)))

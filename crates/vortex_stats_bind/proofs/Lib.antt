@@ -2,9 +2,9 @@ pub mod Alike
 pub mod BoundValues
 mod ClassTests
 mod Columns
+pub mod FormedLiterals
 pub mod Items
 pub mod Made
-mod Reasons
 pub mod ReplacedValues
 mod TextPatterns
 pub mod Truths

@@ -1,10 +1,11 @@
 //! Binding: columns become positions, and each node gets a type.
-ghost use Rattle.std.specs.Prelude.{◌≡◌, OnOk, IfOk, option_map};
-ghost use Rattle.vortex_model.specs.Path.{positions};
-ghost use Rattle.vortex_model_table.specs.Expression.{column, between, like, HasFormedLiterals};
+ghost use Rattle.std.specs.Prelude.{OnOk, IfOk};
+ghost use Rattle.vortex_model.specs.LogicalType.{LogicalType};
+ghost use Rattle.vortex_model.specs.Valid.{IsContent};
+ghost use Rattle.vortex_model_table.specs.Expression.{literal, column, HasFormedLiterals};
 ghost use Rattle.vortex_dtype_core.specs.View.{type_of};
+ghost use Rattle.vortex_scalar_core.specs.Scalar.{scalar_type, scalar_content};
 ghost use Rattle.vortex_stats_bind.specs.Bindings.{IsBinding, IsBoxed, AreBound, IsResolved};
-ghost use Rattle.vortex_stats_expr.specs.Tree.{is_strict};
 
 use crate::bound::{BoundColumn, BoundExpression, BoundNode};
 use crate::make::{
@@ -14,9 +15,9 @@ use std::alloc::{AllocError, Global};
 use vortex_dtype_core::dtype::DType;
 use vortex_dtype_ptype::field_names::FieldNames;
 use vortex_dtype_ptype::nullability::Nullability;
+use vortex_scalar_core::scalar::Scalar;
 use vortex_stats_expr::error::StatsError;
 use vortex_stats_expr::expression::{Expression, Node};
-use vortex_stats_expr::options::{BetweenOptions, LikeOptions};
 use vortex_stats_expr::types::field_named;
 
 /// Resolves the columns of an expression over rows of this type, as Vortex's `Expression::bind`.
@@ -42,7 +43,7 @@ fn bind_boxed(
     ensures formed { OnOk result (HasFormedLiterals e.now) }
 {
     match &e.node {
-        Node::Literal(value) => lit(alloc, value.clone()?),
+        Node::Literal(value) => bind_literal(alloc, value),
         Node::Column(path) => bind_column(alloc, path, dtype),
         Node::Compare(comparison, x, y) => {
             let (left, right) = bind_both(alloc, x, y, dtype)?;
@@ -103,6 +104,15 @@ fn bind_both(
     let first = bind_boxed(alloc, left, dtype)?;
     let second = bind_boxed(alloc, right, dtype)?;
     Ok((first, second))
+}
+
+#[tactic(auto, using(crate::proofs::FormedLiterals::scalar_is_formed))]
+fn bind_literal(alloc: Global, value: &Scalar) -> Result<Box<BoundExpression>, StatsError>
+    ensures bound { (k : LogicalType)
+        → IsBoxed k (literal (scalar_type value.now) (scalar_content value.now)) result }
+    ensures formed { IsContent (scalar_type value.now) (scalar_content value.now) }
+{
+    lit(alloc, value.clone()?)
 }
 
 // The column at a path of names.

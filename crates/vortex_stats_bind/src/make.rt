@@ -2,10 +2,12 @@
 //! `expr::bound`.
 //!
 //! What is bound is handed on in boxes, in which it ends up anyway.
-ghost use Rattle.std.specs.Prelude.{◌≡◌, IfOk, IfErr};
-ghost use Rattle.vortex_model.specs.LogicalType.{LogicalType};
+ghost use Rattle.std.specs.Prelude.{◌≡◌, ◌&&◌, IfOk, IfErr};
+ghost use Rattle.vortex_model.specs.LogicalType.{LogicalType, equal_ignoring_nullability};
 ghost use Rattle.vortex_model_table.specs.Expression.{Expression, literal, compare, both, either, negation, is_null, is_not_null, is_nan, between, like, row_count, statistic};
+ghost use Rattle.vortex_dtype_core.specs.Parts.{is_boolean_type, is_utf8_type};
 ghost use Rattle.vortex_scalar_core.specs.Scalar.{scalar_type, scalar_content};
+ghost use Rattle.vortex_stats_bind.specs.Bound.{value_type};
 ghost use Rattle.vortex_stats_bind.specs.Bindings.{IsBound, IsBoxed};
 ghost use Rattle.vortex_stats_bind.specs.Placeholders.{IsPlaceholderOf, IsPlaceholderFault};
 ghost use Rattle.vortex_stats_expr.specs.Tree.{comparison_of, is_strict};
@@ -15,7 +17,7 @@ use crate::bound::{
     BoundExpression, bound_and, bound_between, bound_compare, bound_is_nan, bound_is_not_null,
     bound_is_null, bound_like, bound_literal, bound_not, bound_or, bound_row_count, bound_stat,
 };
-use std::alloc::Global;
+use std::alloc::{AllocError, Global};
 use vortex_scalar_core::scalar::Scalar;
 use vortex_stats_expr::aggregate::AggregateFn;
 use vortex_stats_expr::aggregate_dtype::aggregate_dtype;
@@ -48,6 +50,13 @@ pub fn compare(
     Ok(bound_compare(alloc, comparison, left, right)?)
 }
 
+fn are_boolean(left: &BoundExpression, right: &BoundExpression) -> bool
+    ensures { result ≡ (is_boolean_type (value_type left.now)
+        && is_boolean_type (value_type right.now)) }
+{
+    left.is_boolean() && right.is_boolean()
+}
+
 /// AND in Kleene's logic. `NotBoolean` where a side isn't boolean.
 pub fn and(
     alloc: Global,
@@ -57,7 +66,7 @@ pub fn and(
     ensures { (k : LogicalType) (x y : Expression) → IsBound k x left.value
         → IsBound k y right.value → IsBoxed k (both x y) result }
 {
-    if !(left.is_boolean() && right.is_boolean()) {
+    if !are_boolean(&left, &right) {
         return Err(StatsError::NotBoolean);
     }
     Ok(bound_and(alloc, left, right)?)
@@ -72,7 +81,7 @@ pub fn or(
     ensures { (k : LogicalType) (x y : Expression) → IsBound k x left.value
         → IsBound k y right.value → IsBoxed k (either x y) result }
 {
-    if !(left.is_boolean() && right.is_boolean()) {
+    if !are_boolean(&left, &right) {
         return Err(StatsError::NotBoolean);
     }
     Ok(bound_or(alloc, left, right)?)
@@ -125,6 +134,21 @@ pub fn is_nan(
     Ok(bound_is_nan(alloc, input)?)
 }
 
+// Whether both ends are of the value's type, nullability aside.
+fn are_alike(
+    value: &BoundExpression,
+    lower: &BoundExpression,
+    upper: &BoundExpression,
+) -> Result<bool, AllocError>
+    ensures { IfOk result (λ alike. alike
+        ≡ (equal_ignoring_nullability (value_type value.now) (value_type lower.now)
+        && equal_ignoring_nullability (value_type value.now) (value_type upper.now))) }
+{
+    let is_lower = value.is_alike(lower)?;
+    let is_upper = value.is_alike(upper)?;
+    Ok(is_lower && is_upper)
+}
+
 /// Whether the value lies between the two ends. `UnequalTypes` where an end is of another type than
 /// the value, nullability aside.
 pub fn between(
@@ -139,10 +163,17 @@ pub fn between(
         → IsBoxed k (between x lo hi (is_strict options.lower_strict)
         (is_strict options.upper_strict)) result }
 {
-    if !(value.is_alike(&lower)? && value.is_alike(&upper)?) {
+    if !are_alike(&value, &lower, &upper)? {
         return Err(StatsError::UnequalTypes);
     }
     Ok(bound_between(alloc, value, lower, upper, options)?)
+}
+
+fn are_utf8(value: &BoundExpression, pattern: &BoundExpression) -> bool
+    ensures { result ≡ (is_utf8_type (value_type value.now)
+        && is_utf8_type (value_type pattern.now)) }
+{
+    value.is_utf8() && pattern.is_utf8()
 }
 
 /// Whether the whole text matches the pattern. `UnequalTypes` where a side isn't of UTF-8 strings.
@@ -156,7 +187,7 @@ pub fn like(
         → IsBound k form pattern.value
         → IsBoxed k (like x form options.negated options.case_insensitive) result }
 {
-    if !(value.is_utf8() && pattern.is_utf8()) {
+    if !are_utf8(&value, &pattern) {
         return Err(StatsError::UnequalTypes);
     }
     Ok(bound_like(alloc, value, pattern, options)?)
