@@ -201,7 +201,9 @@ pub mod expr {
     pub use vortex_stats_expr::stat_iter::StatIter;
     pub use vortex_stats_mask::column::Column;
     pub use vortex_stats_mask::column::Items;
+    pub use vortex_stats_mask::column::Numbers;
     pub use vortex_stats_mask::column::Strings;
+    pub use vortex_stats_mask::column::ValidRows;
     pub use vortex_stats_mask::compare::compare_literal;
     pub use vortex_stats_mask::pairs::compare_columns;
     pub use vortex_stats_match::like::has_backslash;
