@@ -1,9 +1,10 @@
-use Rattle.std.proofs.Common.{◌≡◌, ◌∙◌, ◌++◌, ◌∷◌, [], refl, sym, subst, Bool, length, replicate, true, false, not, pos}
+use Rattle.std.proofs.Common.{◌≡◌, ◌∙◌, ◌++◌, ◌∷◌, [], sym, subst, length, replicate, true, false, pos}
 use Rattle.std.proofs.lemmas.Result.{on_ok_weaker}
 use Rattle.vortex_arrays_model.specs.Layout.{string_content}
 use Rattle.vortex_arrays_core.specs.LayoutOf.{strings_of}
 use Rattle.vortex_model.specs.Content.{boolean, integer, null}
 use Rattle.vortex_table_zonemaps.specs.Column.{IsColumnOf, IsEntryOf}
+use Rattle.vortex_table_zonemaps.specs.Known.{IsPut}
 use Rattle.vortex_table_zonemaps.specs.Views.{AreViewsKnown}
 use Rattle.vortex_table_zonemaps.proofs.Columns.{known_kept, known_put, null_more}
 use Rattle.vortex_table_zonemaps.proofs.column.ZoneColumn.put_entry.Goals as goal
@@ -54,7 +55,8 @@ returns-in-Integers-Integer-clause-kept c = λ cs many is.
 
 pub returns-in-Integers-Integer-clause-put : goal.returns-in-Integers-Integer-clause-put
 returns-in-Integers-Integer-clause-put c = on_ok_weaker c.put-in-Integers-Integer.result (λ put. λ cs d many says is.
-    known_put integer c.in-Integers-Integer.known c.put-in-Integers-Integer.new.self cs c.args.count many (subst (λ s. IsColumnOf s cs) c.in-Integers-Integer.is-0 is) c.in-Integers-Integer.number true d put
+    known_put integer c.in-Integers-Integer.known c.put-in-Integers-Integer.new.self cs c.args.count many (subst (λ s. IsColumnOf s cs) c.in-Integers-Integer.is-0 is) c.in-Integers-Integer.number true d
+    (subst (λ z. IsPut c.args.count z true c.in-Integers-Integer.known c.put-in-Integers-Integer.new.self) c.in-Integers-Integer.number-is put)
     (sym (subst (λ e. IsEntryOf e d) c.in-Integers-Integer.is-1 says))) c.put-in-Integers-Integer.ensures.put
 
 pub returns-in-Strings-Absent-clause-put : goal.returns-in-Strings-Absent-clause-put
@@ -67,14 +69,10 @@ returns-in-Strings-Absent-clause-put c = on_ok_weaker c.put_null.result (λ put.
 
 pub returns-else-not-is_held-clause-put : goal.returns-else-not-is_held-clause-put
 returns-else-not-is_held-clause-put c = λ cs d many says is.
-    let was = subst (λ s. IsColumnOf s cs) c.in-Strings-String.is-0 is in let held = held_of c.in_ok-is_held-in-Strings-String.is_held c.if-not-is_held.false in
+    let was = subst (λ s. IsColumnOf s cs) c.in-Strings-String.is-0 is in let held = c.if-not-is_held.false in
     let kind = c.in-Strings-String.kind in let own = c.in-Strings-String.views.kind in let new = c.put-in-Strings-String.new.self in
     let told : d ≡ string_content (strings_of kind) c.in-Strings-String.value.now = subst (λ e. IsEntryOf e d) c.in-Strings-String.is-1 says in
     let put = c.in_ok-is_held-in-Strings-String.ensures.put held (string_content (strings_of own)) cs many was in
     subst (λ k. AreViewsKnown (string_content (strings_of k)) new (cs ++ d ∷ [])) (sym c.put-in-Strings-String.ensures.kind)
     (subst (λ x. AreViewsKnown (string_content (strings_of own)) new (cs ++ x ∷ []))
     ((λ i. string_content (strings_of (c.in_ok-is_held-in-Strings-String.ensures.alike held i)) c.in-Strings-String.value.now) ∙ sym told) put)
-  where
-    held_of : (b : Bool) → not b ≡ false → b ≡ true
-    held_of true h = refl
-    held_of false h = sym h
