@@ -105,8 +105,4 @@ pub refused_without : (o : Option Refusal) (b : Bool) (x : TableError) → b ≡
 refused_without o b error.RuleFault none h = let g : true ≡ false = sym h.1 ∙ none in absurd (cc (g))
 refused_without o b x none h = h
 
-pub ruleset without = (one_proof, faultless_without, refused_without)
-
-pub ruleset rewritten = (is_predicate, refused_so, of_any)
-
 pub ruleset refusals = (fault_first, fault_second, refused_first, refused_behind)

@@ -93,7 +93,6 @@ pub fn prepare_with(
 
 /// Tests the paths and then the predicate against the type, and prepares what every chunk needs.
 /// No row is read.
-#[tactic(auto, using(crate::proofs::Refusals::without))]
 pub fn prepare(
     alloc: Global,
     dtype: &DType,

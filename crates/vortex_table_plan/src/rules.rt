@@ -30,7 +30,6 @@ pub(crate) fn rule_error(error: StatsError) -> TableError
 }
 
 /// The proof that no row satisfies a predicate.
-#[tactic(auto, using(crate::proofs::Refusals::rewritten))]
 pub(crate) fn falsify_with(
     alloc: Global,
     predicate: &BoundExpression,
@@ -53,7 +52,6 @@ pub(crate) fn falsify_with(
 }
 
 /// The proof that every row satisfies a predicate.
-#[tactic(auto, using(crate::proofs::Refusals::rewritten))]
 pub(crate) fn satisfy_with(
     alloc: Global,
     predicate: &BoundExpression,
