@@ -1,9 +1,14 @@
 //! Laws of bounds, of merges and of wanted truths. Each is the clause of a function without
 //! arguments, or of one that makes the calls.
+pub use vortex_stats_bind::laws::binding_keeps_values;
 pub use vortex_stats_bound::laws::{
     lower_unions_associate, lower_unions_commute, scalar_lower_unions_associate,
     scalar_lower_unions_commute, scalar_upper_unions_associate, scalar_upper_unions_commute,
     upper_unions_associate, upper_unions_commute,
+};
+pub use vortex_stats_evaluate::laws::{
+    bound_expressions_say_the_same, bound_falsifier, bound_satisfier, falsified_zones_hold_none,
+    satisfied_zones_hold_all,
 };
 pub use vortex_stats_expr::bitset::pruning_statistics_are_five;
 pub use vortex_stats_laws::laws::{

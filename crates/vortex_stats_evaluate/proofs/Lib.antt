@@ -1,7 +1,8 @@
 mod Adding
-mod Binding
-mod Faults
 mod Found
+mod Refused
 mod RowTruths
+mod Saying
 mod Telling
 pub mod Told
+mod Zones

@@ -1,5 +1,5 @@
 -- Truths at the rows of an array.
-use Rattle.std.proofs.Common.{not, ◌≡◌, refl, sym, ap, ◌∙◌, subst, ℕ, ◌+◌, ◌<◌, ◌≤◌, List, [], ◌∷◌, ◌++◌, map, take, Bool, true, false, ◌||◌, Option, ◌-◌, ◌^◌, min, arith}
+use Rattle.std.proofs.Common.{not, ◌≡◌, refl, sym, ap, ◌∙◌, subst, ℕ, ◌+◌, ◌<◌, ◌≤◌, List, [], ◌∷◌, ◌++◌, map, take, Bool, true, false, ◌||◌, Option, None, ◌-◌, ◌^◌, min, arith}
 use Rattle.std.proofs.lemmas.Bool.Decides.{nat_tests}
 use Rattle.std.proofs.lemmas.List.{map-append, take_more, take_all}
 use Rattle.std.specs.List.{zip}
@@ -9,16 +9,18 @@ use Rattle.vortex_model_table.specs.Scan.{saturated}
 use Rattle.vortex_arrays_model.specs.Layout.{Layout, len_of, content_at, rows_of}
 use Rattle.vortex_arrays_model.proofs.RowsLemmas.{row_at_position, row_count}
 use Rattle.vortex_model_table.specs.Truth.{compared, kleene_and, kleene_or, kleene_not, liked, end_of}
-use Rattle.vortex_stats_bind.specs.Bound.{Bound, fixed, place, test, each, some, opposite, null_test, value_test, range_test, match_test, count_of_rows, placeholder, bound_value, evaluate_bound}
+use Rattle.vortex_stats_bind.specs.Bound.{Bound, fixed, place, test, each, some, opposite, null_test, value_test, nan_test, range_test, match_test, count_of_rows, placeholder, bound_value, evaluate_bound}
 use Rattle.vortex_stats_bind.specs.OperandValue.{boolean_in}
-use Rattle.vortex_stats_bind.specs.Stats.{IsBinding, of_rows_alone}
+use Rattle.vortex_stats_bind.specs.Replaced.{answered, replaced, typed_null}
+use Rattle.vortex_stats_bind.proofs.ReplacedValues.{replacing_keeps_values}
 use Rattle.vortex_stats_mask.specs.Wanted.{is_wanted}
 use Rattle.vortex_stats_select.specs.Wants.{wanted_rows}
 use Rattle.vortex_stats_select.proofs.PairLemmas.{paired}
 use Rattle.vortex_stats_evaluate.specs.declared.column.ColumnStats.{ColumnStats}
 use Rattle.vortex_stats_evaluate.specs.RowCounts.{counts_rows, row_of}
-use Rattle.vortex_stats_evaluate.specs.Scopes.{at_row, over_rows, told_by}
+use Rattle.vortex_stats_evaluate.specs.Scopes.{at_row, over_rows, told_by, answers_by}
 use Rattle.vortex_stats_evaluate.specs.Truths.{truth_by}
+use Rattle.vortex_stats_evaluate.proofs.Telling.{answers_worth}
 
 -- ---- null rows
 
@@ -28,31 +30,20 @@ null_part (i ∷ is) = null_part is
 
 pub ruleset nulls = (null_part)
 
-pub none_known : (n : ℕ) (b : Bound) (truth : Option Bool) →
-    truth ≡ boolean_in (evaluate_bound (row_of n null) b) →
-    truth ≡ boolean_in (evaluate_bound (of_rows_alone n) b)
-none_known n b truth e = e ∙ (λ i. boolean_in (evaluate_bound (record {
-  columns = λ is. null_part is i;
-  statistics = λ x a. null;
-  rows = n;
-}) b))
-
-pub ruleset nothing_known = (none_known)
-
 -- ---- where no number of rows is asked for
 
-or_left : (a b : Bool) → a || b ≡ false → a ≡ false
+pub or_left : (a b : Bool) → a || b ≡ false → a ≡ false
 or_left true b h = absurd (cc (h))
 or_left false b h = refl
 
-or_right : (a b : Bool) → a || b ≡ false → b ≡ false
+pub or_right : (a b : Bool) → a || b ≡ false → b ≡ false
 or_right true b h = absurd (cc (h))
 or_right false b h = h
 
 among : (n : ℕ) (row : Content) (b : Bound) → counts_rows b ≡ false →
     evaluate_bound (row_of n row) b ≡ bound_value b row
-among n row (fixed c) h = refl
-among n row (place is) h = refl
+among n row (fixed k c) h = refl
+among n row (place xs is k) h = refl
 among n row (test o x y) h =
     λ i. compared o (among n row x (or_left (counts_rows x) (counts_rows y) h) i)
     (among n row y (or_right (counts_rows x) (counts_rows y) h) i)
@@ -65,6 +56,7 @@ among n row (some x y) h =
 among n row (opposite x) h = ap kleene_not (among n row x h)
 among n row (null_test x) h = ap (λ c. boolean (is_null c)) (among n row x h)
 among n row (value_test x) h = ap (λ c. boolean (not (is_null c))) (among n row x h)
+among n row (nan_test x) h = refl
 among n row (range_test x lo hi s t) h =
     let ends = or_left (counts_rows x || counts_rows lo) (counts_rows hi) h in
     let top = or_right (counts_rows x || counts_rows lo) (counts_rows hi) h in
@@ -73,11 +65,12 @@ among n row (range_test x lo hi s t) h =
     (among n row x (or_left (counts_rows x) (counts_rows lo) ends) i))
     (compared (end_of t) (among n row x (or_left (counts_rows x) (counts_rows lo) ends) i)
     (among n row hi top i))
-among n row (match_test x form negated) h =
+among n row (match_test x form negated true) h = refl
+among n row (match_test x form negated false) h =
     λ i. liked (among n row x (or_left (counts_rows x) (counts_rows form) h) i)
     (among n row form (or_right (counts_rows x) (counts_rows form) h) i) negated
 among n row count_of_rows h = absurd (cc (h))
-among n row (placeholder x a) h = refl
+among n row (placeholder x a k) h = refl
 
 -- ---- by masks
 
@@ -129,19 +122,25 @@ pub ruleset tested = (tested_more, tested_all)
 
 -- ---- where placeholders are bound
 
-pub rows_bound : (known : List ColumnStats) (n : ℕ) (b tree : Bound) (rows : List Content)
-    (truths : List (Option Bool)) → IsBinding (told_by known n) b tree →
-    truths ≡ map (λ row. boolean_in (evaluate_bound (row_of n row) tree)) rows →
-    truths ≡ map (λ row. boolean_in (evaluate_bound (at_row known n row) b)) rows
-rows_bound known n b tree rows truths h e =
-    e ∙ (λ i. map (λ row. boolean_in (h.value (at row) (λ x a. null) n i)) rows)
+module _ (known : List ColumnStats) (n : ℕ) (b bound : Bound)
+    (is : bound ≡ replaced (answered None (answers_by known n) (λ k. typed_null k)) b) where
+  bound_at : (row : Content) →
+      evaluate_bound (row_of n row) bound ≡ evaluate_bound (at_row known n row) b
+  bound_at row = ap (evaluate_bound (row_of n row)) is
+      ∙ replacing_keeps_values (row_of n row) (at_row known n row)
+      (answered None (answers_by known n) (λ k. typed_null k)) b
+      (answers_worth known n (at row) (λ x a. null))
 
-pub proof_bound : (known : List ColumnStats) (n : ℕ) (b tree : Bound) (truth : Option Bool) →
-    IsBinding (told_by known n) b tree →
-    truth ≡ boolean_in (evaluate_bound (of_rows_alone n) tree) →
-    truth ≡ boolean_in (evaluate_bound (over_rows known n) b)
-proof_bound known n b tree truth h e =
-    e ∙ ap boolean_in (h.value (λ is. null) (λ x a. null) n)
+  pub rows_bound : (rows : List Content) (truths : List (Option Bool)) →
+      truths ≡ map (λ row. boolean_in (evaluate_bound (row_of n row) bound)) rows →
+      truths ≡ map (λ row. boolean_in (evaluate_bound (at_row known n row) b)) rows
+  rows_bound rows truths e = e ∙ (λ i. map (λ row. boolean_in (bound_at row i)) rows)
+
+  pub proof_bound : (truth : Option Bool) →
+      truth ≡ boolean_in (evaluate_bound (row_of n null) bound) →
+      truth ≡ boolean_in (evaluate_bound (over_rows known n) b)
+  proof_bound truth e = e ∙ ap boolean_in (bound_at null) ∙ (λ i. boolean_in (evaluate_bound
+      (record { columns = λ is. null_part is i; statistics = told_by known n; rows = n }) b))
 
 -- counts stop at the greatest number of 64 bits
 pub stopped : (n : ℕ) → min n (2 ^ 64 - 1) ≡ saturated n

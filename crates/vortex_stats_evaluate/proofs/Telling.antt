@@ -1,8 +1,8 @@
 -- What the statistics of a column tell of placeholders.
 use Rattle.std.proofs.Common.{◌≡◌, refl, sym, ap, ◌∙◌, ℕ, List, [], ◌∷◌, Bool, true, false, Option, Some, None, subst, inl, inr}
 use Rattle.std.proofs.lemmas.Bool.{cases_eq, ne_eqb}
-use Rattle.std.specs.Prelude.{is_some, if◌then◌else◌, ◌==◌}
-use Rattle.std.specs.Option.{option_map_or}
+use Rattle.std.specs.Prelude.{is_some, if◌then◌else◌, ◌==◌, option_map, option_and_then}
+use Rattle.std.specs.Option.{option_map_or, unwrap_or}
 use Rattle.vortex_model.specs.LogicalType.{LogicalType}
 use Rattle.vortex_model.specs.Content.{Content, null}
 use Rattle.vortex_model_table.specs.Expression.{Aggregate}
@@ -11,7 +11,8 @@ use Rattle.vortex_model_table.specs.Statistics.{placeholder_value}
 use Rattle.vortex_model_table.specs.Typing.{type_of_aggregate}
 use Rattle.vortex_model_table.proofs.ContentOrder.{true_left, true_right}
 use Rattle.vortex_dtype_core.specs.View.{type_of}
-use Rattle.vortex_stats_bind.specs.Bound.{Bound, place, place_of}
+use Rattle.vortex_stats_bind.specs.Bound.{Bound, Provided, fixed, place, place_of, evaluate_bound}
+use Rattle.vortex_stats_bind.specs.Replaced.{answered, typed_null, HasValuesOf}
 use Rattle.vortex_stats_expr.specs.declared.error.StatsError.{StatsError}
 use Rattle.vortex_stats_expr.specs.declared.error.StatsError.TheVariants as error
 use Rattle.vortex_stats_expr.specs.declared.stat.Stat.{Stat}
@@ -24,7 +25,7 @@ use Rattle.vortex_stats_set.specs.Sets.{value_in}
 use Rattle.vortex_stats_set.specs.Valid.{is_known_of, are_valid_for}
 use Rattle.vortex_stats_evaluate.specs.Told.{is_tellable, IsStatFault, told_by as told_by_stat}
 use Rattle.vortex_stats_evaluate.specs.declared.column.ColumnStats.{ColumnStats}
-use Rattle.vortex_stats_evaluate.specs.Scopes.{Set, stats_at, told_by, told_in, told_of}
+use Rattle.vortex_stats_evaluate.specs.Scopes.{Set, stats_at, told_by, told_in, answer_of, answers_by}
 
 -- ---- a statistic has its number alone
 
@@ -84,30 +85,68 @@ tellable k xs a h = of (told_by_stat a)
 
 -- ---- placeholders over columns
 
-pub told_value : (c : ColumnStats) (rows : ℕ) (a : Aggregate) (l : LogicalType) (d : Content) →
+pub column_answer : (c : ColumnStats) (rows : ℕ) (a : Aggregate) (l : LogicalType) (d : Content) →
     type_of_aggregate a (type_of c.dtype) ≡ Some l →
-    d ≡ placeholder_value a (statistics_in (raw_pairs c.stats)) rows → d ≡ told_of c rows a
-told_value c rows a l d t e = e ∙ sym (ap (λ o. if is_some o then placeholder_value a (statistics_in
-    (raw_pairs c.stats)) rows else null) t)
+    d ≡ placeholder_value a (statistics_in (raw_pairs c.stats)) rows →
+    Some (fixed l d) ≡ answer_of c rows a
+column_answer c rows a l d t e =
+    ap (λ v. Some (fixed l v)) e ∙ sym (ap (option_map (λ m. fixed m (placeholder_value a
+    (statistics_in (raw_pairs c.stats)) rows))) t)
 
-pub not_told : (c : ColumnStats) (rows : ℕ) (a : Aggregate) (e : StatsError) →
+pub no_answer : (c : ColumnStats) (rows : ℕ) (a : Aggregate) (e : StatsError) →
     are_valid_for (type_of c.dtype) c.stats ≡ true →
     IsStatFault e (type_of_aggregate a (type_of c.dtype))
-    (is_tellable (type_of c.dtype) (raw_pairs c.stats) a) → told_of c rows a ≡ null
-not_told c rows a error.UnsupportedAggregate v h = ap (λ o. if is_some o then placeholder_value a
-    (statistics_in (raw_pairs c.stats)) rows else null) h
-not_told c rows a error.InvalidStat v h =
+    (is_tellable (type_of c.dtype) (raw_pairs c.stats) a) → None ≡ answer_of c rows a
+no_answer c rows a error.UnsupportedAggregate v h =
+    sym (ap (option_map (λ m. fixed m (placeholder_value a (statistics_in (raw_pairs c.stats))
+    rows))) h)
+no_answer c rows a error.InvalidStat v h =
     let t = tellable (type_of c.dtype) c.stats a v in
     absurd (cc (h.1, t))
-not_told c rows a e v h = absurd h
+no_answer c rows a e v h = absurd h
 
 pub of_place : (known : List ColumnStats) (rows : ℕ) (b : Bound) (is : Positions) (a : Aggregate) →
-    b ≡ place is → told_by known rows b a ≡ told_in (stats_at known is) rows a
-of_place known rows b is a h = ap (λ x. told_by known rows x a) h
+    place_of b ≡ Some is →
+    answers_by known rows b a ≡ option_and_then (λ c. answer_of c rows a) (stats_at known is)
+of_place known rows (place xs js k) is a h =
+    ap (option_and_then (λ is. option_and_then (λ c. answer_of c rows a) (stats_at known is))) h
+of_place known rows b is a h = absurd (cc (h))
 
 pub of_no_place : (known : List ColumnStats) (rows : ℕ) (b : Bound) (a : Aggregate) →
-    place_of b ≡ None → told_by known rows b a ≡ null
-of_no_place known rows (place is) a h = absurd (cc (h))
+    place_of b ≡ None → answers_by known rows b a ≡ None
+of_no_place known rows (place xs is k) a h = absurd (cc (h))
 of_no_place known rows b a h = refl
 
-pub ruleset told = (told_value, not_told, of_place, of_no_place)
+pub ruleset answered_by_scopes = (column_answer, no_answer, of_place, of_no_place)
+
+-- ---- what is answered has the value of the statistic
+
+worth_in : (p : Provided) (rows : ℕ) (a : Aggregate) (k : LogicalType) (o : Option ColumnStats) →
+    evaluate_bound p (unwrap_or (option_and_then (λ c. answer_of c rows a) o) (typed_null k))
+    ≡ told_in o rows a
+worth_in p rows a k None = refl
+worth_in p rows a k (Some c) = by_type (type_of_aggregate a (type_of c.dtype))
+  where
+    by_type : (o : Option LogicalType) → evaluate_bound p (unwrap_or (option_map (λ l. fixed l
+        (placeholder_value a (statistics_in (raw_pairs c.stats)) rows)) o) (typed_null k))
+        ≡ (if is_some o then placeholder_value a (statistics_in (raw_pairs c.stats)) rows else null)
+    by_type None = refl
+    by_type (Some l) = refl
+
+pub answers_worth : (known : List ColumnStats) (rows : ℕ) (columns : Positions → Content)
+    (left : Bound → Aggregate → Content) →
+    HasValuesOf (record { columns = columns; statistics = left; rows = rows })
+    (record { columns = columns; statistics = told_by known rows; rows = rows })
+    (answered None (answers_by known rows) (λ k. typed_null k))
+answers_worth known rows columns left = record {
+  statistics = of;
+  columns = λ xs is k. refl;
+  rows = refl;
+}
+  where
+    of : (x : Bound) (a : Aggregate) (l : LogicalType) → evaluate_bound
+        (record { columns = columns; statistics = left; rows = rows })
+        (unwrap_or (answers_by known rows x a) (typed_null l)) ≡ told_by known rows x a
+    of (place xs is k) a l = worth_in (record { columns = columns; statistics = left; rows = rows })
+        rows a l (stats_at known is)
+    of x a l = refl

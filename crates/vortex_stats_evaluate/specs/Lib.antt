@@ -1,11 +1,10 @@
-pub mod Faults
-pub mod Finding
 pub mod Meters
-pub mod Placeholders
+pub mod Names
+pub mod Reading
+pub mod Readers
 pub mod Refusals
 pub mod RowCounts
+pub mod Said
 pub mod Scopes
-pub mod Truths
-pub mod Names
 pub mod Told
-pub mod Reading
+pub mod Truths

@@ -1,5 +1,5 @@
 -- What columns and placeholders stand for where expressions are evaluated.
-use Rattle.std.specs.Prelude.{◌≡◌, ℕ, List, [], ◌∷◌, ◌++◌, Option, Some, None, false, if◌then◌else◌, is_some}
+use Rattle.std.specs.Prelude.{◌≡◌, ℕ, List, [], ◌∷◌, ◌++◌, Option, Some, None, false, if◌then◌else◌, is_some, option_map, option_and_then}
 use Rattle.vortex_model.specs.LogicalType.{LogicalType}
 use Rattle.vortex_model.specs.Content.{Content, null}
 use Rattle.vortex_model.specs.Path.{Names, Positions, positions, at, eq_positions, type_of_column, column as column_value}
@@ -9,7 +9,7 @@ use Rattle.vortex_model_table.specs.Truth.{Given}
 use Rattle.vortex_model_table.specs.Typing.{type_of_aggregate}
 use Rattle.vortex_dtype_core.specs.View.{type_of}
 use Rattle.vortex_scalar_value.specs.declared.scalar_value.ScalarValue.{ScalarValue}
-use Rattle.vortex_stats_bind.specs.Bound.{Bound, Provided, place}
+use Rattle.vortex_stats_bind.specs.Bound.{Bound, Provided, fixed, place}
 use Rattle.vortex_stats_bound.specs.declared.precision.Precision as known
 use Rattle.vortex_stats_set.specs.Known.{raw_pairs}
 use Rattle.vortex_stats_set.specs.Said.{statistics_in}
@@ -62,8 +62,19 @@ told_in (Some c) rows a = told_of c rows a
 
 -- what a placeholder stands for: of a column what its statistics tell, and null of all else
 abbrev pub told_by : List ColumnStats → ℕ → Bound → Aggregate → Content
-told_by known rows (place is) a = told_in (stats_at known is) rows a
+told_by known rows (place xs is k) a = told_in (stats_at known is) rows a
 told_by known rows b a = null
+
+-- what answers it: a literal of that, of the statistic's type
+abbrev pub answer_of : ColumnStats → ℕ → Aggregate → Option Bound
+answer_of c rows a =
+    option_map (λ l. fixed l (placeholder_value a (statistics_in (raw_pairs c.stats)) rows))
+    (type_of_aggregate a (type_of c.dtype))
+
+abbrev pub answers_by : List ColumnStats → ℕ → Bound → Aggregate → Option Bound
+answers_by known rows (place xs is k) a =
+    option_and_then (λ c. answer_of c rows a) (stats_at known is)
+answers_by known rows b a = None
 
 -- ---- where expressions are evaluated, by positions
 

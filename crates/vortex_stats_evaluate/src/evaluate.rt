@@ -7,10 +7,10 @@ ghost use Rattle.vortex_stats_evaluate.specs.Refusals.{IsEvaluable, IsTruthFault
 ghost use Rattle.vortex_stats_evaluate.specs.Scopes.{at_row, over_rows};
 ghost use Rattle.vortex_stats_evaluate.specs.Meters.{tested, proved};
 
-use crate::bind::BoundExpression;
 use crate::rows::{truth_over, truths_of};
 use crate::scope::Scope;
 use std::alloc::Global;
+use vortex_stats_bind::bound::BoundExpression;
 use vortex_stats_bind::stats::bind_stats;
 use vortex_stats_expr::error::StatsError;
 use vortex_stats_rules::meter::Meter;
@@ -29,7 +29,7 @@ pub fn evaluate(
     meter: &mut Meter,
 ) -> Result<Vec<Option<bool>>, StatsError>
     ensures truths { IfOk result (λ truths. truths.items ≡ map (λ row. boolean_in
-        (evaluate_bound (at_row scope.now.columns.items scope.now.rows row) e.now.tree))
+        (evaluate_bound (at_row scope.now.columns.items scope.now.rows row) e.now))
         (rows_of scope.now.array)) }
     ensures evaluable { OnOk result (IsEvaluable e.now) }
     ensures refused { IfErr result (IsTruthFault e.now) }
@@ -37,8 +37,8 @@ pub fn evaluate(
     ensures uncounted { OnErr result (meter.new ≡ meter.old) }
 {
     check_truth(e)?;
-    let tree = bind_stats(alloc, &e.tree, scope)?;
-    let truths = truths_of(alloc, &tree, &scope.array, scope.rows as u64)?;
+    let bound = bind_stats(alloc, e, scope)?;
+    let truths = truths_of(alloc, &bound, &scope.array, scope.rows as u64)?;
     let len = scope.array.len() as u64;
     meter.rows_tested = meter.rows_tested.saturating_add(len);
     Ok(truths)
@@ -58,15 +58,15 @@ pub fn prove(
     meter: &mut Meter,
 ) -> Result<Option<bool>, StatsError>
     ensures truth { IfOk result (λ truth. truth ≡ boolean_in
-        (evaluate_bound (over_rows scope.now.columns.items scope.now.rows) e.now.tree)) }
+        (evaluate_bound (over_rows scope.now.columns.items scope.now.rows) e.now)) }
     ensures provable { OnOk result (IsProvable e.now) }
     ensures refused { IfErr result (IsProofFault e.now) }
     ensures counted { OnOk result (meter.new ≡ proved meter.old) }
     ensures uncounted { OnErr result (meter.new ≡ meter.old) }
 {
     check_proof(e)?;
-    let tree = bind_stats(alloc, &e.tree, scope)?;
-    let truth = truth_over(&tree, scope.rows as u64);
+    let bound = bind_stats(alloc, e, scope)?;
+    let truth = truth_over(&bound, scope.rows as u64);
     meter.proofs = meter.proofs.saturating_add(1);
     Ok(truth)
 }
@@ -76,25 +76,25 @@ fn check_truth(e: &BoundExpression) -> Result<(), StatsError>
     ensures evaluable { OnOk result (IsEvaluable e.now) }
     ensures refused { IfErr result (IsTruthFault e.now) }
 {
-    if !e.has_truth {
+    if !e.has_truth() {
         return Err(StatsError::NotEvaluable);
     }
-    if !e.dtype.is_boolean() {
+    if !e.is_boolean() {
         return Err(StatsError::NotBoolean);
     }
     Ok(())
 }
 
 // Whether each part may stand in a proof, and then whether it is a boolean.
-#[tactic(auto, using(crate::proofs::Faults::of_proofs))]
+#[tactic(auto, using(crate::proofs::Refused::of_proofs))]
 fn check_proof(e: &BoundExpression) -> Result<(), StatsError>
     ensures provable { OnOk result (IsProvable e.now) }
     ensures refused { IfErr result (IsProofFault e.now) }
 {
-    if let Some(fault) = e.proof_fault {
+    if let Some(fault) = e.proof_fault() {
         return Err(fault);
     }
-    if !e.dtype.is_boolean() {
+    if !e.is_boolean() {
         return Err(StatsError::NotBoolean);
     }
     Ok(())

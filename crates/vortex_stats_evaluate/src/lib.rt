@@ -1,17 +1,17 @@
-//! Bound expressions, and their truths over rows and over what is known of rows.
+//! Truths of bound expressions over rows and over what is known of rows.
 //!
-//! `bind` resolves an expression once. `evaluate` then tells its truth at each row of a `Scope`,
-//! and `prove` that of a proof over the scope's statistics; a `Meter` counts both.
+//! `evaluate` tells the truth of a bound expression at each row of a `Scope`, and `prove` that of a
+//! proof over the scope's statistics; a `Meter` counts both. `laws` says what a reader of files may
+//! believe of proofs that it binds to its own statistics.
 //!
 //! Statistics read with their types: markers that name a statistic and its bound, what provides
 //! statistics, and the values of placeholders.
 #![tactic(auto)]
 
-pub mod bind;
 pub mod bound;
 pub mod column;
 pub mod evaluate;
-mod fault;
+pub mod laws;
 pub mod markers;
 pub mod provider;
 pub mod provider_ext;
@@ -20,5 +20,4 @@ mod rows;
 pub mod scope;
 pub mod stat_fn;
 pub mod stat_scalar;
-pub mod stats;
 pub mod stats_set_ext;

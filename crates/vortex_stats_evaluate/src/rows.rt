@@ -1,11 +1,11 @@
 //! Truths at rows, by whole columns where these tell them.
 ghost use Rattle.std.specs.Prelude.{◌≡◌, map, IfOk};
 ghost use Rattle.std.specs.List.{zip};
+ghost use Rattle.vortex_model.specs.Content.{null};
 ghost use Rattle.vortex_arrays_model.specs.Layout.{rows_of};
 ghost use Rattle.vortex_scalar_value.specs.View.{content_in};
 ghost use Rattle.vortex_stats_bind.specs.Bound.{evaluate_bound};
 ghost use Rattle.vortex_stats_bind.specs.OperandValue.{boolean_in};
-ghost use Rattle.vortex_stats_bind.specs.Stats.{of_rows_alone};
 ghost use Rattle.vortex_stats_evaluate.specs.RowCounts.{counts_rows, row_of};
 ghost use Rattle.vortex_stats_evaluate.specs.Truths.{truth_by};
 
@@ -13,7 +13,7 @@ use std::alloc::{AllocError, Global};
 use vortex_arrays_builder::rows::row_value;
 use vortex_arrays_core::array::ArrayRef;
 use vortex_scalar_value::scalar_value::ScalarValue;
-use vortex_stats_bind::bound::{BoundNode, BoundTree, Operands, part_at, value_of};
+use vortex_stats_bind::bound::{BoundExpression, BoundNode, Operands, part_at, value_of};
 use vortex_stats_bind::value::{Value, read, truth_of};
 use vortex_stats_expr::aggregate::AggregateFn;
 use vortex_stats_select::columns::ArrayColumns;
@@ -40,7 +40,7 @@ impl Operands for Row {
         }
     }
 
-    fn statistic<'a>(&'a self, _input: &BoundTree, _aggregate: AggregateFn) -> Value<'a> {
+    fn statistic<'a>(&'a self, _input: &BoundExpression, _aggregate: AggregateFn) -> Value<'a> {
         Value::Null
     }
 
@@ -49,54 +49,53 @@ impl Operands for Row {
     }
 }
 
-/// The truth of a tree without placeholders over so many rows of which nothing is known, where
-/// `None` is null.
-#[tactic(auto, using(crate::proofs::RowTruths::nothing_known))]
-pub(crate) fn truth_over(tree: &BoundTree, rows: u64) -> Option<bool>
-    ensures { result ≡ boolean_in (evaluate_bound (of_rows_alone rows) tree.now) }
+/// The truth of an expression without placeholders over so many rows of which nothing is known,
+/// where `None` is null.
+pub(crate) fn truth_over(e: &BoundExpression, rows: u64) -> Option<bool>
+    ensures { result ≡ boolean_in (evaluate_bound (row_of rows null) e.now) }
 {
     let nothing = Row { value: None, rows };
-    truth_at(tree, &nothing)
+    truth_at(e, &nothing)
 }
 
 // The truth at a row, where `None` is null.
-fn truth_at(tree: &BoundTree, row: &Row) -> Option<bool>
+fn truth_at(e: &BoundExpression, row: &Row) -> Option<bool>
     ensures { result ≡ boolean_in
-        (evaluate_bound (row_of row.now.rows (content_in row.now.value)) tree.now) }
+        (evaluate_bound (row_of row.now.rows (content_in row.now.value)) e.now) }
 {
-    truth_of(value_of(tree, row))
+    truth_of(value_of(e, row))
 }
 
-/// The truth of a tree without placeholders at each row of an array, where `None` is null. The
-/// array is a part of so many rows.
+/// The truth of an expression without placeholders at each row of an array, where `None` is null.
+/// The array is a part of so many rows.
 #[tactic(auto, using(crate::proofs::RowTruths::whole))]
 pub(crate) fn truths_of(
     alloc: Global,
-    tree: &BoundTree,
+    e: &BoundExpression,
     array: &ArrayRef,
     rows: u64,
 ) -> Result<Vec<Option<bool>>, AllocError>
     ensures { IfOk result (λ truths. truths.items
-        ≡ map (λ row. boolean_in (evaluate_bound (row_of rows row) tree.now)) (rows_of array.now)) }
+        ≡ map (λ row. boolean_in (evaluate_bound (row_of rows row) e.now)) (rows_of array.now)) }
 {
     // Masks know no number of rows.
-    if counts_rows(tree) {
-        return test_rows(alloc, tree, array, rows);
+    if counts_rows(e) {
+        return test_rows(alloc, e, array, rows);
     }
     let columns = ArrayColumns { array };
-    let Some(yes) = select(alloc, tree, true, &columns)? else {
-        return test_rows(alloc, tree, array, rows);
+    let Some(yes) = select(alloc, e, true, &columns)? else {
+        return test_rows(alloc, e, array, rows);
     };
-    match select(alloc, tree, false, &columns)? {
+    match select(alloc, e, false, &columns)? {
         Some(no) => pair_masks(alloc, &yes, &no),
-        None => test_rows(alloc, tree, array, rows),
+        None => test_rows(alloc, e, array, rows),
     }
 }
 
-fn counts_rows(tree: &BoundTree) -> bool
-    ensures { result ≡ counts_rows tree.now }
+fn counts_rows(e: &BoundExpression) -> bool
+    ensures { result ≡ counts_rows e.now }
 {
-    match &tree.node {
+    match &e.node {
         BoundNode::Literal(_) => false,
         BoundNode::Column(_) => false,
         BoundNode::Compare(_, x, y) => counts_rows(x) || counts_rows(y),
@@ -105,12 +104,13 @@ fn counts_rows(tree: &BoundTree) -> bool
         BoundNode::Not(x) => counts_rows(x),
         BoundNode::IsNull(x) => counts_rows(x),
         BoundNode::IsNotNull(x) => counts_rows(x),
+        BoundNode::IsNan(x) => counts_rows(x),
         BoundNode::Between(x, lower, upper, _) => {
             counts_rows(x) || counts_rows(lower) || counts_rows(upper)
         }
         BoundNode::Like(x, pattern, _) => counts_rows(x) || counts_rows(pattern),
         BoundNode::RowCount => true,
-        BoundNode::Stat(_, _) => false,
+        BoundNode::Stat(_, _, _) => false,
     }
 }
 
@@ -118,19 +118,19 @@ fn counts_rows(tree: &BoundTree) -> bool
 #[tactic(auto, using(crate::proofs::RowTruths::tested))]
 fn test_rows(
     alloc: Global,
-    tree: &BoundTree,
+    e: &BoundExpression,
     array: &ArrayRef,
     rows: u64,
 ) -> Result<Vec<Option<bool>>, AllocError>
     ensures { IfOk result (λ truths. truths.items
-        ≡ map (λ row. boolean_in (evaluate_bound (row_of rows row) tree.now)) (rows_of array.now)) }
+        ≡ map (λ row. boolean_in (evaluate_bound (row_of rows row) e.now)) (rows_of array.now)) }
 {
     let len = array.len();
     let mut truths = Vec::with_capacity(alloc, len)?;
     for i in 0..len {
         let value = row_value(alloc, array, i)?;
         let row = Row { value, rows };
-        truths.push(truth_at(tree, &row))?;
+        truths.push(truth_at(e, &row))?;
     }
     Ok(truths)
 }

@@ -3,9 +3,7 @@ ghost use Rattle.std.specs.Prelude.{◌≡◌, ◌≢◌, [], IfOk, IfErr, OnOk,
 ghost use Rattle.vortex_dtype_core.specs.View.{type_of};
 ghost use Rattle.vortex_arrays_model.specs.Layout.{array_type_of};
 ghost use Rattle.vortex_stats_evaluate.specs.Scopes.{IsOf, IsAdded, stats_at, IsScopeFault};
-ghost use Rattle.vortex_model.specs.Content.{null};
-ghost use Rattle.vortex_stats_bind.specs.Stats.{IsAnswer};
-ghost use Rattle.vortex_stats_evaluate.specs.Scopes.{told_of};
+ghost use Rattle.vortex_stats_evaluate.specs.Scopes.{answer_of};
 ghost use Rattle.vortex_stats_expr.specs.Aggregate.{aggregate_of};
 ghost use Rattle.vortex_stats_expr.specs.declared.error.StatsError.TheVariants.{Memory};
 
@@ -15,13 +13,11 @@ use std::alloc::{AllocError, Global};
 use vortex_arrays_core::array::ArrayRef;
 use vortex_dtype_core::dtype::DType;
 use vortex_dtype_ptype::field_names::FieldNames;
-use vortex_stats_bind::bind::column_positions;
-use vortex_stats_bind::bound::{BoundTree, bound_literal};
-use vortex_stats_bind::stats::StatBinder;
+use vortex_stats_bind::bind::resolve;
+use vortex_stats_bind::bound::{BoundExpression, bound_literal};
+use vortex_stats_bind::stats::{StatBinder, null_of};
 use vortex_stats_expr::aggregate::AggregateFn;
 use vortex_stats_expr::error::StatsError;
-use vortex_stats_expr::expression::col;
-use vortex_stats_rewrite::check::type_expression;
 use vortex_stats_set::stats_set::StatsSet;
 
 /// Rows with what is known of them: what a bound expression is evaluated over.
@@ -98,36 +94,34 @@ fn column_of(
     ensures refused { IfErr result (λ e. e ≢ Memory
         → IsScopeFault (type_of dtype.now) path stats e) }
 {
-    let Some(positions) = column_positions(alloc, dtype, &path)? else {
+    let Some(column) = resolve(alloc, &path, dtype)? else {
         return Err(StatsError::UnknownColumn);
     };
-    let column = type_expression(alloc, dtype, &col(path))?;
     if !stats.is_valid_for(&column.dtype) {
         return Err(StatsError::InvalidStat);
     }
     Ok(ColumnStats {
-        path: positions,
+        path: column.positions,
         dtype: column.dtype,
         stats,
     })
 }
 
-/// A scope answers placeholders by the statistics at the path of their column.
+/// A scope answers a placeholder by a literal of its value, which the statistics at the path of its
+/// column tell.
 impl StatBinder for Scope {
-    ghost use Rattle.vortex_model.specs.Content.{null};
-    ghost use Rattle.vortex_stats_evaluate.specs.Scopes.{told_by};
+    ghost use Rattle.vortex_stats_evaluate.specs.Scopes.{answers_by};
 
-    ghost meaning = { λ scope. told_by scope.columns.items scope.rows };
+    ghost answers = { λ scope. answers_by scope.columns.items scope.rows };
 
-    ghost missing = { λ _. null };
-
-    #[tactic(auto, using(crate::proofs::Telling::told))]
+    #[tactic(auto, using(crate::proofs::Telling::answered_by_scopes))]
     fn bind_aggregate(
         &self,
         alloc: Global,
-        input: &BoundTree,
+        input: &BoundExpression,
         aggregate: AggregateFn,
-    ) -> Result<Option<BoundTree>, AllocError> {
+        _stat_dtype: &DType,
+    ) -> Result<Option<BoundExpression>, AllocError> {
         let Some(path) = input.as_column() else {
             return Ok(None);
         };
@@ -137,24 +131,26 @@ impl StatBinder for Scope {
         }
     }
 
-    fn missing_stat(&self, _alloc: Global) -> Result<BoundTree, AllocError> {
-        Ok(bound_literal(None))
+    fn missing_stat(&self, alloc: Global, dtype: &DType) -> Result<BoundExpression, AllocError> {
+        null_of(alloc, dtype)
     }
 }
 
 // A literal of the placeholder's value, and none where the column has no such placeholder.
-#[tactic(auto, using(crate::proofs::Telling::told))]
+#[tactic(auto, using(crate::proofs::Telling::answered_by_scopes))]
 fn bind_column(
     alloc: Global,
     column: &ColumnStats,
     aggregate: AggregateFn,
     rows: usize,
-) -> Result<Option<BoundTree>, AllocError>
-    ensures { IfOk result (λ found. IsAnswer null found
-        (told_of column.now rows (aggregate_of aggregate))) }
+) -> Result<Option<BoundExpression>, AllocError>
+    ensures { IfOk result (λ found. found ≡ answer_of column.now rows (aggregate_of aggregate)) }
 {
     match stat_scalar(alloc, aggregate, &column.stats, &column.dtype, rows) {
-        Ok(scalar) => Ok(Some(bound_literal(scalar.into_value()))),
+        Ok(scalar) => {
+            let bound = bound_literal(alloc, scalar)?;
+            Ok(Some(Box::into_inner(bound)))
+        }
         Err(StatsError::Memory) => Err(AllocError),
         Err(_) => Ok(None),
     }

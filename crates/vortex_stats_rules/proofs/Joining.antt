@@ -90,21 +90,24 @@ expressions_behind : (bs : List Bound) (b : Bound) → map expression_of (bs ++ 
 expressions_behind [] b = refl
 expressions_behind (c ∷ bs) b = ap (λ es. expression_of c ∷ es) (expressions_behind bs b)
 
-pub pushed_some : (k : LogicalType) (a : Answer) (old new : List Boxed) (b : Boxed) → new ≡ old ++ (b ∷ []) → AreProofs k old →
-    IsJudged k (Ok (Some b)) a → IsPushed k old new a
-pushed_some k a old new b is h j = (
-  ap is_fault j.0,
-  ap expressions_in is ∙ ap (map expression_of) (unboxed_behind old b) ∙ expressions_behind (all_unboxed old) b
-      ∙ ap (λ c. expressions_in old ++ proofs_in (c ∷ [])) (sym j.0),
-  subst (AllByRecursion (IsBoundTruth k)) (sym (ap all_unboxed is ∙ unboxed_behind old b)) (all_behind (all_unboxed old) b.value h j.1),
-)
+pub pushed_some : (k : LogicalType) (a : Answer) (old new : List Boxed) (o : Option Boxed) (b : Boxed) → o ≡ Some b → new ≡ old ++ (b ∷ []) → AreProofs k old →
+    IsJudged k (Ok o) a → IsPushed k old new a
+pushed_some k a old new o b there is h judged =
+    let j : IsJudged k (Ok (Some b)) a = subst (λ p. IsJudged k (Ok p) a) there judged in (
+      ap is_fault j.0,
+      ap expressions_in is ∙ ap (map expression_of) (unboxed_behind old b) ∙ expressions_behind (all_unboxed old) b.value
+          ∙ ap (λ c. expressions_in old ++ proofs_in (c ∷ [])) (sym j.0),
+      subst (AllByRecursion (IsBoundTruth k)) (sym (ap all_unboxed is ∙ unboxed_behind old b)) (all_behind (all_unboxed old) b.value h j.1),
+    )
 
-pub pushed_none : (k : LogicalType) (a : Answer) (old : List Boxed) → AreProofs k old → IsJudged k (Ok None) a → IsPushed k old old a
-pushed_none k a old h j = (
-  ap is_fault j.0,
-  none_more (expressions_in old) ∙ ap (λ c. expressions_in old ++ proofs_in (c ∷ [])) (sym j.0),
-  h,
-)
+pub pushed_none : (k : LogicalType) (a : Answer) (old new : List Boxed) (o : Option Boxed) → o ≡ None → new ≡ old → AreProofs k old → IsJudged k (Ok o) a →
+    IsPushed k old new a
+pushed_none k a old new o there is h judged =
+    let j : IsJudged k (Ok None) a = subst (λ p. IsJudged k (Ok p) a) there judged in (
+      ap is_fault j.0,
+      ap expressions_in is ∙ none_more (expressions_in old) ∙ ap (λ c. expressions_in old ++ proofs_in (c ∷ [])) (sym j.0),
+      subst (AreProofs k) (sym is) h,
+    )
 
 -- ---- what is joined is the answer
 

@@ -12,7 +12,7 @@ use Rattle.vortex_stats_bind.proofs.Alike.{truth_alike, reads_alike}
 use Rattle.vortex_stats_bind.proofs.Made.{truth_by}
 use Rattle.vortex_stats_expr.specs.declared.error.StatsError.{StatsError}
 use Rattle.vortex_stats_expr.specs.declared.error.StatsError.TheVariants as error
-use Rattle.vortex_stats_rules.specs.Meanings.{IsBoundTruth, IsAnswer, IsJudged}
+use Rattle.vortex_stats_rules.specs.Meanings.{IsBoundTruth, IsAnswer, IsJudged, is_usable}
 use Rattle.vortex_stats_rules.specs.Table.{Boxed}
 
 abbrev judged_by : Expression → Option ProofFault → Answer
@@ -27,12 +27,16 @@ fault_by : (k : LogicalType) (b : Bound) → IsBoundTo k b →
     proof_fault k (expression_of b) ≡ tested_by (has_truth b) (is_boolean_type (value_type b)) (reads_columns b)
 fault_by k b h = λ i. or_fault (h.faultless i) (tested_by (truth_alike k _ b h i) (truth_by k _ b h i) (reads_alike k _ b h i))
 
-pub accepted : (k : LogicalType) (b : Bound) → IsBoundTo k b → has_truth b ≡ true → is_boolean_type (value_type b) ≡ true → reads_columns b ≡ false →
-    (judged k (proof (expression_of b)) ≡ proof (expression_of b)) × IsBoundTruth k b
-accepted k b h t u r = (
-  ap (judged_by (expression_of b)) (fault_by k b h ∙ (λ i. tested_by (t i) (u i) (r i))),
-  record { bound = h; boolean = u },
-)
+accepted_by : (p : Expression) (truth boolean reads : Bool) → truth && (boolean && not reads) ≡ true → judged_by p (tested_by truth boolean reads) ≡ proof p
+accepted_by p true true false h = refl
+accepted_by p true true true h = cc (h)
+accepted_by p true false reads h = cc (h)
+accepted_by p false boolean reads h = cc (h)
+
+boolean_so : (truth boolean reads : Bool) → truth && (boolean && not reads) ≡ true → boolean ≡ true
+boolean_so truth true reads h = refl
+boolean_so true false reads h = cc (h)
+boolean_so false false reads h = cc (h)
 
 faulty_by : (p : Expression) (truth boolean reads : Bool) → truth && (boolean && not reads) ≡ false → judged_by p (tested_by truth boolean reads) ≡ fault
 faulty_by p true true true h = refl
@@ -40,16 +44,42 @@ faulty_by p true false reads h = refl
 faulty_by p false boolean reads h = refl
 faulty_by p true true false h = cc (h)
 
-pub faulty : (k : LogicalType) (b : Bound) → IsBoundTo k b → has_truth b && (is_boolean_type (value_type b) && not (reads_columns b)) ≡ false →
-    judged k (proof (expression_of b)) ≡ fault
-faulty k b h f = ap (judged_by (expression_of b)) (fault_by k b h) ∙ faulty_by _ _ _ _ f
+-- a proof that was answered
+answered : (k : LogicalType) (answer : Result (Option Bound) StatsError) (a : Answer) (p : Bound) → answer ≡ Ok (Some p) → IsAnswer k answer a →
+    (a ≡ proof (expression_of p)) × IsBoundTo k p
+answered k answer a p is h = subst (λ x. IsAnswer k x a) is h
 
--- what is judged is what was answered
-pub of_answer : (k : LogicalType) (r : Result (Option Boxed) StatsError) (a : Answer) (b : Bound) → IsAnswer k (Ok (Some b)) a →
-    (IsBoundTo k b → IsJudged k r (judged k (proof (expression_of b)))) → IsJudged k r (judged k a)
-of_answer k r a b h j = subst (λ c. IsJudged k r (judged k c)) (sym h.0) (j h.1)
+-- one that may be used, in its box
+pub accepted : (k : LogicalType) (answer : Result (Option Bound) StatsError) (a : Answer) (p : Bound) (b : Boxed) → answer ≡ Ok (Some p) → b.value ≡ p → is_usable p ≡ true →
+    IsAnswer k answer a → IsJudged k (Ok (Some b)) (judged k a)
+accepted k answer a p b is same t h =
+    let said = answered k answer a p is h in (
+      ap (judged k) said.0 ∙ ap (judged_by (expression_of p)) (fault_by k p said.1)
+          ∙ accepted_by (expression_of p) (has_truth p) (is_boolean_type (value_type p)) (reads_columns p) t
+          ∙ ap (λ c. proof (expression_of c)) (sym same),
+      subst (IsBoundTruth k) (sym same)
+          record { bound = said.1; boolean = boolean_so (has_truth p) (is_boolean_type (value_type p)) (reads_columns p) t },
+    )
+
+-- and one that may not
+pub faulty : (k : LogicalType) (answer : Result (Option Bound) StatsError) (a : Answer) (p : Bound) → answer ≡ Ok (Some p) → is_usable p ≡ false → IsAnswer k answer a →
+    judged k a ≡ fault
+faulty k answer a p is f h =
+    let said = answered k answer a p is h in
+    ap (judged k) said.0 ∙ ap (judged_by (expression_of p)) (fault_by k p said.1)
+    ∙ faulty_by (expression_of p) (has_truth p) (is_boolean_type (value_type p)) (reads_columns p) f
+
+-- none
+pub of_none : (k : LogicalType) (answer : Result (Option Bound) StatsError) (a : Answer) → answer ≡ Ok None → IsAnswer k answer a → IsJudged k (Ok None) (judged k a)
+of_none k answer a is h =
+    let said : a ≡ no_proof = subst (λ x. IsAnswer k x a) is h in
+    (ap (judged k) said, tt)
+
+faulty_answer : (k : LogicalType) (e : StatsError) (a : Answer) → e ≢ error.Memory → IsAnswer k (Err e) a → judged k a ≡ fault
+faulty_answer k error.Memory a u h = absurd (u refl)
+faulty_answer k e a u h = ap (judged k) h
 
 -- an error other than for want of memory
-pub of_error : (k : LogicalType) (e : StatsError) (a : Answer) → e ≢ error.Memory → IsAnswer k (Err e) a → judged k a ≡ fault
-of_error k error.Memory a u h = absurd (u refl)
-of_error k e a u h = ap (judged k) h
+pub of_error : (k : LogicalType) (answer : Result (Option Bound) StatsError) (e : StatsError) (a : Answer) → answer ≡ Err e → e ≢ error.Memory → IsAnswer k answer a →
+    judged k a ≡ fault
+of_error k answer e a is u h = faulty_answer k e a u (subst (λ x. IsAnswer k x a) is h)

@@ -22,7 +22,7 @@ use Rattle.vortex_stats_rules.specs.Table as table
 use Rattle.vortex_stats_rules.specs.Table.{Boxed, unboxed, all_unboxed, range_of}
 use Rattle.vortex_stats_rules.specs.Visits.{visited}
 use Rattle.vortex_stats_rules.proofs.Counts.{saturated_twice}
-use Rattle.vortex_stats_rules.proofs.Joining.{itself, listed_proofs}
+use Rattle.vortex_stats_rules.proofs.Joining.{itself, listed_proofs, listed, in_front}
 use Rattle.vortex_stats_rules.proofs.Parts.{of_each, of_some, of_range}
 use Rattle.vortex_stats_rules.proofs.Same.{IsProofOf, AreProofsOf, IsProofIf, anded, ored, same_falsifiers, same_satisfiers}
 
@@ -122,32 +122,37 @@ module _ (k : LogicalType) (rules : List Rule) where
   abbrev pub proved : Bound → Answer
   proved e = fals k rules (expression_of e)
 
-  -- at a node, where its built-in proof is this one
-  pub of_built_in : (r : Result (Option Boxed) StatsError) (e : Bound) (a : Answer) (o : Option Boxed) → proved e ≡ behind e a →
-      (a ≡ answer_of (expression_in o)) × IsProofIn k o → (IsProofIn k o → IsJudged k r (behind e (answer_of (expression_in o)))) → IsJudged k r (proved e)
-  of_built_in r e a o is p j = subst (IsJudged k r) (sym (is ∙ ap (behind e) p.0)) (j p.1)
+  abbrev pub joined_at : Bound → List Boxed → Answer
+  joined_at e bs = joined_answers (map proof (expressions_in bs) ++ answers_to claim.NoRow k (expression_of e) rules)
 
-  pub at_and : (r : Result (Option Boxed) StatsError) (e x y : Bound) (o p q : Option Boxed) → e ≡ each x y → IsBoundTo k e →
+  -- at a node, where its built-in proof is this one
+  of_built_in : (r : Result (Option Boxed) StatsError) (e : Bound) (a : Answer) (o : Option Boxed) (bs : List Boxed) → proved e ≡ behind e a →
+      (a ≡ answer_of (expression_in o)) × IsProofIn k o → all_unboxed bs ≡ table.as_list (unboxed o) → (AreProofs k bs → IsJudged k r (joined_at e bs)) →
+      IsJudged k r (proved e)
+  of_built_in r e a o bs is p one j =
+      subst (IsJudged k r) (in_front o bs (answers_to claim.NoRow k (expression_of e) rules) one ∙ sym (is ∙ ap (behind e) p.0)) (j (listed k o bs one p.1))
+
+  pub at_and : (r : Result (Option Boxed) StatsError) (e x y : Bound) (o p q : Option Boxed) (bs : List Boxed) → e ≡ each x y → IsBoundTo k e →
       (IsBoundTo k x → IsJudged k (Ok o) (proved x)) → (IsBoundTo k y → IsJudged k (Ok p) (proved y)) → unboxed q ≡ table.either_there (unboxed o) (unboxed p) →
-      (IsProofIn k q → IsJudged k r (behind e (answer_of (expression_in q)))) → IsJudged k r (proved e)
-  at_and r e x y o p q is h left right joined j =
+      all_unboxed bs ≡ table.as_list (unboxed q) → (AreProofs k bs → IsJudged k r (joined_at e bs)) → IsJudged k r (proved e)
+  at_and r e x y o p q bs is h left right joined one j =
       let s = of_each k x y (subst (IsBoundTo k) is h) in
       let l = left s.0.bound in
       let g = right s.1.bound in
       let u = either_proofs k o p q joined l.1 g.1 in
-      of_built_in r e (either_answer (proved x) (proved y)) q (ap proved is ∙ ap (λ c. behind c (either_answer (proved x) (proved y))) (sym is))
-      (either_so _ _ _ _ l.0 g.0 ∙ u.0, u.1) j
+      of_built_in r e (either_answer (proved x) (proved y)) q bs (ap proved is ∙ ap (λ c. behind c (either_answer (proved x) (proved y))) (sym is))
+      (either_so (proved x) (proved y) (expression_in o) (expression_in p) l.0 g.0 ∙ u.0, u.1) one j
 
-  pub at_or : (r : Result (Option Boxed) StatsError) (e x y : Bound) (o p q : Option Boxed) → e ≡ some x y → IsBoundTo k e →
+  pub at_or : (r : Result (Option Boxed) StatsError) (e x y : Bound) (o p q : Option Boxed) (bs : List Boxed) → e ≡ some x y → IsBoundTo k e →
       (IsBoundTo k x → IsJudged k (Ok o) (proved x)) → (IsBoundTo k y → IsJudged k (Ok p) (proved y)) → unboxed q ≡ table.both_there (unboxed o) (unboxed p) →
-      (IsProofIn k q → IsJudged k r (behind e (answer_of (expression_in q)))) → IsJudged k r (proved e)
-  at_or r e x y o p q is h left right joined j =
+      all_unboxed bs ≡ table.as_list (unboxed q) → (AreProofs k bs → IsJudged k r (joined_at e bs)) → IsJudged k r (proved e)
+  at_or r e x y o p q bs is h left right joined one j =
       let s = of_some k x y (subst (IsBoundTo k) is h) in
       let l = left s.0.bound in
       let g = right s.1.bound in
       let u = both_proofs k o p q joined l.1 g.1 in
-      of_built_in r e (both_answers (proved x) (proved y)) q (ap proved is ∙ ap (λ c. behind c (both_answers (proved x) (proved y))) (sym is))
-      (both_so _ _ _ _ l.0 g.0 ∙ u.0, u.1) j
+      of_built_in r e (both_answers (proved x) (proved y)) q bs (ap proved is ∙ ap (λ c. behind c (both_answers (proved x) (proved y))) (sym is))
+      (both_so (proved x) (proved y) (expression_in o) (expression_in p) l.0 g.0 ∙ u.0, u.1) one j
 
   -- the AND of a BETWEEN is bound
   pub range_bound : (e x lo hi r : Bound) (s t : Bool) → e ≡ range_test x lo hi s t → r ≡ range_of x lo hi s t → IsBoundTo k e → IsBoundTo k r
@@ -157,11 +162,11 @@ module _ (k : LogicalType) (rules : List Rule) where
       ((both_judged k _ _ _ _ ((compare_judged k _ _ lo x ends.0.left ends.0.right (end_of s)).passed ends.0.same)
       ((compare_judged k _ _ x hi ends.1.left ends.1.right (end_of t)).passed ends.1.same)).passed refl)
 
-  pub at_between : (r : Result (Option Boxed) StatsError) (e x lo hi range : Bound) (s t : Bool) (o : Option Boxed) → e ≡ range_test x lo hi s t →
+  pub at_between : (r : Result (Option Boxed) StatsError) (e x lo hi range : Bound) (s t : Bool) (o : Option Boxed) (bs : List Boxed) → e ≡ range_test x lo hi s t →
       range ≡ range_of x lo hi s t → IsBoundTo k e → (IsBoundTo k range → IsJudged k (Ok o) (proved range)) →
-      (IsProofIn k o → IsJudged k r (behind e (answer_of (expression_in o)))) → IsJudged k r (proved e)
-  at_between r e x lo hi range s t o is made h ends j =
-      of_built_in r e (proved range) o (ap proved is ∙ (λ i. behind (sym is i) (proved (sym made i)))) (ends (range_bound e x lo hi range s t is made h)) j
+      all_unboxed bs ≡ table.as_list (unboxed o) → (AreProofs k bs → IsJudged k r (joined_at e bs)) → IsJudged k r (proved e)
+  at_between r e x lo hi range s t o bs is made h ends one j =
+      of_built_in r e (proved range) o bs (ap proved is ∙ (λ i. behind (sym is i) (proved (sym made i)))) (ends (range_bound e x lo hi range s t is made h)) one j
 
   alone_so : (e : Bound) → is_alone e ≡ true → falsifier_alone k rules (expression_of e) ≡ proved e
   alone_so (each x y) h = cc (h)

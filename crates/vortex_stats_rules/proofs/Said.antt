@@ -23,8 +23,11 @@ use Rattle.vortex_stats_rules.proofs.Parts.{of_test}
 use Rattle.vortex_stats_rules.proofs.Pushed.{pushed_so}
 use Rattle.vortex_stats_rules.proofs.Same.{IsProofOf, IsProofIf, ored, only_nulls_proofs, joined_so, same_satisfiers}
 
-pub truth_said : (k : LogicalType) (b : Bound) (v : Bool) → b ≡ fixed_truth v → IsAnswer k (Ok (Some b)) (proof (boolean_literal v))
-truth_said k b v is = subst (λ c. IsAnswer k (Ok (Some c)) (proof (boolean_literal v))) (sym is) (refl, record { tree = refl; faultless = refl })
+-- a truth literal
+pub truth_said : (k : LogicalType) (a : Answer) (b : Bound) (v : Bool) → a ≡ proof (boolean_literal v) → b ≡ fixed_truth v → IsAnswer k (Ok (Some b)) a
+truth_said k a b v said is =
+    subst (IsAnswer k (Ok (Some b))) (sym said)
+    (subst (λ c. IsAnswer k (Ok (Some c)) (proof (boolean_literal v))) (sym is) (refl, record { tree = refl; faultless = refl }))
 
 -- a proof of the model, bound
 said : (k : LogicalType) (p : Option Expression) (o : Option Bound) → IsProofIf k p o → IsAnswer k (Ok o) (answer_of p)

@@ -17,8 +17,8 @@ use Rattle.vortex_stats_bind.proofs.Alike.{typed}
 use Rattle.vortex_stats_bind.proofs.Made.{compare_judged, both_judged, either_judged, stat_bound}
 use Rattle.vortex_stats_rules.specs.NotLiterals.{truth_in}
 use Rattle.vortex_stats_rules.specs.Table.{fixed_truth, fixed_count, fixed_text, stat_of, end_of_values, nulls_of, nans_of, is_comparable, may_be_nan, low, high, refuted, no_nan, guarded, kept_from_nan, comparison_proofs, outside, shape_proof, like_proof, paired, rounds, first_of_list, joined_proofs, as_list, counted, no_nulls, only_nulls, no_nans, only_nans, truth_proofs, falsifiers, satisfiers}
-use Rattle.vortex_stats_rules.specs.declared.comparison.NanGuard.{NanGuard}
-use Rattle.vortex_stats_rules.specs.declared.comparison.NanGuard.TheVariants as guard
+use Rattle.vortex_stats_rules.specs.declared.rewrite.NanGuard.{NanGuard}
+use Rattle.vortex_stats_rules.specs.declared.rewrite.NanGuard.TheVariants as guard
 use Rattle.vortex_stats_rules.proofs.Parts.{AreAlike, kind_of, of_test, of_null_test, of_value_test, of_nan_test, of_match}
 
 -- the bound expression is this proof, bound

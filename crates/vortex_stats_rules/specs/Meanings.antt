@@ -1,5 +1,5 @@
 -- What callers' rules mean, and what their calls answer.
-use Rattle.std.specs.Prelude.{◌≡◌, List, [], ◌∷◌, ◌++◌, map, Option, Some, None, Result, Ok, Err, true, false, IfSome, option_map}
+use Rattle.std.specs.Prelude.{◌≡◌, List, [], ◌∷◌, ◌++◌, map, Option, Some, None, Result, Ok, Err, Bool, true, false, not, ◌&&◌, IfSome, option_map}
 use Rattle.std.specs.List.{AllByRecursion}
 use Rattle.vortex_model.specs.LogicalType.{LogicalType}
 use Rattle.vortex_model_table.specs.Expression.{Expression}
@@ -9,6 +9,7 @@ use Rattle.vortex_model_rules.specs.Laws.{KeepsItsLaw}
 use Rattle.vortex_dtype_core.specs.Parts.{is_boolean_type}
 use Rattle.vortex_stats_bind.specs.Bound.{Bound, expression_of, value_type}
 use Rattle.vortex_stats_bind.specs.Bindings.{IsBoundTo}
+use Rattle.vortex_stats_bind.specs.Truths.{has_truth, reads_columns}
 use Rattle.vortex_stats_expr.specs.declared.scalar_fn.ScalarFnId.{ScalarFnId}
 use Rattle.vortex_stats_expr.specs.declared.scalar_fn.ScalarFnId.TheVariants as function
 use Rattle.vortex_stats_expr.specs.declared.error.StatsError.{StatsError}
@@ -56,6 +57,10 @@ IsFault e a = ⊥
 pub record IsBoundTruth (k : LogicalType) (b : Bound) : Type 0 where
   pub bound : IsBoundTo k b
   pub boolean : is_boolean_type (value_type b) ≡ true
+
+-- a bound proof has a truth, is boolean, and reads no column outside placeholders
+abbrev pub is_usable : Bound → Bool
+is_usable b = has_truth b && (is_boolean_type (value_type b) && not (reads_columns b))
 
 -- the proofs in boxes, and the expressions that they are bound from
 abbrev pub AreProofs : LogicalType → List Boxed → Type 0

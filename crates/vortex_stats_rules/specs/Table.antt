@@ -12,8 +12,8 @@ use Rattle.vortex_model_table.specs.Typing.{has_bounds}
 use Rattle.vortex_stats_bind.specs.Bound.{Bound, fixed, test, each, some, null_test, value_test, nan_test, match_test, count_of_rows, placeholder, placeholder_type, value_type}
 use Rattle.vortex_stats_bind.specs.Truths.{is_literal, is_of_floats}
 use Rattle.vortex_stats_rules.specs.NotLiterals.{truth_in}
-use Rattle.vortex_stats_rules.specs.declared.comparison.NanGuard.{NanGuard}
-use Rattle.vortex_stats_rules.specs.declared.comparison.NanGuard.TheVariants as guard
+use Rattle.vortex_stats_rules.specs.declared.rewrite.NanGuard.{NanGuard}
+use Rattle.vortex_stats_rules.specs.declared.rewrite.NanGuard.TheVariants as guard
 
 -- a bound expression in a box, and what boxes hold
 abbrev pub Boxed : Type 0

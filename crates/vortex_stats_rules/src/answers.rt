@@ -1,13 +1,13 @@
 //! What rules answer at a node, joined with the built-in proofs.
-ghost use Rattle.std.specs.Prelude.{◌≡◌, ◌∷◌, ◌++◌, map, OnOk, MatchResult};
+ghost use Rattle.std.specs.Prelude.{◌≡◌, ◌++◌, map, OnOk, MatchResult};
 ghost use Rattle.vortex_model.specs.LogicalType.{LogicalType};
-ghost use Rattle.vortex_model_rules.specs.Rules.{Answer, proof, joined_answers, answer_of, judged};
+ghost use Rattle.vortex_model_rules.specs.Rules.{Answer, proof, joined_answers, judged};
 ghost use Rattle.vortex_stats_bind.specs.Bound.{expression_of};
 ghost use Rattle.vortex_stats_bind.specs.Bindings.{IsBoundTo};
-ghost use Rattle.vortex_stats_rules.specs.Meanings.{rules_of, IsAnswer, AreProofs, IsProofIn, expression_in, expressions_in, IsFault, IsJudged, AreJoined, IsPushed, asked_of, answers_to};
+ghost use Rattle.vortex_stats_rules.specs.Meanings.{rules_of, IsAnswer, AreProofs, expressions_in, IsFault, IsJudged, AreJoined, IsPushed, asked_of, answers_to, is_usable};
 ghost use Rattle.vortex_stats_rules.specs.Visits.{visited};
 
-use crate::joined::{as_list, join_proofs};
+use crate::joined::join_proofs;
 use crate::meter::Meter;
 use crate::rule::StatsRewriteRuleRef;
 use crate::stats::Proof;
@@ -40,24 +40,6 @@ pub(crate) fn join_answers(
     let proofs = push_answers(alloc, claim, e, built_in, rules)?;
     let proof = join_proofs(alloc, proofs)?;
     Ok(proof)
-}
-
-/// The same where the built-in rules answer one proof or none.
-pub(crate) fn join_answer(
-    alloc: Global,
-    claim: Claim,
-    e: &BoundExpression,
-    built_in: Option<Proof>,
-    rules: &[StatsRewriteRuleRef],
-    meter: &mut Meter,
-) -> Result<Option<Proof>, StatsError>
-    ensures answer { (k : LogicalType) → IsBoundTo k e.now → IsProofIn k built_in →
-        IsJudged k result (joined_answers (answer_of (expression_in built_in)
-        ∷ answers_to claim k (expression_of e.now) (rules_of meaning rules.now))) }
-    ensures visits { OnOk result (meter.new ≡ visited 1 meter.old) }
-{
-    let proofs = as_list(alloc, built_in)?;
-    join_answers(alloc, claim, e, proofs, rules, meter)
 }
 
 // The proofs of the rules behind these.
@@ -96,15 +78,19 @@ fn push_answer(
         (λ error. IsFault error
         (asked_of claim k (expression_of e.now) (meaning rule.now).rule)) }
 {
-    match ask(alloc, claim, e, rule)? {
-        Some(proof) => proofs.push(proof)?,
-        None => {}
+    let answer = ask(alloc, claim, e, rule)?;
+    match answer {
+        Some(proof) => {
+            proofs.push(proof)?;
+            Ok(())
+        }
+        None => Ok(()),
     }
-    Ok(())
 }
 
 // What a rule answers at a node, which is handed to it where the function of its root is the
 // rule's.
+#[tactic(auto, using(crate::proofs::Roots::handed))]
 fn ask(
     alloc: Global,
     claim: Claim,
@@ -132,7 +118,13 @@ fn judge(
         IsJudged k result (judged k a) }
 {
     match answer {
-        Ok(Some(proof)) => judge_proof(alloc, proof),
+        Ok(Some(proof)) => {
+            if !is_usable(&proof) {
+                return Err(StatsError::RuleFault);
+            }
+            let proof = Box::new(alloc, proof)?;
+            Ok(Some(proof))
+        }
         Ok(None) => Ok(None),
         Err(StatsError::Memory) => Err(StatsError::Memory),
         Err(_) => Err(StatsError::RuleFault),
@@ -140,13 +132,8 @@ fn judge(
 }
 
 // A proof may be used where it has a truth, is boolean, and reads no column outside placeholders.
-fn judge_proof(alloc: Global, p: BoundExpression) -> Result<Option<Proof>, StatsError>
-    ensures { (k : LogicalType) → IsBoundTo k p →
-        IsJudged k result (judged k (proof (expression_of p))) }
+fn is_usable(p: &BoundExpression) -> bool
+    ensures { result ≡ is_usable p.now }
 {
-    if p.has_truth() && p.is_boolean() && !p.reads_columns() {
-        Ok(Some(Box::new(alloc, p)?))
-    } else {
-        Err(StatsError::RuleFault)
-    }
+    p.has_truth() && p.is_boolean() && !p.reads_columns()
 }

@@ -3,15 +3,12 @@
 #![tactic(auto)]
 
 mod answers;
-mod comparison;
 mod joined;
 pub mod laws;
-mod like;
 mod like_variant;
 pub mod meter;
 pub mod negation;
 pub mod null_comparison;
-mod nulls;
 pub mod push_not;
 pub mod rewrite;
 pub mod rule;

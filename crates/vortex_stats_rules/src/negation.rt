@@ -2,7 +2,7 @@
 ghost use Rattle.std.specs.Prelude.{◌≡◌};
 ghost use Rattle.vortex_scalar_core.specs.Scalar.{scalar_content};
 ghost use Rattle.vortex_stats_bind.specs.Bound.{expression_of};
-ghost use Rattle.vortex_stats_rules.specs.NotLiterals.{literal_truth, negated_truth, truth_in};
+ghost use Rattle.vortex_stats_rules.specs.NotLiterals.{negated_truth, truth_in};
 
 use crate::rule::StatsRewriteRule;
 use crate::stats::truth;
@@ -84,11 +84,12 @@ impl StatsRewriteRule for NotLiteral {
 }
 
 // The truth value of which an expression is the NOT.
+#[tactic(auto, using(crate::proofs::NotLiterals::negated_literals))]
 fn negated_truth(e: &BoundExpression) -> Option<bool>
     ensures { result ≡ negated_truth (expression_of e.now) }
 {
     match &e.node {
-        BoundNode::Not(input) => literal_truth(input),
+        BoundNode::Not(input) => truth_in(input.as_literal()?),
         BoundNode::Literal(_)
         | BoundNode::Column(_)
         | BoundNode::Compare(_, _, _)
@@ -102,13 +103,6 @@ fn negated_truth(e: &BoundExpression) -> Option<bool>
         | BoundNode::RowCount
         | BoundNode::Stat(_, _, _) => None,
     }
-}
-
-// The truth value that an expression is a literal of.
-fn literal_truth(e: &BoundExpression) -> Option<bool>
-    ensures { result ≡ literal_truth (expression_of e.now) }
-{
-    truth_in(e.as_literal()?)
 }
 
 /// The truth value, where it is one.

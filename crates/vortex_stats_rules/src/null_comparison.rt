@@ -3,10 +3,9 @@ ghost use Rattle.std.specs.Prelude.{◌≡◌, IfOk};
 ghost use Rattle.vortex_stats_rules.specs.Table.{unboxed, only_null, null_side};
 
 use crate::joined::{either_proof, join_proofs};
-use crate::nulls::only_nulls;
-use crate::rewrite::out_of_box;
+use crate::rewrite::only_nulls;
 use crate::rule::StatsRewriteRule;
-use crate::stats::{Proof, truth};
+use crate::stats::{Proof, out_of_box, truth};
 use std::alloc::{AllocError, Global};
 use vortex_stats_bind::bound::{BoundExpression, BoundNode};
 use vortex_stats_expr::error::StatsError;
@@ -73,6 +72,7 @@ fn null_side(alloc: Global, e: &BoundExpression) -> Result<Option<Proof>, AllocE
 }
 
 // That the expression is null at each row: that no row satisfies IS NOT NULL of it.
+#[tactic(auto, using(crate::proofs::OfLiterals::null_sides))]
 fn only_null(alloc: Global, x: &BoundExpression) -> Result<Option<Proof>, AllocError>
     ensures { IfOk result (λ proof. unboxed proof ≡ only_null x.now) }
 {

@@ -9,10 +9,11 @@ ghost use Rattle.vortex_stats_rules.specs.PushedIn.{pushed_in, negated};
 use crate::joined::join_proofs;
 use crate::meter::Meter;
 use crate::negation::truth_in;
-use crate::rewrite::{compared, falsify_node, out_of_box, satisfiers};
+use crate::rewrite::{falsify_node, satisfiers};
 use crate::rule::StatsRewriteRule;
-use crate::stats::{copied, truth};
+use crate::stats::{compared, copied, out_of_box, truth};
 use std::alloc::{AllocError, Global};
+use vortex_model_rules::laws::no_rules_add_nothing;
 use vortex_scalar_core::scalar::Scalar;
 use vortex_stats_bind::bound::{
     BoundExpression, BoundNode, bound_and, bound_is_not_null, bound_is_null, bound_like,
@@ -46,6 +47,7 @@ impl StatsRewriteRule for PushNot {
         expr: &BoundExpression,
     ) -> Result<Option<BoundExpression>, StatsError> {
         let pushed = pushed_in(alloc, expr)?;
+        no_rules_add_nothing();
         let mut meter = Meter::new();
         let proof = falsify_node(alloc, &pushed, &[], &mut meter)?;
         Ok(out_of_box(proof))

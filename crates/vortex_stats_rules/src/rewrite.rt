@@ -33,36 +33,44 @@
 //! the rules whose function is that of its root: for `falsify` the predicate itself, both sides of
 //! each AND and OR among the nodes that are handed over, and of each BETWEEN its AND with both
 //! comparisons; for `satisfy` the predicate alone.
-ghost use Rattle.std.specs.Prelude.{◌≡◌, length, IfOk, IfErr, IfSome, OnOk, OnErr, option_map};
+ghost use Rattle.std.specs.Prelude.{◌≡◌, length, not, IfOk, IfErr, IfSome, OnOk, OnErr, chars, option_map, string_bytes};
 ghost use Rattle.vortex_model.specs.LogicalType.{LogicalType};
+ghost use Rattle.vortex_model_table.specs.Rewrite.{exact_text, beginning};
 ghost use Rattle.vortex_model_rules.specs.Rules.{answer_of, fals, sat, handed_over};
 ghost use Rattle.vortex_stats_bind.specs.Bound.{test, expression_of};
 ghost use Rattle.vortex_stats_bind.specs.Bindings.{IsBoundTo};
+ghost use Rattle.vortex_stats_expr.specs.Aggregate.{aggregate_of};
 ghost use Rattle.vortex_stats_expr.specs.Tree.{comparison_of, is_strict};
 ghost use Rattle.vortex_stats_rules.specs.Meanings.{rules_of, IsJudged};
 ghost use Rattle.vortex_stats_rules.specs.Refusals.{IsPredicate, IsRefusal};
-ghost use Rattle.vortex_stats_rules.specs.Table.{unboxed, all_unboxed, range_of, truth_proofs, falsifiers, satisfiers};
+ghost use Rattle.vortex_stats_rules.specs.Table.{unboxed, all_unboxed, range_of, truth_proofs, falsifiers, satisfiers, comparison_proofs, is_comparable, may_be_nan, kept_from_nan, guarded, no_nan, refuted, low, high, counted, no_nulls, only_nulls, no_nans, only_nans, like_proof, shape_proof, outside};
 ghost use Rattle.vortex_stats_rules.specs.Visits.{visited};
 
-use crate::answers::{Claim, join_answer, join_answers};
-use crate::comparison::comparison_proofs;
-use crate::joined::{as_list, both_proofs, either_proof, one};
-use crate::like::falsify_like;
+use crate::answers::{Claim, join_answers};
+use crate::joined::{as_list, both_proofs, either_proof, one, two};
+use crate::like_variant::{LikeVariant, like_variant};
 use crate::meter::Meter;
 use crate::negation::truth_in;
-use crate::nulls::{no_nans, no_nulls, only_nans, only_nulls};
 use crate::rule::StatsRewriteRuleRef;
-use crate::stats::{Proof, copied, truth};
+use crate::stats::{
+    Proof, compared, count, end_of_values, nan_count, null_count, out_of_box, placeholder, text,
+    truth,
+};
 use std::alloc::{AllocError, Global};
-use vortex_stats_bind::bound::{BoundExpression, BoundNode, bound_and, bound_compare};
+use std::string::String;
+use vortex_dtype_core::BufferString;
+use vortex_scalar_builders::raising::raise;
+use vortex_stats_bind::bound::{
+    BoundExpression, BoundNode, bound_and, bound_compare, bound_or, bound_row_count,
+};
+use vortex_stats_expr::aggregate::AggregateFn;
 use vortex_stats_expr::error::StatsError;
 use vortex_stats_expr::operator::Comparison;
-use vortex_stats_expr::options::BetweenOptions;
+use vortex_stats_expr::options::{BetweenOptions, LikeOptions};
 
 /// The proof that no row satisfies a predicate, as Vortex's `falsify`, and `None` where no rule
 /// gives one. It is over rows of the type that the predicate is bound to. Rows whose statistics make
-/// it true can be skipped. Without rules it takes time and memory in the order of the predicate's
-/// size times its depth.
+/// it true can be skipped. Without rules it takes time and memory linear in the predicate's size.
 ///
 /// `NotBoolean` where the expression is no predicate; `RuleFault` where a rule answers an error other
 /// than `Memory`, or a proof that can't be used. A refused call counts no visit.
@@ -126,15 +134,6 @@ pub fn satisfy(
     Ok(out_of_box(proof))
 }
 
-pub(crate) fn out_of_box(proof: Option<Proof>) -> Option<BoundExpression>
-    ensures { result ≡ unboxed proof }
-{
-    match proof {
-        Some(proof) => Some(Box::into_inner(proof)),
-        None => None,
-    }
-}
-
 pub(crate) fn falsify_node(
     alloc: Global,
     e: &BoundExpression,
@@ -151,18 +150,21 @@ pub(crate) fn falsify_node(
             let left = falsify_node(alloc, x, rules, meter)?;
             let right = falsify_node(alloc, y, rules, meter)?;
             let built_in = either_proof(alloc, left, right)?;
-            join_answer(alloc, Claim::NoRow, e, built_in, rules, meter)
+            let proofs = as_list(alloc, built_in)?;
+            join_answers(alloc, Claim::NoRow, e, proofs, rules, meter)
         }
         BoundNode::Or(x, y) => {
             let left = falsify_node(alloc, x, rules, meter)?;
             let right = falsify_node(alloc, y, rules, meter)?;
             let built_in = both_proofs(alloc, left, right)?;
-            join_answer(alloc, Claim::NoRow, e, built_in, rules, meter)
+            let proofs = as_list(alloc, built_in)?;
+            join_answers(alloc, Claim::NoRow, e, proofs, rules, meter)
         }
         BoundNode::Between(x, lower, upper, options) => {
             let range = compare_ends(alloc, x, lower, upper, *options)?;
             let built_in = falsify_node(alloc, &range, rules, meter)?;
-            join_answer(alloc, Claim::NoRow, e, built_in, rules, meter)
+            let proofs = as_list(alloc, built_in)?;
+            join_answers(alloc, Claim::NoRow, e, proofs, rules, meter)
         }
         BoundNode::Literal(_)
         | BoundNode::Column(_)
@@ -199,28 +201,13 @@ fn compare_ends(
     bound_and(alloc, above, below)
 }
 
-// The comparison of copies of the two.
-pub(crate) fn compared(
-    alloc: Global,
-    comparison: Comparison,
-    x: &BoundExpression,
-    y: &BoundExpression,
-) -> Result<Box<BoundExpression>, AllocError>
-    ensures { IfOk result
-        (λ bound. bound.value ≡ test (comparison_of comparison) x.now y.now) }
-{
-    let left = copied(alloc, x)?;
-    let right = copied(alloc, y)?;
-    bound_compare(alloc, comparison, left, right)
-}
-
 // The proofs that no row satisfies a predicate which the built-in rules give at its root, in their
 // order. AND, OR and BETWEEN have none there: their proofs come from their parts.
 fn falsifiers(alloc: Global, e: &BoundExpression) -> Result<Vec<Proof>, AllocError>
     ensures { IfOk result (λ proofs. all_unboxed proofs.items ≡ falsifiers e.now) }
 {
     match &e.node {
-        BoundNode::Literal(value) => truth_proofs(alloc, truth_in(value).map(|flag| !flag)),
+        BoundNode::Literal(value) => truth_proofs(alloc, opposite(truth_in(value))),
         BoundNode::Compare(comparison, x, y) => comparison_proofs(alloc, *comparison, x, y),
         BoundNode::IsNull(x) => no_nulls(alloc, x),
         BoundNode::IsNotNull(x) => only_nulls(alloc, x),
@@ -260,6 +247,12 @@ pub(crate) fn satisfiers(alloc: Global, e: &BoundExpression) -> Result<Vec<Proof
     }
 }
 
+fn opposite(value: Option<bool>) -> Option<bool>
+    ensures { result ≡ option_map not value }
+{
+    Some(!value?)
+}
+
 // The literal of a truth value, where there is one, as Vortex's `LiteralStatsRewrite`.
 fn truth_proofs(alloc: Global, value: Option<bool>) -> Result<Vec<Proof>, AllocError>
     ensures { IfOk result (λ proofs. all_unboxed proofs.items ≡ truth_proofs value) }
@@ -271,4 +264,307 @@ fn truth_proofs(alloc: Global, value: Option<bool>) -> Result<Vec<Proof>, AllocE
         }
         None => Ok(Vec::new(alloc)),
     }
+}
+
+// The proofs of a comparison: none, one, or for floats two. There are any only where each side is a
+// literal or has a least and a greatest value. These don't count NaN, so where a side is of floats
+// and no literal, a proof also asks that no value there is NaN: one by the count of NaN, Vortex's
+// `BinaryNanCountStatsRewrite`, and one by the flag, `BinaryAllNonNanStatsRewrite`.
+#[tactic(auto, using(crate::proofs::Comparisons::of_sides))]
+fn comparison_proofs(
+    alloc: Global,
+    comparison: Comparison,
+    x: &BoundExpression,
+    y: &BoundExpression,
+) -> Result<Vec<Proof>, AllocError>
+    ensures { IfOk result (λ proofs. all_unboxed proofs.items
+        ≡ comparison_proofs (comparison_of comparison) x.now y.now) }
+{
+    if !is_comparable(x) {
+        return Ok(Vec::new(alloc));
+    }
+    if !is_comparable(y) {
+        return Ok(Vec::new(alloc));
+    }
+    let left = may_be_nan(x);
+    let right = may_be_nan(y);
+    keep_from_nan(alloc, comparison, left, right, x, y)
+}
+
+// The proof, and where it may hold NaN twice. `left` and `right` tell which sides may.
+fn keep_from_nan(
+    alloc: Global,
+    comparison: Comparison,
+    left: bool,
+    right: bool,
+    x: &BoundExpression,
+    y: &BoundExpression,
+) -> Result<Vec<Proof>, AllocError>
+    ensures { IfOk result (λ proofs. all_unboxed proofs.items ≡ kept_from_nan left right x.now y.now
+        (refuted (comparison_of comparison) x.now y.now)) }
+{
+    if left || right {
+        let by_count = guarded(alloc, NanGuard::Count, comparison, left, right, x, y)?;
+        let by_flag = guarded(alloc, NanGuard::Flag, comparison, left, right, x, y)?;
+        two(alloc, by_count, by_flag)
+    } else {
+        let proof = refuted(alloc, comparison, x, y)?;
+        one(alloc, proof)
+    }
+}
+
+fn is_comparable(x: &BoundExpression) -> bool
+    ensures { result ≡ is_comparable x.now }
+{
+    x.as_literal().is_some() || x.has_bounds()
+}
+
+// A value of such an expression may be NaN, which no least or greatest value accounts for.
+fn may_be_nan(x: &BoundExpression) -> bool
+    ensures { result ≡ may_be_nan x.now }
+{
+    x.as_literal().is_none() && x.is_of_floats()
+}
+
+// The statistic by which a proof asks that no value is NaN.
+#[derive(Clone, Copy)]
+pub(crate) enum NanGuard {
+    Count,
+    Flag,
+}
+
+fn guarded(
+    alloc: Global,
+    guard: NanGuard,
+    comparison: Comparison,
+    left: bool,
+    right: bool,
+    x: &BoundExpression,
+    y: &BoundExpression,
+) -> Result<Proof, AllocError>
+    ensures { IfOk result (λ all. all.value ≡ guarded guard left right x.now y.now
+        (refuted (comparison_of comparison) x.now y.now)) }
+{
+    let proof = refuted(alloc, comparison, x, y)?;
+    match (left, right) {
+        (true, true) => {
+            let first = no_nan(alloc, guard, x)?;
+            let second = no_nan(alloc, guard, y)?;
+            let both = bound_and(alloc, first, second)?;
+            bound_and(alloc, both, proof)
+        }
+        (true, false) => bound_and(alloc, no_nan(alloc, guard, x)?, proof),
+        (false, true) => bound_and(alloc, no_nan(alloc, guard, y)?, proof),
+        (false, false) => Ok(proof),
+    }
+}
+
+fn no_nan(alloc: Global, guard: NanGuard, x: &BoundExpression) -> Result<Proof, AllocError>
+    ensures { IfOk result (λ proof. proof.value ≡ no_nan guard x.now) }
+{
+    match guard {
+        NanGuard::Count => {
+            let nans = placeholder(alloc, AggregateFn::NanCount, x)?;
+            let none = count(alloc, 0)?;
+            bound_compare(alloc, Comparison::Eq, nans, none)
+        }
+        NanGuard::Flag => placeholder(alloc, AggregateFn::AllNonNan, x),
+    }
+}
+
+// The rows of the table that compare.
+fn refuted(
+    alloc: Global,
+    comparison: Comparison,
+    x: &BoundExpression,
+    y: &BoundExpression,
+) -> Result<Proof, AllocError>
+    ensures { IfOk result
+        (λ proof. proof.value ≡ refuted (comparison_of comparison) x.now y.now) }
+{
+    match comparison {
+        Comparison::Eq => {
+            let above = compare_least(alloc, Comparison::Gt, x, y)?;
+            let below = compare_least(alloc, Comparison::Gt, y, x)?;
+            bound_or(alloc, above, below)
+        }
+        Comparison::NotEq => {
+            let low = compare_least(alloc, Comparison::Eq, x, y)?;
+            let high = compare_greatest(alloc, Comparison::Eq, x, y)?;
+            bound_and(alloc, low, high)
+        }
+        Comparison::Gt => compare_greatest(alloc, Comparison::Lte, x, y),
+        Comparison::Gte => compare_greatest(alloc, Comparison::Lt, x, y),
+        Comparison::Lt => compare_least(alloc, Comparison::Gte, x, y),
+        Comparison::Lte => compare_least(alloc, Comparison::Gt, x, y),
+    }
+}
+
+fn compare_least(
+    alloc: Global,
+    comparison: Comparison,
+    x: &BoundExpression,
+    y: &BoundExpression,
+) -> Result<Proof, AllocError>
+    ensures { IfOk result
+        (λ proof. proof.value ≡ test (comparison_of comparison) (low x.now) (high y.now)) }
+{
+    let least = end_of_values(alloc, AggregateFn::Min, x)?;
+    let greatest = end_of_values(alloc, AggregateFn::Max, y)?;
+    bound_compare(alloc, comparison, least, greatest)
+}
+
+fn compare_greatest(
+    alloc: Global,
+    comparison: Comparison,
+    x: &BoundExpression,
+    y: &BoundExpression,
+) -> Result<Proof, AllocError>
+    ensures { IfOk result
+        (λ proof. proof.value ≡ test (comparison_of comparison) (high x.now) (low y.now)) }
+{
+    let greatest = end_of_values(alloc, AggregateFn::Max, x)?;
+    let least = end_of_values(alloc, AggregateFn::Min, y)?;
+    bound_compare(alloc, comparison, greatest, least)
+}
+
+// No value is null. This falsifies IS NULL, by Vortex's `IsNullNullCountStatsRewrite` and
+// `IsNullAllNonNullStatsRewrite`, and satisfies IS NOT NULL, by `IsNotNullNullCountStatsRewrite`
+// and `IsNotNullAllNonNullStatsRewrite`.
+fn no_nulls(alloc: Global, x: &BoundExpression) -> Result<Vec<Proof>, AllocError>
+    ensures { IfOk result (λ proofs. all_unboxed proofs.items ≡ no_nulls x.now) }
+{
+    let nulls = null_count(alloc, x)?;
+    let none = count(alloc, 0)?;
+    counted(alloc, nulls, none, AggregateFn::AllNonNull, x)
+}
+
+/// Each value is null. This satisfies IS NULL, by Vortex's `IsNullNullCountStatsRewrite` and
+/// `IsNullAllNullStatsRewrite`, and falsifies IS NOT NULL, by `IsNotNullNullCountStatsRewrite` and
+/// `IsNotNullAllNullStatsRewrite`.
+pub(crate) fn only_nulls(alloc: Global, x: &BoundExpression) -> Result<Vec<Proof>, AllocError>
+    ensures { IfOk result (λ proofs. all_unboxed proofs.items ≡ only_nulls x.now) }
+{
+    let nulls = null_count(alloc, x)?;
+    let all = bound_row_count(alloc)?;
+    counted(alloc, nulls, all, AggregateFn::AllNull, x)
+}
+
+// No value is NaN, by Vortex's `IsNanNaNCountStatsRewrite` and `IsNanAllNonNanStatsRewrite`.
+fn no_nans(alloc: Global, x: &BoundExpression) -> Result<Vec<Proof>, AllocError>
+    ensures { IfOk result (λ proofs. all_unboxed proofs.items ≡ no_nans x.now) }
+{
+    if !x.is_of_floats() {
+        return Ok(Vec::new(alloc));
+    }
+    let nans = nan_count(alloc, x)?;
+    let none = count(alloc, 0)?;
+    counted(alloc, nans, none, AggregateFn::AllNonNan, x)
+}
+
+// Each value is NaN, by Vortex's `IsNanNaNCountStatsRewrite` and `IsNanAllNanStatsRewrite`.
+fn only_nans(alloc: Global, x: &BoundExpression) -> Result<Vec<Proof>, AllocError>
+    ensures { IfOk result (λ proofs. all_unboxed proofs.items ≡ only_nans x.now) }
+{
+    if !x.is_of_floats() {
+        return Ok(Vec::new(alloc));
+    }
+    let nans = nan_count(alloc, x)?;
+    let all = bound_row_count(alloc)?;
+    counted(alloc, nans, all, AggregateFn::AllNan, x)
+}
+
+// By a count that is this number of rows, and by the flag that says so, since a binder may know only
+// one of them.
+fn counted(
+    alloc: Global,
+    found: Proof,
+    rows: Proof,
+    flag: AggregateFn,
+    x: &BoundExpression,
+) -> Result<Vec<Proof>, AllocError>
+    ensures { IfOk result (λ proofs. all_unboxed proofs.items
+        ≡ counted found.value rows.value (aggregate_of flag) x.now) }
+{
+    let by_count = bound_compare(alloc, Comparison::Eq, found, rows)?;
+    let by_flag = placeholder(alloc, flag, x)?;
+    two(alloc, by_count, by_flag)
+}
+
+// Vortex's `LikeStatsRewrite`. There is none where a lone backslash ends the pattern, nor where it
+// begins with a wildcard or a text that can't be raised.
+fn falsify_like(
+    alloc: Global,
+    x: &BoundExpression,
+    pattern: &BoundExpression,
+    options: LikeOptions,
+) -> Result<Option<Proof>, AllocError>
+    ensures { IfOk result (λ proof. unboxed proof
+        ≡ like_proof x.now pattern.now options.negated options.case_insensitive) }
+{
+    if options.negated || options.case_insensitive {
+        return Ok(None);
+    }
+    let Some(pattern) = pattern.as_text() else {
+        return Ok(None);
+    };
+    match like_variant(alloc, pattern.as_str())? {
+        Some(LikeVariant::Exact(text)) => falsify_text(alloc, x, text),
+        Some(LikeVariant::Prefix(prefix)) => falsify_prefix(alloc, x, prefix),
+        None => Ok(None),
+    }
+}
+
+fn falsify_text(
+    alloc: Global,
+    x: &BoundExpression,
+    text: String,
+) -> Result<Option<Proof>, AllocError>
+    ensures { IfOk result
+        (λ proof. unboxed proof ≡ shape_proof x.now (exact_text (chars (string_bytes text)))) }
+{
+    let above = BufferString::from_string(text)?;
+    let below = above.clone()?;
+    let proof = outside(alloc, Comparison::Gt, x, below, above)?;
+    Ok(Some(proof))
+}
+
+// A text that begins so is not below the beginning, and is below the raised one.
+fn falsify_prefix(
+    alloc: Global,
+    x: &BoundExpression,
+    prefix: String,
+) -> Result<Option<Proof>, AllocError>
+    ensures { IfOk result
+        (λ proof. unboxed proof ≡ shape_proof x.now (beginning (chars (string_bytes prefix)))) }
+{
+    match raise(alloc, &prefix)? {
+        Some(raised) => {
+            let below = BufferString::from_string(prefix)?;
+            let above = BufferString::from_string(raised)?;
+            let proof = outside(alloc, Comparison::Gte, x, below, above)?;
+            Ok(Some(proof))
+        }
+        None => Ok(None),
+    }
+}
+
+// The least value compares with `above`, or the greatest is less than `below`.
+fn outside(
+    alloc: Global,
+    comparison: Comparison,
+    x: &BoundExpression,
+    below: BufferString,
+    above: BufferString,
+) -> Result<Proof, AllocError>
+    ensures { IfOk result
+        (λ proof. proof.value ≡ outside x.now below above (comparison_of comparison)) }
+{
+    let least = end_of_values(alloc, AggregateFn::Min, x)?;
+    let above = text(alloc, above)?;
+    let least_above = bound_compare(alloc, comparison, least, above)?;
+    let greatest = end_of_values(alloc, AggregateFn::Max, x)?;
+    let below = text(alloc, below)?;
+    let greatest_below = bound_compare(alloc, Comparison::Lt, greatest, below)?;
+    bound_or(alloc, least_above, greatest_below)
 }

@@ -1,10 +1,11 @@
-//! Statistics of bound expressions, as proofs ask for them. Those of a literal are known;
-//! placeholders stand for all others.
+//! Proofs and their parts: statistics of bound expressions, of which those of a literal are known
+//! and placeholders stand for all others, and literals.
 ghost use Rattle.std.specs.Prelude.{◌≡◌, IfOk};
 ghost use Rattle.vortex_dtype_core.specs.View.{type_of};
-ghost use Rattle.vortex_stats_bind.specs.Bound.{placeholder_type};
+ghost use Rattle.vortex_stats_bind.specs.Bound.{test, placeholder_type};
 ghost use Rattle.vortex_stats_expr.specs.Aggregate.{aggregate_of};
-ghost use Rattle.vortex_stats_rules.specs.Table.{fixed_truth, fixed_count, fixed_text, stat_of, end_of_values, nulls_of, nans_of};
+ghost use Rattle.vortex_stats_expr.specs.Tree.{comparison_of};
+ghost use Rattle.vortex_stats_rules.specs.Table.{unboxed, fixed_truth, fixed_count, fixed_text, stat_of, end_of_values, nulls_of, nans_of};
 
 use std::alloc::{AllocError, Global};
 use vortex_dtype_core::BufferString;
@@ -15,9 +16,10 @@ use vortex_scalar_builders::constructors::ScalarConstructors;
 use vortex_scalar_core::scalar::Scalar;
 use vortex_scalar_value::pvalue::PValue;
 use vortex_scalar_value::scalar_value::ScalarValue;
-use vortex_stats_bind::bound::{BoundExpression, bound_literal, bound_stat};
+use vortex_stats_bind::bound::{BoundExpression, bound_compare, bound_literal, bound_stat};
 use vortex_stats_expr::aggregate::AggregateFn;
 use vortex_stats_expr::aggregate_dtype::aggregate_dtype;
+use vortex_stats_expr::operator::Comparison;
 
 /// A proof, or a part of one. It is in a box from the start, since it ends up in one where it is
 /// joined with others.
@@ -29,6 +31,31 @@ pub(crate) fn copied(alloc: Global, x: &BoundExpression) -> Result<Proof, AllocE
 {
     let copy = x.clone()?;
     Ok(Box::new(alloc, copy)?)
+}
+
+/// The comparison of copies of the two.
+pub(crate) fn compared(
+    alloc: Global,
+    comparison: Comparison,
+    x: &BoundExpression,
+    y: &BoundExpression,
+) -> Result<Proof, AllocError>
+    ensures { IfOk result
+        (λ bound. bound.value ≡ test (comparison_of comparison) x.now y.now) }
+{
+    let left = copied(alloc, x)?;
+    let right = copied(alloc, y)?;
+    bound_compare(alloc, comparison, left, right)
+}
+
+/// The expression in the box, where there is one.
+pub(crate) fn out_of_box(proof: Option<Proof>) -> Option<BoundExpression>
+    ensures { result ≡ unboxed proof }
+{
+    match proof {
+        Some(proof) => Some(Box::into_inner(proof)),
+        None => None,
+    }
 }
 
 /// The least or the greatest value. Each of a literal is the literal itself.

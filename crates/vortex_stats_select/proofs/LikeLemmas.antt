@@ -7,7 +7,8 @@ use Rattle.vortex_model_table.specs.Like.{has_backslash, is_like}
 use Rattle.vortex_model_table.specs.Truth.{liked}
 use Rattle.vortex_model.specs.Path.{Positions, at}
 use Rattle.vortex_model_table.specs.ZoneMap.{values_at}
-use Rattle.vortex_stats_bind.specs.Bound.{fixed, place, bound_value}
+use Rattle.vortex_stats_bind.specs.Bound.{Bound, place_of, bound_value}
+use Rattle.vortex_stats_bind.specs.Truths.{text_in}
 use Rattle.vortex_arrays_model.specs.Layout.{Valid, strings, texts, is_valid, rows_of, IsSound}
 use Rattle.vortex_arrays_view.specs.Views.{value_of}
 use Rattle.vortex_stats_mask.specs.Columns.{shown_at}
@@ -20,6 +21,7 @@ use Rattle.vortex_stats_match.proofs.HeadLemmas.{has_head}
 use Rattle.vortex_stats_select.specs.Wants.{wanted_match}
 use Rattle.vortex_stats_select.proofs.LeafLemmas.{strings_shown, told_where_valid}
 use Rattle.vortex_stats_select.proofs.PairLemmas.{through}
+use Rattle.vortex_stats_select.proofs.WantLemmas.{at_place, text_said}
 
 pub as_is : (xs : List Bool) → map (wanted_match true false) xs ≡ xs
 as_is [] = refl
@@ -109,9 +111,9 @@ module _ (want negated : Bool) (form : List ℕ) (u : IsUtf8 form) (plain : has_
       ∙ some_shown want negated form (λ x. value_of x bs) rows vs plain
       ∙ ap (map (λ c. is_wanted want (liked c (text form) negated))) (strings_shown v (length vs) (Some rows) told texts vs bs refl)
 
-pub like_wanted : (want negated : Bool) (form : List ℕ) (is : Positions) (rows cs : List Content) → cs ≡ values_at is rows →
-    map (λ c. is_wanted want (liked c (text form) negated)) cs
-    ≡ map (λ row. is_wanted want (liked (bound_value (place is) row) (bound_value (fixed (text form)) row) negated)) rows
-like_wanted want negated form is rows cs h =
+pub like_wanted : (want negated : Bool) (form : List ℕ) (x y : Bound) (is : Positions) (rows cs : List Content) → place_of x ≡ Some is → text_in y ≡ Some form → cs ≡ values_at is rows →
+    map (λ c. is_wanted want (liked c (text form) negated)) cs ≡ map (λ row. is_wanted want (liked (bound_value x row) (bound_value y row) negated)) rows
+like_wanted want negated form x y is rows cs p t h =
     ap (map (λ c. is_wanted want (liked c (text form) negated))) h
     ∙ through (λ c. is_wanted want (liked c (text form) negated)) (λ row. at row is) rows
+    ∙ (λ i. map (λ row. is_wanted want (liked (at_place x is p row i) (text_said y form t row i) negated)) rows)

@@ -1,17 +1,36 @@
 -- The wanted truths of predicates by those of their parts.
-use Rattle.std.proofs.Common.{◌≡◌, refl, sym, ap, ◌∙◌, ℕ, Bool, true, false, not, List, length, map, replicate}
+use Rattle.std.proofs.Common.{◌≡◌, refl, sym, ap, ◌∙◌, ℕ, Bool, true, false, not, List, length, map, replicate, Some}
 use Rattle.std.specs.List.{zip}
-use Rattle.vortex_model.specs.Content.{Content, boolean, is_null}
+use Rattle.vortex_model.specs.Content.{Content, boolean, text, is_null}
 use Rattle.std.proofs.lemmas.List.{length-map}
 use Rattle.vortex_model.specs.Path.{Positions, at}
 use Rattle.vortex_model_table.specs.ZoneMap.{values_at}
 use Rattle.vortex_model_table.specs.Expression.{Comparison, equal}
 use Rattle.vortex_model_table.specs.Truth.{compared}
-use Rattle.vortex_stats_bind.specs.Bound.{Bound, opposite, value_test, bound_value}
+use Rattle.vortex_stats_bind.specs.Bound.{Bound, fixed, place, opposite, value_test, place_of, bound_value}
+use Rattle.vortex_stats_bind.specs.Truths.{text_in}
 use Rattle.vortex_stats_mask.specs.Wanted.{is_wanted}
 use Rattle.vortex_stats_mask.proofs.Truths.{wanted_of_not}
 use Rattle.vortex_stats_select.specs.Wants.{wanted_rows}
 use Rattle.vortex_stats_select.proofs.PairLemmas.{paired, beside, through}
+
+-- ---- leaves
+
+-- a column is what stands at its positions
+pub at_place : (b : Bound) (is : Positions) → place_of b ≡ Some is → (row : Content) → at row is ≡ bound_value b row
+at_place (place xs js k) is h row = ap (at row) (sym (told h))
+  where
+    told : {us vs : Positions} → Some us ≡ Some vs → us ≡ vs
+    told e = cc e
+at_place b is h row = absurd (cc h)
+
+-- and a literal text that text
+pub text_said : (b : Bound) (t : List ℕ) → text_in b ≡ Some t → (row : Content) → text t ≡ bound_value b row
+text_said (fixed k (text u)) t h row = ap text (sym (told h))
+  where
+    told : {us vs : List ℕ} → Some us ≡ Some vs → us ≡ vs
+    told e = cc e
+text_said b t h row = absurd (cc h)
 
 -- ---- connectives
 
@@ -57,6 +76,8 @@ comparisons_wanted want op x y rows cs ds h k =
     (λ i. map (λ p. is_wanted want (compared op p.0 p.1)) (zip (h i) (k i)))
     ∙ paired (λ c d. is_wanted want (compared op c d)) (bound_value x) (bound_value y) rows
 
-pub nulls_wanted : (want : Bool) (is : Positions) (rows cs : List Content) → cs ≡ values_at is rows → map (λ c. is_wanted want (boolean (is_null c))) cs ≡ map (λ row. is_wanted want (boolean (is_null (at row is)))) rows
-nulls_wanted want is rows cs h =
+pub nulls_wanted : (want : Bool) (x : Bound) (is : Positions) (rows cs : List Content) → place_of x ≡ Some is → cs ≡ values_at is rows →
+    map (λ c. is_wanted want (boolean (is_null c))) cs ≡ map (λ row. is_wanted want (boolean (is_null (bound_value x row)))) rows
+nulls_wanted want x is rows cs p h =
     ap (map (λ c. is_wanted want (boolean (is_null c)))) h ∙ through (λ c. is_wanted want (boolean (is_null c))) (λ row. at row is) rows
+    ∙ (λ i. map (λ row. is_wanted want (boolean (is_null (at_place x is p row i)))) rows)

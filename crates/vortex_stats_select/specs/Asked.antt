@@ -20,7 +20,7 @@ seen (Some asked) rows = open_rows asked.at asked.mask.now rows
 
 -- LIKE
 abbrev pub is_match : Bound → Bool
-is_match (match_test x form negated) = true
+is_match (match_test x form negated ignores_case) = true
 is_match b = false
 
 -- LIKE, or NOT of it

@@ -2,7 +2,7 @@
 ghost use Rattle.std.specs.Prelude.{◌≡◌, List, Bool, Some};
 ghost use Rattle.vortex_stats_select.specs.Asked.{leaves_open, is_match, is_late, open_rows, seen};
 
-use vortex_stats_bind::bound::{BoundNode, BoundTree};
+use vortex_stats_bind::bound::{BoundExpression, BoundNode};
 
 // The rows that a mask leaves open: where it has this truth.
 #[derive(Clone, Copy)]
@@ -24,7 +24,7 @@ pub(crate) fn open_behind(at: bool, mask: &[bool]) -> Asked<'_>
     Asked { mask, at }
 }
 
-fn is_match(e: &BoundTree) -> bool
+fn is_match(e: &BoundExpression) -> bool
     ensures { result ≡ is_match e.now }
 {
     match &e.node {
@@ -34,7 +34,7 @@ fn is_match(e: &BoundTree) -> bool
 }
 
 // Whether the test of a row costs so much that the other part of AND or OR is better told first.
-pub(crate) fn is_late(e: &BoundTree) -> bool
+pub(crate) fn is_late(e: &BoundExpression) -> bool
     ensures { result ≡ is_late e.now }
 {
     match &e.node {

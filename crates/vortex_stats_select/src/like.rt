@@ -6,11 +6,10 @@ ghost use Rattle.vortex_model_table.specs.Truth.{liked};
 ghost use Rattle.vortex_arrays_core.specs.LayoutOf.{valid_of};
 ghost use Rattle.vortex_arrays_model.specs.Layout.{dictionary, len_of, rows_of, strings, texts, IsSound};
 ghost use Rattle.vortex_arrays_model.specs.Parts.{AreWithin};
-ghost use Rattle.vortex_scalar_value.specs.View.{content_in};
-ghost use Rattle.vortex_stats_bind.specs.Bound.{fixed, bound_value};
+ghost use Rattle.vortex_stats_bind.specs.Bound.{match_test};
 ghost use Rattle.vortex_stats_mask.specs.Wanted.{is_wanted};
 ghost use Rattle.vortex_stats_select.specs.Asked.{seen};
-ghost use Rattle.vortex_stats_select.specs.Wants.{wanted_match};
+ghost use Rattle.vortex_stats_select.specs.Wants.{wanted_match, wanted_rows};
 
 use crate::asked::Asked;
 use crate::columns::Columns;
@@ -22,8 +21,8 @@ use bytes::Bytes;
 use std::alloc::{AllocError, Global};
 use vortex_arrays_core::array::{ArrayLayout, ArrayRef, StringKind, Validity};
 use vortex_arrays_view::view::BinaryView;
-use vortex_scalar_value::scalar_value::ScalarValue;
-use vortex_stats_bind::bound::{BoundNode, BoundTree};
+use vortex_stats_bind::bound::BoundExpression;
+use vortex_stats_expr::options::LikeOptions;
 use vortex_stats_mask::column::ValidRows;
 use vortex_stats_mask::masks::{keep_valid, opposite};
 use vortex_stats_match::like::has_backslash;
@@ -148,51 +147,28 @@ fn like_array(
     }
 }
 
-fn text_of(value: &Option<ScalarValue>) -> Option<&str>
-    ensures { IfSome result (λ t. content_in value.now ≡ text t.now) }
-{
-    let text = value.as_ref()?.as_utf8()?;
-    Some(text.as_str())
-}
-
-// The text of a literal text.
-fn literal_text(e: &BoundTree) -> Option<&str>
-    ensures { IfSome result (λ t. e.now ≡ fixed (text t.now)) }
-{
-    match &e.node {
-        BoundNode::Literal(value) => text_of(value),
-        BoundNode::Column(_) => None,
-        BoundNode::Compare(_, _, _) => None,
-        BoundNode::And(_, _) => None,
-        BoundNode::Or(_, _) => None,
-        BoundNode::Not(_) => None,
-        BoundNode::IsNull(_) => None,
-        BoundNode::IsNotNull(_) => None,
-        BoundNode::Between(_, _, _, _) => None,
-        BoundNode::Like(_, _, _) => None,
-        BoundNode::RowCount => None,
-        BoundNode::Stat(_, _) => None,
-    }
-}
-
-// For which rows LIKE has the wanted truth. `None` where the value isn't a column of texts that is
-// plain or a dictionary, or the pattern no literal text without a backslash.
+// For which rows LIKE has the wanted truth. `None` where it ignores case, the value isn't a column
+// of texts that is plain or a dictionary, or the pattern no literal text without a backslash.
 pub(crate) fn like_test<S: Columns>(
     alloc: Global,
     want: bool,
-    value: &BoundTree,
-    pattern: &BoundTree,
-    negated: bool,
+    value: &BoundExpression,
+    pattern: &BoundExpression,
+    options: LikeOptions,
     asked: Option<Asked<'_>>,
     columns: &S,
 ) -> Result<Option<Vec<bool>>, AllocError>
     ensures { IfOk result (λ found. IfSome found (λ mask. seen asked.entry mask.items
-        ≡ seen asked.entry (map (λ row. is_wanted want (liked (bound_value value.now row)
-        (bound_value pattern.now row) negated)) (S.rows columns.now)))) }
+        ≡ seen asked.entry (wanted_rows want (match_test value.now pattern.now options.negated
+        options.case_insensitive) (S.rows columns.now)))) }
 {
-    let Some(pattern) = literal_text(pattern) else {
+    if options.case_insensitive {
+        return Ok(None);
+    }
+    let Some(pattern) = pattern.as_text() else {
         return Ok(None);
     };
+    let pattern = pattern.as_str();
     if has_backslash(pattern) {
         return Ok(None);
     }
@@ -202,5 +178,5 @@ pub(crate) fn like_test<S: Columns>(
     let Some(column) = columns.column(alloc, path)? else {
         return Ok(None);
     };
-    like_array(alloc, want, negated, pattern, &column, asked)
+    like_array(alloc, want, options.negated, pattern, &column, asked)
 }

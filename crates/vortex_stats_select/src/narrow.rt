@@ -11,7 +11,7 @@ ghost use Rattle.vortex_stats_select.specs.Wants.{wanted_rows};
 use crate::columns::Columns;
 use crate::operand::{lent_column, literal_of};
 use vortex_scalar_value::scalar_value::ScalarValue;
-use vortex_stats_bind::bound::{BoundNode, BoundTree};
+use vortex_stats_bind::bound::{BoundExpression, BoundNode};
 use vortex_stats_expr::operator::Comparison;
 use vortex_stats_mask::narrow::narrow_wanted;
 use vortex_stats_mask::turned::swapped;
@@ -21,7 +21,7 @@ fn narrow_beside<S: Columns>(
     at: bool,
     comparison: Comparison,
     want: bool,
-    input: &BoundTree,
+    input: &BoundExpression,
     literal: Option<&ScalarValue>,
     columns: &S,
 ) -> bool
@@ -41,8 +41,8 @@ pub(crate) fn narrow_comparison<S: Columns>(
     at: bool,
     comparison: Comparison,
     want: bool,
-    left: &BoundTree,
-    right: &BoundTree,
+    left: &BoundExpression,
+    right: &BoundExpression,
     columns: &S,
 ) -> bool
     ensures { mask.new.items ≡ cond result (map (λ p. joined_by at p.0 p.1)
@@ -64,7 +64,7 @@ pub(crate) fn narrow_comparison<S: Columns>(
 pub(crate) fn narrow<S: Columns>(
     mask: &mut Vec<bool>,
     at: bool,
-    predicate: &BoundTree,
+    predicate: &BoundExpression,
     want: bool,
     columns: &S,
 ) -> bool

@@ -16,7 +16,7 @@ use crate::spread::spread;
 use crate::validity::valid_rows_of;
 use std::alloc::{AllocError, Global};
 use vortex_arrays_core::array::{ArrayLayout, ArrayRef, Validity};
-use vortex_stats_bind::bound::BoundTree;
+use vortex_stats_bind::bound::BoundExpression;
 use vortex_stats_mask::column::{Column, ValidRows};
 use vortex_stats_mask::masks::{both_into, opposite};
 
@@ -137,7 +137,7 @@ fn test_nulls(alloc: Global, want: bool, column: &ArrayRef) -> Result<Vec<bool>,
 pub(crate) fn null_test<S: Columns>(
     alloc: Global,
     want: bool,
-    input: &BoundTree,
+    input: &BoundExpression,
     columns: &S,
 ) -> Result<Option<Vec<bool>>, AllocError>
     ensures { IfOk result (λ found. IfSome found (λ mask. mask.items

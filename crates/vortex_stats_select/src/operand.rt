@@ -1,10 +1,11 @@
 //! What a comparison compares: one value for all rows, a column, or a dictionary.
 ghost use Rattle.std.specs.Prelude.{◌≡◌, Bool, length, map, IfOk, IfSome};
+ghost use Rattle.vortex_model.specs.Content.{Content};
 ghost use Rattle.vortex_arrays_model.specs.Layout.{dictionary, len_of, rows_of};
 ghost use Rattle.vortex_arrays_model.specs.Parts.{AreWithin};
 ghost use Rattle.vortex_model_table.specs.ZoneMap.{values_at};
 ghost use Rattle.vortex_scalar_value.specs.View.{content_at};
-ghost use Rattle.vortex_stats_bind.specs.Bound.{fixed, bound_value};
+ghost use Rattle.vortex_stats_bind.specs.Bound.{bound_value};
 ghost use Rattle.vortex_stats_mask.specs.Columns.{column_of};
 ghost use Rattle.vortex_stats_select.specs.Operands.{operand_rows};
 
@@ -13,10 +14,9 @@ use crate::leaf::Leaf;
 use crate::leaves::leaf_of;
 use std::alloc::{AllocError, Global};
 use vortex_arrays_core::array::{ArrayLayout, ArrayRef};
-use vortex_scalar_core::scalar::Scalar;
 use vortex_scalar_value::clone::clone_value;
 use vortex_scalar_value::scalar_value::ScalarValue;
-use vortex_stats_bind::bound::{BoundNode, BoundTree};
+use vortex_stats_bind::bound::{BoundExpression, BoundNode};
 use vortex_stats_mask::column::Column;
 
 // A value that each row has, where `None` is null, a leaf column, or the codes and the values of a
@@ -38,22 +38,23 @@ impl Drop for Operand {
 }
 
 // The value of a literal, which is lent, and `None` of any other expression.
-pub(crate) fn literal_of(e: &BoundTree) -> Option<Option<&ScalarValue>>
-    ensures { IfSome result (λ value. e.now ≡ fixed (content_at value)) }
+pub(crate) fn literal_of(e: &BoundExpression) -> Option<Option<&ScalarValue>>
+    ensures { IfSome result
+        (λ value. (row : Content) → bound_value e.now row ≡ content_at value) }
 {
     match &e.node {
-        BoundNode::Literal(value) => Some(value.as_ref()),
+        BoundNode::Literal(scalar) => Some(scalar.value()),
         _ => None,
     }
 }
 
 // The leaf column that an expression is, where it can be lent.
-pub(crate) fn lent_column<'a, S: Columns>(e: &BoundTree, columns: &'a S) -> Option<Column<'a>>
+pub(crate) fn lent_column<'a, S: Columns>(e: &BoundExpression, columns: &'a S) -> Option<Column<'a>>
     ensures { IfSome result
         (λ column. column_of column ≡ map (bound_value e.now) (S.rows columns.now)) }
 {
     match &e.node {
-        BoundNode::Column(path) => columns.leaf(path),
+        BoundNode::Column(column) => columns.leaf(&column.positions),
         _ => None,
     }
 }
@@ -62,7 +63,7 @@ pub(crate) fn lent_column<'a, S: Columns>(e: &BoundTree, columns: &'a S) -> Opti
 // whole.
 pub(crate) fn operand_of<S: Columns>(
     alloc: Global,
-    e: &BoundTree,
+    e: &BoundExpression,
     columns: &S,
 ) -> Result<Option<Operand>, AllocError>
     ensures { IfOk result (λ found. IfSome found (λ operand.
@@ -70,21 +71,22 @@ pub(crate) fn operand_of<S: Columns>(
         ≡ map (bound_value e.now) (S.rows columns.now))) }
 {
     match &e.node {
-        BoundNode::Literal(value) => {
-            let value = clone_value(value.as_ref())?;
+        BoundNode::Literal(scalar) => {
+            let value = clone_value(scalar.value())?;
             Ok(Some(Operand::Value(value)))
         }
-        BoundNode::Column(path) => column_operand(alloc, path, columns),
+        BoundNode::Column(column) => column_operand(alloc, &column.positions, columns),
         BoundNode::Compare(_, _, _) => Ok(None),
         BoundNode::And(_, _) => Ok(None),
         BoundNode::Or(_, _) => Ok(None),
         BoundNode::Not(_) => Ok(None),
         BoundNode::IsNull(_) => Ok(None),
         BoundNode::IsNotNull(_) => Ok(None),
+        BoundNode::IsNan(_) => Ok(None),
         BoundNode::Between(_, _, _, _) => Ok(None),
         BoundNode::Like(_, _, _) => Ok(None),
         BoundNode::RowCount => Ok(None),
-        BoundNode::Stat(_, _) => Ok(None),
+        BoundNode::Stat(_, _, _) => Ok(None),
     }
 }
 

@@ -18,7 +18,7 @@ use crate::nulls::null_test;
 use crate::operand::{Operand, lent_column, literal_of, operand_of};
 use std::alloc::{AllocError, Global};
 use vortex_scalar_value::scalar_value::ScalarValue;
-use vortex_stats_bind::bound::{BoundNode, BoundTree};
+use vortex_stats_bind::bound::{BoundExpression, BoundNode};
 use vortex_stats_expr::operator::Comparison;
 use vortex_stats_expr::options::BetweenOptions;
 use vortex_stats_mask::compare;
@@ -30,8 +30,8 @@ fn comparison<S: Columns>(
     alloc: Global,
     comparison: Comparison,
     want: bool,
-    left: &BoundTree,
-    right: &BoundTree,
+    left: &BoundExpression,
+    right: &BoundExpression,
     columns: &S,
 ) -> Result<Option<Vec<bool>>, AllocError>
     ensures { IfOk result (λ found. IfSome found (λ mask. mask.items
@@ -51,7 +51,7 @@ fn literal_comparison<S: Columns>(
     alloc: Global,
     comparison: Comparison,
     want: bool,
-    input: &BoundTree,
+    input: &BoundExpression,
     literal: Option<&ScalarValue>,
     columns: &S,
 ) -> Result<Option<Vec<bool>>, AllocError>
@@ -73,8 +73,8 @@ fn operand_comparison<S: Columns>(
     alloc: Global,
     comparison: Comparison,
     want: bool,
-    left: &BoundTree,
-    right: &BoundTree,
+    left: &BoundExpression,
+    right: &BoundExpression,
     columns: &S,
 ) -> Result<Option<Vec<bool>>, AllocError>
     ensures { IfOk result (λ found. IfSome found (λ mask. mask.items
@@ -98,7 +98,7 @@ fn operand_comparison<S: Columns>(
 fn truth<S: Columns>(
     alloc: Global,
     want: bool,
-    e: &BoundTree,
+    e: &BoundExpression,
     columns: &S,
 ) -> Result<Option<Vec<bool>>, AllocError>
     ensures { IfOk result (λ found. IfSome found
@@ -121,9 +121,9 @@ fn truth<S: Columns>(
 fn range_test<S: Columns>(
     alloc: Global,
     want: bool,
-    value: &BoundTree,
-    lower: &BoundTree,
-    upper: &BoundTree,
+    value: &BoundExpression,
+    lower: &BoundExpression,
+    upper: &BoundExpression,
     options: BetweenOptions,
     columns: &S,
 ) -> Result<Option<Vec<bool>>, AllocError>
@@ -148,7 +148,7 @@ fn range_test<S: Columns>(
 fn literal_range<S: Columns>(
     alloc: Global,
     want: bool,
-    input: &BoundTree,
+    input: &BoundExpression,
     lower: Option<&ScalarValue>,
     upper: Option<&ScalarValue>,
     options: BetweenOptions,
@@ -176,9 +176,9 @@ fn literal_range<S: Columns>(
 fn operand_range<S: Columns>(
     alloc: Global,
     want: bool,
-    value: &BoundTree,
-    lower: &BoundTree,
-    upper: &BoundTree,
+    value: &BoundExpression,
+    lower: &BoundExpression,
+    upper: &BoundExpression,
     options: BetweenOptions,
     columns: &S,
 ) -> Result<Option<Vec<bool>>, AllocError>
@@ -207,7 +207,7 @@ fn operand_range<S: Columns>(
 // The truths of a test that is no connective and no LIKE, whatever rows are open.
 fn plain_test<S: Columns>(
     alloc: Global,
-    predicate: &BoundTree,
+    predicate: &BoundExpression,
     want: bool,
     columns: &S,
 ) -> Result<Option<Vec<bool>>, AllocError>
@@ -223,12 +223,13 @@ fn plain_test<S: Columns>(
         BoundNode::Not(_) => Ok(None),
         BoundNode::IsNull(x) => null_test(alloc, want, x, columns),
         BoundNode::IsNotNull(x) => null_test(alloc, !want, x, columns),
+        BoundNode::IsNan(_) => Ok(None),
         BoundNode::Between(x, lower, upper, options) => {
             range_test(alloc, want, x, lower, upper, *options, columns)
         }
         BoundNode::Like(_, _, _) => Ok(None),
         BoundNode::RowCount => Ok(None),
-        BoundNode::Stat(_, _) => Ok(None),
+        BoundNode::Stat(_, _, _) => Ok(None),
     }
 }
 
@@ -239,8 +240,8 @@ fn both_parts<S: Columns>(
     alloc: Global,
     join: bool,
     want: bool,
-    first: &BoundTree,
-    last: &BoundTree,
+    first: &BoundExpression,
+    last: &BoundExpression,
     asked: Option<Asked<'_>>,
     columns: &S,
 ) -> Result<Option<Vec<bool>>, AllocError>
@@ -262,7 +263,7 @@ fn part_behind<S: Columns>(
     at: bool,
     want: bool,
     mask: Vec<bool>,
-    last: &BoundTree,
+    last: &BoundExpression,
     columns: &S,
 ) -> Result<Option<Vec<bool>>, AllocError>
     ensures { IfOk result (λ found. IfSome found (λ all. all.items
@@ -284,7 +285,7 @@ fn part_behind<S: Columns>(
 #[cycle(asked)]
 fn select_asked<S: Columns>(
     alloc: Global,
-    predicate: &BoundTree,
+    predicate: &BoundExpression,
     want: bool,
     asked: Option<Asked<'_>>,
     columns: &S,
@@ -308,8 +309,8 @@ fn select_asked<S: Columns>(
             }
         }
         BoundNode::Not(x) => select_asked(alloc, x, !want, asked, columns),
-        BoundNode::Like(x, pattern, negated) => {
-            like_test(alloc, want, x, pattern, *negated, asked, columns)
+        BoundNode::Like(x, pattern, options) => {
+            like_test(alloc, want, x, pattern, *options, asked, columns)
         }
         _ => plain_test(alloc, predicate, want, columns),
     }
@@ -319,7 +320,7 @@ fn select_asked<S: Columns>(
 /// neither. `None` where some part of it isn't told by whole columns.
 pub fn select<S: Columns>(
     alloc: Global,
-    predicate: &BoundTree,
+    predicate: &BoundExpression,
     want: bool,
     columns: &S,
 ) -> Result<Option<Vec<bool>>, AllocError>

@@ -107,21 +107,28 @@ pub mod scalar {
 /// What is known of statistics, predicates over rows, and the proofs over statistics that are made
 /// of them.
 pub mod expr {
-    /// Placeholders over inputs that are bound already.
+    /// Bound expressions made of others, and placeholders over them.
     pub mod bound {
+        pub use vortex_stats_bind::make::{
+            and, between, compare, is_nan, is_not_null, is_null, like, lit, not, or, row_count,
+            stat,
+        };
         pub use vortex_stats_evaluate::bound::{
-            all_nan, all_non_nan, all_non_null, all_null, min_max, nan_count, null_count, stat, sum,
+            all_nan, all_non_nan, all_non_null, all_null, min_max, nan_count, null_count, sum,
         };
     }
 
     pub use vortex_stats_array::array_stats::ArrayStats;
     pub use vortex_stats_array::of_array::array_stats;
-    pub use vortex_stats_bind::bind::bind_proof;
+    pub use vortex_stats_bind::bind::bind;
+    pub use vortex_stats_bind::bound::BoundColumn;
+    pub use vortex_stats_bind::bound::BoundExpression;
     pub use vortex_stats_bind::bound::BoundNode;
-    pub use vortex_stats_bind::bound::BoundTree;
     pub use vortex_stats_bind::bound::Operands;
-    pub use vortex_stats_bind::bound::bound_literal;
     pub use vortex_stats_bind::stats::StatBinder;
+    pub use vortex_stats_bind::stats::bind_stats;
+    pub use vortex_stats_bind::stats::bind_stats_in_zones;
+    pub use vortex_stats_bind::stats::null_of;
     pub use vortex_stats_bind::value::Value;
     pub use vortex_stats_bound::bound::LowerBound;
     pub use vortex_stats_bound::bound::UpperBound;
@@ -130,8 +137,6 @@ pub mod expr {
     pub use vortex_stats_bound::precision::Precision;
     pub use vortex_stats_bound::stat_bound::StatBound;
     pub use vortex_stats_bound::stat_bound::StatType;
-    pub use vortex_stats_evaluate::bind::BoundExpression;
-    pub use vortex_stats_evaluate::bind::bind;
     pub use vortex_stats_evaluate::evaluate::evaluate;
     pub use vortex_stats_evaluate::evaluate::prove;
     pub use vortex_stats_evaluate::markers::IsConstant;
@@ -149,7 +154,6 @@ pub mod expr {
     pub use vortex_stats_evaluate::stat_fn::StatFn;
     pub use vortex_stats_evaluate::stat_fn::StatOptions;
     pub use vortex_stats_evaluate::stat_scalar::stat_scalar;
-    pub use vortex_stats_evaluate::stats::bind_stats;
     pub use vortex_stats_evaluate::stats_set_ext::StatsSetExt;
     pub use vortex_stats_expr::aggregate::AggregateFn;
     pub use vortex_stats_expr::bitset::PRUNING_STATS;
@@ -197,7 +201,9 @@ pub mod expr {
     pub use vortex_stats_expr::stat_iter::StatIter;
     pub use vortex_stats_mask::column::Column;
     pub use vortex_stats_mask::column::Items;
+    pub use vortex_stats_mask::column::Numbers;
     pub use vortex_stats_mask::column::Strings;
+    pub use vortex_stats_mask::column::ValidRows;
     pub use vortex_stats_mask::compare::compare_literal;
     pub use vortex_stats_mask::pairs::compare_columns;
     pub use vortex_stats_match::like::has_backslash;

@@ -23,7 +23,7 @@ use Rattle.vortex_table_chunk.specs.zones.Typed.{is_typed_as}
 use Rattle.vortex_table_chunk.specs.zones.Join.{AreNeighbours, IsJoinOf, CanJoin, AreJoinsOf, zone_in}
 use Rattle.vortex_table_chunk.specs.Bounds.{AreBoundsOf, are_typed_at}
 use Rattle.vortex_table_chunk.specs.Joined.{IsLeafAt, IsJoined, AreJoined, rows_in}
-use Rattle.vortex_table_chunk.proofs.ProvenAlike.{all_of_type}
+use Rattle.vortex_table_chunk.proofs.JoinedLeaves.{all_of_type}
 use Rattle.vortex_table_chunk.proofs.zones.TypeLemmas.{typed_sum}
 use Rattle.vortex_table_chunk.proofs.zones.Forms.{FormIn, both_compare, group_low_form, group_high_form}
 

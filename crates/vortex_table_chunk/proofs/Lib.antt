@@ -1,12 +1,11 @@
-pub mod Agreement
 pub mod ClonedLemmas
 pub mod EqualLeaves
 pub mod Formed
 pub mod JoinLists
+pub mod JoinedLeaves
 pub mod JoinedLemmas
 pub mod KeptLemmas
 pub mod LeafBounds
 pub mod LeafPlaces
 pub mod LeafTypes
-pub mod ProvenAlike
 pub mod TypedRows

@@ -19,7 +19,8 @@ bounds_at leaves bounds is = None
 
 -- what is given for a placeholder
 abbrev pub zone_stat : List Positions → List ColumnBounds → ℕ → Bound → Aggregate → Content
-zone_stat leaves bounds rows (place is) a = stat_value_or_null (bounds_at leaves bounds is) rows a
+zone_stat leaves bounds rows (place xs is k) a =
+    stat_value_or_null (bounds_at leaves bounds is) rows a
 zone_stat leaves bounds rows b a = null
 
 -- what the bounds of the leaves of so many rows provide: no column, and the number of rows

@@ -1,5 +1,5 @@
 -- The answer with one more chunk, part by part.
-use Rattle.std.proofs.Common.{◌≡◌, ◌+◌, ◌-◌, ◌^◌, ◌++◌, ℕ, min, List, is_some, arith}
+use Rattle.std.proofs.Common.{◌≡◌, refl, ◌+◌, ◌-◌, ◌^◌, ◌++◌, ℕ, min, List, Option, Some, None, is_some, option_map, arith}
 use Rattle.std.proofs.lemmas.Bool.Decides.{nat_tests}
 use Rattle.vortex_model.specs.Content.{Content}
 use Rattle.vortex_model_table.specs.Scan.{Outcome, is_skipped, is_whole, saturated, ScanAnswer}
@@ -8,6 +8,11 @@ use Rattle.vortex_table_core.specs.Progress.{Question, found_rows, push_if, test
 -- a sum that stops at the greatest number of 64 bits
 pub stopped : (n : ℕ) → min n (2 ^ 64 - 1) ≡ saturated n
 stopped n = grind (arith, nat_tests)
+
+-- what is made of what is there, is
+pub as_there : {X Y : Type 0} (f : X → Y) (o : Option X) → is_some o ≡ is_some (option_map f o)
+as_there f None = refl
+as_there f (Some x) = refl
 
 pub added : (q : Question) (i : ℕ) (chunk : List Content) (o : Outcome) (a b : ScanAnswer) →
     b.rows ≡ a.rows ++ found_rows q o chunk → b.kind ≡ a.kind → b.skipped ≡ push_if (is_skipped o) i a.skipped → b.whole ≡ push_if (is_whole o) i a.whole →

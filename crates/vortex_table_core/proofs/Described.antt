@@ -28,7 +28,7 @@ use Rattle.vortex_table_chunk.specs.Joined.{IsJoined, AreJoined, rows_in}
 use Rattle.vortex_table_chunk.specs.zones.Join.{zone_in}
 use Rattle.vortex_table_chunk.specs.declared.chunk.Chunk.{Chunk}
 use Rattle.vortex_table_chunk.specs.declared.zones.bounds.ColumnBounds.{ColumnBounds}
-use Rattle.vortex_table_chunk.proofs.ProvenAlike.{FoundJoined, found_joined, all_of_type}
+use Rattle.vortex_table_chunk.proofs.JoinedLeaves.{FoundJoined, found_joined, all_of_type}
 use Rattle.vortex_table_core.specs.Group.{IsGroup, AreGroups, chunks_of}
 use Rattle.vortex_table_chunk.specs.Formed.{is_formed}
 use Rattle.vortex_table_core.specs.TableView.{table_of}

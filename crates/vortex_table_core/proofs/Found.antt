@@ -29,6 +29,7 @@ use Rattle.vortex_table_core.specs.declared.plan.Scan.{Scan}
 use Rattle.vortex_table_schema.proofs.Cuts.{cut_is_valid, cut_is_kept}
 use Rattle.vortex_table_schema.proofs.Explained.{none_so}
 use Rattle.vortex_table_chunk.proofs.Formed.{of_type}
+use Rattle.vortex_table_plan.proofs.BoundValues.{bound_says}
 use Rattle.vortex_table_core.proofs.Rows.{IsCut, kept_each, kept_all}
 
 no_null : (k : LogicalType) → type_fault k ≡ None → valid k raw_null ≡ false
@@ -80,7 +81,7 @@ module _ (plan : Scan) (is : IsPlan plan) (chunk : Chunk) (formed : IsTrue (is_f
   all_found = ap (λ t. map (content_cut t) (chunk_rows chunk)) is.prepared.cut_values ∙ kept_all k paths (chunk_rows chunk) all_cut
 
   eq_test : (row : Content) → is_selected plan.prepared.now.bound row ≡ selects k q.predicate row
-  eq_test row = ap is_true (is.prepared.bound row)
+  eq_test row = ap is_true (bound_says k q.predicate plan.prepared.now.bound is.prepared.bound row)
 
   pub some_found : cut_rows plan.prepared.now.cut (selected_rows plan.prepared.now.bound (chunk_rows chunk)) ≡ found_rows q tested (chunk_rows chunk)
   some_found =

@@ -39,24 +39,24 @@ module _ (plan : Scan) (is : IsPlan plan) (chunk : Chunk) (formed : IsTrue (is_f
   abbrev pub proved : Option Bound → Bool
   proved proof = proved_in (zone_provided (leaf_positions t.kind) chunk.bounds.items (len_of chunk.array)) proof
 
-  falsified_alike : proved plan.prepared.now.proofs.falsifier ≡ proves (chunk_zone t (chunk_rows chunk)) (length (chunk_rows chunk)) q.falsifier
-  falsified_alike = chunk_proves t chunk formed q.falsifier plan.prepared.now.proofs.falsifier is.prepared.falsifier
+  falsified_alike : proved plan.prepared.now.falsifier ≡ proves (chunk_zone t (chunk_rows chunk)) (length (chunk_rows chunk)) q.falsifier
+  falsified_alike = chunk_proves t chunk formed q.falsifier plan.prepared.now.falsifier is.prepared.falsifier
 
-  satisfied_alike : proved plan.prepared.now.proofs.satisfier ≡ proves (chunk_zone t (chunk_rows chunk)) (length (chunk_rows chunk)) q.satisfier
-  satisfied_alike = chunk_proves t chunk formed q.satisfier plan.prepared.now.proofs.satisfier is.prepared.satisfier
+  satisfied_alike : proved plan.prepared.now.satisfier ≡ proves (chunk_zone t (chunk_rows chunk)) (length (chunk_rows chunk)) q.satisfier
+  satisfied_alike = chunk_proves t chunk formed q.satisfier plan.prepared.now.satisfier is.prepared.satisfier
 
-  pub outcome_by : (b c : Bool) → b ≡ proved plan.prepared.now.proofs.falsifier → c ≡ proved plan.prepared.now.proofs.satisfier →
+  pub outcome_by : (b c : Bool) → b ≡ proved plan.prepared.now.falsifier → c ≡ proved plan.prepared.now.satisfier →
       (if b then skipped else (if c then whole else tested)) ≡ outcome_to q (chunk_rows chunk)
   outcome_by b c p q = λ i. if (p ∙ falsified_alike) i then skipped else (if (q ∙ satisfied_alike) i then whole else tested)
 
-  pub outcome_skipped : (b : Bool) → b ≡ proved plan.prepared.now.proofs.falsifier → b ≡ true → skipped ≡ outcome_to q (chunk_rows chunk)
+  pub outcome_skipped : (b : Bool) → b ≡ proved plan.prepared.now.falsifier → b ≡ true → skipped ≡ outcome_to q (chunk_rows chunk)
   outcome_skipped b p h =
-      ap (λ x. if x then skipped else (if proved plan.prepared.now.proofs.satisfier then whole else tested)) (sym h) ∙ outcome_by b (proved plan.prepared.now.proofs.satisfier) p refl
+      ap (λ x. if x then skipped else (if proved plan.prepared.now.satisfier then whole else tested)) (sym h) ∙ outcome_by b (proved plan.prepared.now.satisfier) p refl
 
-  pub outcome_whole : (b c : Bool) → b ≡ proved plan.prepared.now.proofs.falsifier → c ≡ proved plan.prepared.now.proofs.satisfier → b ≡ false → c ≡ true → whole ≡ outcome_to q (chunk_rows chunk)
+  pub outcome_whole : (b c : Bool) → b ≡ proved plan.prepared.now.falsifier → c ≡ proved plan.prepared.now.satisfier → b ≡ false → c ≡ true → whole ≡ outcome_to q (chunk_rows chunk)
   outcome_whole b c p q h g = (λ i. if sym h i then skipped else (if sym g i then whole else tested)) ∙ outcome_by b c p q
 
-  pub outcome_tested : (b c : Bool) → b ≡ proved plan.prepared.now.proofs.falsifier → c ≡ proved plan.prepared.now.proofs.satisfier → b ≡ false → c ≡ false → tested ≡ outcome_to q (chunk_rows chunk)
+  pub outcome_tested : (b c : Bool) → b ≡ proved plan.prepared.now.falsifier → c ≡ proved plan.prepared.now.satisfier → b ≡ false → c ≡ false → tested ≡ outcome_to q (chunk_rows chunk)
   outcome_tested b c p q h g = (λ i. if sym h i then skipped else (if sym g i then whole else tested)) ∙ outcome_by b c p q
 
 -- ---- a group
@@ -81,12 +81,12 @@ module _ (plan : Scan) (is : IsPlan plan) (group : Group) (chunks : List Chunk) 
       ap (λ n. nat_lt 1 n && proves (group_zone table rows) (rows_in rows) asked.falsifier) (sym one)
 
   pub many_proved : (o : Option (List ColumnBounds)) (bounds : List ColumnBounds) (found : Bool) → o ≡ Some bounds → HasStatistics table.kind (bound_length table) o chunks →
-      found ≡ proved_in (zone_provided (leaf_positions table.kind) bounds group.rows) plan.prepared.now.proofs.falsifier → found ≡ is_group_skipped asked rows
+      found ≡ proved_in (zone_provided (leaf_positions table.kind) bounds group.rows) plan.prepared.now.falsifier → found ≡ is_group_skipped asked rows
   many_proved o bounds found e h p =
       let own = subst (λ p. HasStatistics table.kind (bound_length table) p chunks) e h in
       let many : nat_lt 1 (length rows) ≡ true = is_more (length rows) (let here = own.0 in let same = as_many in omega (arith, here, same)) in
-      p ∙ ap (λ n. proved_in (zone_provided (leaf_positions table.kind) bounds n) plan.prepared.now.proofs.falsifier) (sym grouped.rows)
-      ∙ group_proves table bounds rows (all_said (bound_length table) table.kind chunks formed) own.1 asked.falsifier plan.prepared.now.proofs.falsifier is.prepared.falsifier
+      p ∙ ap (λ n. proved_in (zone_provided (leaf_positions table.kind) bounds n) plan.prepared.now.falsifier) (sym grouped.rows)
+      ∙ group_proves table bounds rows (all_said (bound_length table) table.kind chunks formed) own.1 asked.falsifier plan.prepared.now.falsifier is.prepared.falsifier
       ∙ ap (λ b. b && proves (group_zone table rows) (rows_in rows) asked.falsifier) (sym many)
 
   pub many_if : (o : Option (List ColumnBounds)) → HasStatistics table.kind (bound_length table) o chunks → is_some o ≡ is_many rows

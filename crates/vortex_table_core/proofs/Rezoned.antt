@@ -1,6 +1,6 @@
 -- What scans read of chunks that are converted, where the same leaf columns stay.
 use Rattle.std.proofs.Common.{◌≡◌, refl, sym, ◌∙◌, ap, subst, ℕ, zero, suc, pos, List, [], ◌∷◌, length, map, drop, get_or, true, Option, Some, None, is_none, IsTrue}
-use Rattle.std.specs.Prelude.{slice_get, slice_index_or}
+use Rattle.std.specs.Prelude.{slice_index_or}
 use Rattle.std.specs.List.{list_all}
 use Rattle.vortex_model.specs.Content.{Content, integer}
 use Rattle.vortex_model.specs.LogicalType.{LogicalType}
@@ -11,7 +11,6 @@ use Rattle.vortex_model_table.proofs.ContentOrder.{true_left, true_right}
 use Rattle.vortex_arrays_model.specs.Layout.{len_of}
 use Rattle.vortex_table_schema.specs.Leaves.{leaf_positions}
 use Rattle.vortex_table_chunk.specs.Bounds.{AreBoundsOf}
-use Rattle.vortex_table_chunk.specs.BoundStat.{stat_value_or_null}
 use Rattle.vortex_table_chunk.specs.Chunk.{chunk_rows}
 use Rattle.vortex_table_chunk.specs.Formed.{is_formed}
 use Rattle.vortex_table_chunk.specs.declared.chunk.Chunk.{Chunk}

@@ -9,14 +9,16 @@ use Rattle.vortex_model.specs.Valid.{IsContent}
 use Rattle.vortex_model.specs.Kept.{is_leaf, is_leaf_at}
 use Rattle.vortex_model.specs.Path.{Names, Positions, positions, type_at, eq_positions}
 use Rattle.vortex_model_table.specs.ZoneMap.{ZoneMap, zone_of, values_at, group_bounds}
-use Rattle.vortex_model_table.specs.Expression.{Expression, column, like, Aggregate}
+use Rattle.vortex_model_table.specs.Expression.{Expression, column, Aggregate}
 use Rattle.vortex_model_table.specs.Truth.{Given, evaluate, is_true}
 use Rattle.vortex_model_table.specs.Table.{Table, bound_length}
 use Rattle.vortex_model_table.specs.Scan.{known, told, proves, chunk_zone, chunk_zone_at, leaf_at as leaf_of, if_leaf, group_zone}
 use Rattle.vortex_model_laws.proofs.Groups.{map_twice}
 use Rattle.vortex_model_laws.proofs.LeafOrder.{bounds_of_column}
 use Rattle.vortex_arrays_model.specs.Layout.{len_of}
-use Rattle.vortex_stats_bind.specs.Bound.{Bound, Provided, evaluate_bound, bound_of, bound_column, by_names}
+use Rattle.vortex_stats_bind.specs.Bound.{Bound, Provided, evaluate_bound, bound_of, column_at, by_names}
+use Rattle.vortex_stats_bind.specs.Bindings.{IsBoundProof}
+use Rattle.vortex_stats_bind.proofs.BoundValues.{proof_says}
 use Rattle.vortex_table_schema.specs.Leaves.{leaf_positions}
 use Rattle.vortex_table_schema.proofs.Places.{is_among, leaf_there, positions_so}
 use Rattle.vortex_table_chunk.specs.BoundCode.{coded_content}
@@ -25,15 +27,23 @@ use Rattle.vortex_table_chunk.specs.BoundStat.{stat_value_or_null, zone_stat, zo
 use Rattle.vortex_table_chunk.specs.Chunk.{chunk_rows}
 use Rattle.vortex_table_chunk.specs.Formed.{is_formed}
 use Rattle.vortex_table_chunk.specs.Joined.{AreJoined, rows_in}
-use Rattle.vortex_table_chunk.specs.Proved.{proved_in, IsBoundProof}
+use Rattle.vortex_table_chunk.specs.Proved.{proved_in}
 use Rattle.vortex_table_chunk.specs.declared.chunk.Chunk.{Chunk}
 use Rattle.vortex_table_chunk.specs.declared.zones.bounds.ColumnBounds.{ColumnBounds}
 use Rattle.vortex_table_chunk.proofs.Formed.{led, as_long}
 use Rattle.vortex_table_chunk.proofs.LeafBounds.{found_among}
 use Rattle.vortex_table_chunk.proofs.LeafPlaces.{leaf_leads}
-use Rattle.vortex_table_chunk.proofs.ProvenAlike.{LeafAt, FoundJoined, found_joined, all_of_type}
+use Rattle.vortex_table_chunk.proofs.JoinedLeaves.{FoundJoined, found_joined, all_of_type}
 use Rattle.vortex_table_chunk.proofs.TypedRows.{chunk_counted}
 use Rattle.vortex_table_chunk.proofs.zones.StatValueLemmas.{stat_values_are_right, stat_values_alike}
+
+-- the column at positions, where it is a leaf
+record LeafAt (k : LogicalType) (o : Option Positions) : Type 0 where
+  place : Positions
+  only : o ≡ Some place
+  type : LogicalType
+  there : type_at k place ≡ Some type
+  leaf : is_leaf type ≡ true
 
 -- ---- what is no leaf has no place among leaves
 
@@ -112,34 +122,32 @@ module _ (k : LogicalType) (bounds : List ColumnBounds) (rows : ℕ) (zones : Na
   of_type xs a is e None none = elsewhere xs a is e (ap is_leaf_there none)
   of_type xs a is e (Some l) there = of_leaf xs a is e l there (is_leaf l) refl
 
-  at_place : (xs : Names) (a : Aggregate) (o : Option Positions) → positions k xs ≡ o → zone_stat leaves bounds rows (bound_column o) a ≡ known zones rows (column xs) a
+  at_place : (xs : Names) (a : Aggregate) (o : Option Positions) → positions k xs ≡ o → zone_stat leaves bounds rows (column_at k xs o) a ≡ known zones rows (column xs) a
   at_place xs a None e = unknown xs a (ap (option_and_then (λ is. if_leaf is (type_at k is))) e)
   at_place xs a (Some is) e = of_type xs a is e (type_at k is) refl
 
   -- a placeholder asks of a column, or of what nothing is known of
   given_right : (x : Expression) (a : Aggregate) → given x a ≡ known zones rows x a
   given_right (column xs) a = at_place xs a (positions k xs) refl
-  given_right (like x form negated true) a = refl
-  given_right (like x form negated false) a = refl
   given_right x a = refl
 
   abbrev provided : Provided
   provided = zone_provided leaves bounds rows
 
   -- a column is null
-  no_column : (o : Option Positions) → evaluate_bound provided (bound_column o) ≡ null
-  no_column None = refl
-  no_column (Some is) = refl
+  no_column : (xs : Names) (o : Option Positions) → evaluate_bound provided (column_at k xs o) ≡ null
+  no_column xs None = refl
+  no_column xs (Some is) = refl
 
   abbrev shown : Given
   shown = record { columns = λ xs. null; placeholders = known zones rows; rows = rows }
 
   by_zones : by_names k provided ≡ shown
-  by_zones = λ i. record { columns = λ xs. no_column (positions k xs) i; placeholders = λ x a. given_right x a i; rows = rows }
+  by_zones = λ i. record { columns = λ xs. no_column xs (positions k xs) i; placeholders = λ x a. given_right x a i; rows = rows }
 
   proved_right : (o : Option Expression) (b : Option Bound) → IsBoundProof k o b → proved_in provided b ≡ proves zones rows o
   proved_right None None is = refl
-  proved_right (Some proof) (Some bound) is = ap is_true (is provided ∙ ap (λ g. evaluate g proof) by_zones)
+  proved_right (Some proof) (Some bound) is = ap is_true (proof_says k proof bound provided is.tree ∙ ap (λ g. evaluate g proof) by_zones)
   proved_right o b is = absurd is
 
 -- ---- of a chunk of a table

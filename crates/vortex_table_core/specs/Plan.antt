@@ -1,7 +1,8 @@
 -- A scan of a table, with what is made of it before its chunks.
-use Rattle.std.specs.Prelude.{◌≡◌, ℕ, List, Bool, map, take, drop}
+use Rattle.std.specs.Prelude.{ℕ, List, Bool, map, option_map, take, drop}
 use Rattle.vortex_model_table.specs.Table as model
 use Rattle.vortex_model_table.specs.Scan.{ScanAnswer}
+use Rattle.vortex_stats_bind.specs.Bound.{expression_of}
 use Rattle.vortex_table_chunk.specs.declared.chunk.Chunk.{Chunk}
 use Rattle.vortex_table_schema.specs.Leaves.{leaf_positions}
 use Rattle.vortex_table_schema.specs.Cut.{paths_of}
@@ -23,8 +24,8 @@ question_in plan = record {
   table = table_in plan;
   paths = paths_of plan.paths.now;
   predicate = plan.predicate.now;
-  falsifier = plan.prepared.now.trees.falsifier;
-  satisfier = plan.prepared.now.trees.satisfier;
+  falsifier = option_map expression_of plan.prepared.now.falsifier;
+  satisfier = option_map expression_of plan.prepared.now.satisfier;
 }
 
 -- the answer whose rows a scan found, cut as it asks
@@ -36,9 +37,9 @@ pub record IsPlan (plan : Scan) : Type 0 where
   pub prepared : IsPreparedFor (table_in plan).kind (question_in plan).paths
       (question_in plan).predicate plan.prepared.now
   pub falsifier : IsResolved (leaf_positions (table_in plan).kind)
-      plan.prepared.now.proofs.falsifier plan.falsifier
+      plan.prepared.now.falsifier plan.falsifier
   pub satisfier : IsResolved (leaf_positions (table_in plan).kind)
-      plan.prepared.now.proofs.satisfier plan.satisfier
+      plan.prepared.now.satisfier plan.satisfier
 
 -- ---- neighbouring chunks
 

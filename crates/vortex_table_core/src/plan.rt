@@ -35,7 +35,7 @@ pub struct Scan<'a> {
     pub table: &'a Table,
     pub paths: &'a [FieldPath],
     pub predicate: &'a Expression,
-    pub prepared: &'a ScanPlan<'a>,
+    pub prepared: &'a ScanPlan,
     pub falsifier: Option<ZonePredicate>,
     pub satisfier: Option<ZonePredicate>,
 }
@@ -84,14 +84,14 @@ impl Scan<'_> {
 
     // The number of proofs that were evaluated to come to the outcome.
     fn proofs_at(&self, outcome: Pruning) -> u64
-        ensures { result ≡ proofs_at (is_some self.now.prepared.now.proofs.falsifier)
-            (is_some self.now.prepared.now.proofs.satisfier) (outcome_of outcome) }
+        ensures { result ≡ proofs_at (is_some self.now.prepared.now.falsifier)
+            (is_some self.now.prepared.now.satisfier) (outcome_of outcome) }
     {
-        let falsified = u64::from(self.prepared.proofs.falsifier.is_some());
+        let falsified = u64::from(self.prepared.falsifier.is_some());
         match outcome {
             Pruning::Skip => falsified,
-            Pruning::TakeAll => falsified + u64::from(self.prepared.proofs.satisfier.is_some()),
-            Pruning::Filter => falsified + u64::from(self.prepared.proofs.satisfier.is_some()),
+            Pruning::TakeAll => falsified + u64::from(self.prepared.satisfier.is_some()),
+            Pruning::Filter => falsified + u64::from(self.prepared.satisfier.is_some()),
         }
     }
 

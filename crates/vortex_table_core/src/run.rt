@@ -79,11 +79,11 @@ impl Scan<'_> {
 
     // The number of proofs that are evaluated of the group alone.
     fn proofs_at_group(&self, group: &Group) -> u64
-        ensures { result ≡ one_if (is_some self.now.prepared.now.proofs.falsifier)
+        ensures { result ≡ one_if (is_some self.now.prepared.now.falsifier)
             * one_if (is_some group.now.joined) }
     {
         match &group.joined {
-            Some(_) => u64::from(self.prepared.proofs.falsifier.is_some()),
+            Some(_) => u64::from(self.prepared.falsifier.is_some()),
             None => 0,
         }
     }
@@ -113,9 +113,9 @@ impl Scan<'_> {
 
     // The number of proofs that are evaluated of so many chunks that are skipped.
     fn proofs_at_skipped(&self, count: usize) -> u64
-        ensures { result ≡ count * one_if (is_some self.now.prepared.now.proofs.falsifier) }
+        ensures { result ≡ count * one_if (is_some self.now.prepared.now.falsifier) }
     {
-        if self.prepared.proofs.falsifier.is_some() {
+        if self.prepared.falsifier.is_some() {
             count as u64
         } else {
             0

@@ -1,6 +1,4 @@
 //! Scans over the chunks of a table.
-ghost use Rattle.std.specs.Prelude.{◌≡◌};
-
 use crate::plan::Scan;
 use crate::table::Table;
 use std::alloc::{AllocError, Global};
@@ -8,31 +6,23 @@ use vortex_dtype_path::path::FieldPath;
 use vortex_model_rules::laws::scans_with_rules_lose_none;
 use vortex_stats_expr::expression::Expression;
 use vortex_stats_rules::rule::StatsRewriteRuleRef;
-use vortex_table_plan::make::prepare;
+use vortex_table_plan::make::{prepare, prepare_with};
 use vortex_table_plan::plan::ScanPlan;
-use vortex_table_plan::rules::prepare_with;
 use vortex_table_schema::answer::ScanAnswer;
-use vortex_table_schema::cut::RowProjection;
 use vortex_table_schema::error::TableError;
 use vortex_table_select::read::read_answer;
 use vortex_table_select::selection::{LazyAnswer, ScanSelection};
 use vortex_table_zonemaps::bind::resolve;
 
-// The cut of what is prepared. As a function of its own it lets go of the trees beside it.
-fn cut_of(prepared: ScanPlan) -> RowProjection
-    ensures { result ≡ prepared.entry.cut }
-{
-    prepared.cut
-}
-
 impl Table {
-    ghost use Rattle.std.specs.Prelude.{◌≡◌, None, Some, false, map, IfOk, OnOk, IfErr};
+    ghost use Rattle.std.specs.Prelude.{◌≡◌, None, Some, false, map, option_map, IfOk, OnOk, IfErr};
     ghost use Rattle.vortex_model_table.specs.Scan.{scanned};
     ghost use Rattle.vortex_model_table.specs.Table.{answer};
     ghost use Rattle.vortex_model_table.specs.Command.{scan, names_of, refusal};
     ghost use Rattle.vortex_model_rules.specs.Scanned.{scanned_by, scanned_with};
     ghost use Rattle.vortex_dtype_path.specs.View.{steps_of};
     ghost use Rattle.vortex_dtype_core.specs.View.{type_of};
+    ghost use Rattle.vortex_stats_bind.specs.Bound.{expression_of};
     ghost use Rattle.vortex_stats_rules.specs.Meanings.{rules_of};
     ghost use Rattle.vortex_table_schema.specs.Error.{Explains};
     ghost use Rattle.vortex_table_plan.specs.Prepared.{IsPreparedFor};
@@ -69,11 +59,7 @@ impl Table {
             (refusal (table_of self.now) (scan (map steps_of paths.now) predicate.now)) e) }
     {
         let prepared = prepare(alloc, &self.dtype, paths, predicate)?;
-        let found = (&*self).run_prepared(alloc, &*paths, &*predicate, &prepared);
-        // A call lets go of the trees in it: in place, each of their variants would be walked in
-        // the proof.
-        drop(prepared);
-        let answer = found?;
+        let answer = self.run_prepared(alloc, paths, predicate, &prepared)?;
         Ok(answer)
     }
 
@@ -107,10 +93,7 @@ impl Table {
     {
         scans_with_rules_lose_none();
         let prepared = prepare_with(alloc, &self.dtype, paths, predicate, rules)?;
-        let found = (&*self).run_prepared(alloc, &*paths, &*predicate, &prepared);
-        // As in `scan`.
-        drop(prepared);
-        let answer = found?;
+        let answer = self.run_prepared(alloc, paths, predicate, &prepared)?;
         Ok(answer)
     }
 
@@ -134,25 +117,27 @@ impl Table {
             (refusal (table_of self.now) (scan (map steps_of paths.now) predicate.now)) e) }
     {
         let prepared = prepare(alloc, &self.dtype, paths, predicate)?;
-        let found = (&*self).select_prepared(alloc, &*paths, &*predicate, &prepared);
-        let cut = cut_of(prepared);
-        let selection = found?;
-        Ok(LazyAnswer { cut, selection })
+        let selection = self.select_prepared(alloc, paths, predicate, &prepared)?;
+        Ok(LazyAnswer {
+            cut: prepared.cut,
+            selection,
+        })
     }
 
     // The answer to a scan for which this is prepared.
-    fn run_prepared<'s>(
-        &'s self,
+    fn run_prepared(
+        &self,
         alloc: Global,
-        paths: &'s [FieldPath],
-        predicate: &'s Expression,
-        prepared: &'s ScanPlan<'s>,
+        paths: &[FieldPath],
+        predicate: &Expression,
+        prepared: &ScanPlan,
     ) -> Result<ScanAnswer, AllocError>
         requires { IsPreparedFor (type_of self.now.dtype) (paths_of paths.now) predicate.now
             prepared.now }
         ensures found { IfOk result (λ a. answer_of a
             ≡ scanned_by (table_of self.now) (paths_of paths.now) predicate.now
-            prepared.now.trees.falsifier prepared.now.trees.satisfier) }
+            (option_map expression_of prepared.now.falsifier)
+            (option_map expression_of prepared.now.satisfier)) }
         ensures typed { IfOk result (λ a. IsTyped a) }
     {
         let found = self.select_prepared(alloc, paths, predicate, prepared)?;
@@ -161,23 +146,24 @@ impl Table {
     }
 
     // What a scan finds for which this is prepared.
-    fn select_prepared<'s>(
-        &'s self,
+    fn select_prepared(
+        &self,
         alloc: Global,
-        paths: &'s [FieldPath],
-        predicate: &'s Expression,
-        prepared: &'s ScanPlan,
+        paths: &[FieldPath],
+        predicate: &Expression,
+        prepared: &ScanPlan,
     ) -> Result<ScanSelection, AllocError>
         requires { IsPreparedFor (type_of self.now.dtype) (paths_of paths.now) predicate.now
             prepared.now }
         ensures found { IfOk result (λ found. answer_cut prepared.now.cut found
             ≡ scanned_by (table_of self.now) (paths_of paths.now) predicate.now
-            prepared.now.trees.falsifier prepared.now.trees.satisfier) }
+            (option_map expression_of prepared.now.falsifier)
+            (option_map expression_of prepared.now.satisfier)) }
         ensures typed { IfOk result
             (λ found. AreOfType (type_of self.now.dtype) found.selections.items) }
     {
-        let falsifier = resolve(alloc, &self.leaves, &prepared.proofs.falsifier)?;
-        let satisfier = resolve(alloc, &self.leaves, &prepared.proofs.satisfier)?;
+        let falsifier = resolve(alloc, &self.leaves, &prepared.falsifier)?;
+        let satisfier = resolve(alloc, &self.leaves, &prepared.satisfier)?;
         let plan = Scan {
             table: self,
             paths,

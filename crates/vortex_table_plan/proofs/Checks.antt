@@ -14,8 +14,13 @@ use Rattle.vortex_dtype_ptype.specs.View.{number_kind_of}
 use Rattle.vortex_dtype_ptype.specs.declared.ptype.PType.{PType}
 use Rattle.vortex_dtype_ptype.specs.declared.ptype.PType.TheVariants as ptype
 use Rattle.vortex_table_schema.specs.Error.{refusal_of}
-use Rattle.vortex_table_plan.specs.Faults.{IsReason, IsChecked, AreChecked, IsSameOf, IsRangeOf, truth_of, truths_of, like_of}
-use Rattle.vortex_stats_rewrite.specs.Literals.{text_of_literal}
+use Rattle.vortex_table_plan.specs.Faults.{IsReason, IsChecked, AreChecked, IsSameOf, IsRangeOf, truth_of, truths_of, like_of, literal_text}
+use Rattle.vortex_stats_bind.specs.Bindings.{IsReason as IsBindingReason}
+use Rattle.vortex_stats_expr.specs.declared.error.StatsError.{StatsError}
+use Rattle.vortex_stats_expr.specs.declared.error.StatsError.TheVariants as stats
+use Rattle.vortex_model_rules.specs.Faults.{ProofFault, binding_fault}
+use Rattle.vortex_model_rules.proofs.Usable.{binds}
+use Rattle.vortex_table_plan.specs.Rules.{IsOfRules, IsRuleError}
 use Rattle.vortex_stats_expr.specs.Types.{IsOfLeaf, IsOfClass, IsClass, IsLeaf}
 use Rattle.vortex_table_schema.specs.declared.error.TableError.{TableError}
 use Rattle.vortex_table_schema.specs.declared.error.TableError.TheVariants as error
@@ -23,7 +28,6 @@ use Rattle.vortex_stats_expr.specs.declared.types.Leaf.{Leaf}
 use Rattle.vortex_stats_expr.specs.declared.types.Leaf.TheVariants as leaf
 use Rattle.vortex_stats_expr.specs.declared.types.TypeClass.TheVariants as class
 use Rattle.vortex_table_plan.proofs.BoundValues.{bound_says}
-use Rattle.vortex_stats_rewrite.proofs.FormedLiterals.{scalar_is_formed}
 
 -- ---- leaves
 
@@ -91,7 +95,7 @@ fault_of_none (Some k) h = absurd h
 pub no_column : (k : LogicalType) (xs : Names) → IsClass None (type_of_column k xs) → IsChecked k (column xs) (Err error.UnknownColumn)
 no_column k xs h = fault_of_none (type_of_column k xs) h
 
-pub ruleset of_literals = (leaf_literal, float_literal, decimal_literal, other_literal, scalar_is_formed)
+pub ruleset of_literals = (leaf_literal, float_literal, decimal_literal, other_literal)
 
 pub ruleset of_columns = (leaf_column, float_column, decimal_column, other_column, no_column)
 
@@ -327,7 +331,7 @@ like_refused k x form n i e h =
     (or_else (unless (is_utf8_type (expression_type k x) && is_utf8_type (expression_type k form)) unequal_types) (unless (is_supported_like form i) unsupported_like)) h
 
 -- a literal text without a backslash, where case is kept
-pub supported_by_text : (form : Expression) (i : Bool) → is_supported_like form i ≡ elim (text_of_literal form) [ None ↦ false | Some bs ↦ not i && not (has_backslash bs) ]
+pub supported_by_text : (form : Expression) (i : Bool) → is_supported_like form i ≡ elim (literal_text form) [ None ↦ false | Some bs ↦ not i && not (has_backslash bs) ]
 supported_by_text (literal k (text bs)) i = refl
 supported_by_text (literal k c) i = refl
 supported_by_text e i = refl
@@ -354,4 +358,29 @@ bytes_no_truth k e h = whole_fault k e leaf.Binary h
 pub fault_inside : (k : LogicalType) (e : Expression) (r : TableError) → IsChecked k e (Err r) → IsReason r (predicate_fault k e)
 fault_inside k e r h = first_reason r (expression_fault k e) (unless (is_boolean (expression_type k e)) not_boolean) h
 
-pub ruleset binding = (faultless, no_truth, text_no_truth, bytes_no_truth, fault_inside, bound_says)
+-- ---- what has no fault is bound
+
+reason_of_none : (b : Bool) (r : StatsError) (o : Option ProofFault) → o ≡ None → IsBindingReason r o → IsOfRules b r
+reason_of_none b stats.Memory o n h = tt
+reason_of_none b stats.UnknownColumn o n h = absurd (cc (n, h))
+reason_of_none b stats.UnequalTypes o n h = absurd (cc (n, h))
+reason_of_none b stats.NotBoolean o n h = absurd (cc (n, h))
+reason_of_none b stats.UnsupportedAggregate o n h = absurd (cc (n, h))
+reason_of_none b stats.NotEvaluable o n h = absurd (cc (n, h))
+reason_of_none b stats.RuleFault o n h = absurd (cc (n, h))
+reason_of_none b r o n h = absurd h
+
+pub for_memory : (b : Bool) (k : LogicalType) (e : Expression) (r : StatsError) → expression_fault k e ≡ None → IsBindingReason r (binding_fault k e) → IsOfRules b r
+for_memory b k e r n h = reason_of_none b r (binding_fault k e) (binds k e n) h
+
+pub ruleset checked = (for_memory)
+
+pub no_fault_inside : (k : LogicalType) (e : Expression) (l : Leaf) → IsChecked k e (Ok l) → expression_fault k e ≡ None
+no_fault_inside k e l h = h.0
+
+pub memory_explained : (o : Option Refusal) (r : TableError) → IsRuleError false r → IsReason r o
+memory_explained o error.Memory h = tt
+memory_explained o error.RuleFault h = absurd (cc (h))
+memory_explained o r h = absurd h
+
+pub ruleset binding = (faultless, no_truth, text_no_truth, bytes_no_truth, fault_inside, no_fault_inside, memory_explained, bound_says)

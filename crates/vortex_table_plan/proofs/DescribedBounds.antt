@@ -29,7 +29,7 @@ use Rattle.vortex_table_chunk.specs.zones.Sums.{int_kind_of, is_sum_of}
 use Rattle.vortex_table_chunk.specs.zones.Typed.{is_value_of, is_said_of, is_typed_as}
 use Rattle.vortex_table_chunk.proofs.JoinedLemmas.{kind_there}
 use Rattle.vortex_table_chunk.proofs.zones.TypeLemmas.{same_kind, same_sum_kind, typed_sum, typed_low, typed_high}
-use Rattle.vortex_table_chunk.proofs.ProvenAlike.{all_of_type}
+use Rattle.vortex_table_chunk.proofs.JoinedLeaves.{all_of_type}
 use Rattle.vortex_table_chunk.proofs.zones.Forms.{Fits, FormIn, group_low_form, group_high_form}
 use Rattle.vortex_table_plan.specs.Described.{is_of_leaf, HasLeafBounds, leaf_type, bound_type, HasTypesOf, IsOfLeaf}
 

@@ -1,5 +1,4 @@
 pub mod Refusals
-pub mod BoundSides
-mod BoundValues
+pub mod BoundValues
 pub mod Checks
 pub mod DescribedBounds

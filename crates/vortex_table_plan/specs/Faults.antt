@@ -1,8 +1,9 @@
 -- What a refusal of a predicate says.
-use Rattle.std.specs.Prelude.{◌≡◌, ◌≢◌, ◌⊎◌, Bool, true, false, Option, None, Result, Ok, Err}
+use Rattle.std.specs.Prelude.{◌≡◌, ◌≢◌, ◌⊎◌, ℕ, List, Bool, true, false, Option, Some, None, Result, Ok, Err}
 use Rattle.vortex_model.specs.LogicalType.{LogicalType}
 use Rattle.vortex_model.specs.Refusal.{Refusal, or_else}
-use Rattle.vortex_model_table.specs.Expression.{Expression}
+use Rattle.vortex_model.specs.Content.{text}
+use Rattle.vortex_model_table.specs.Expression.{Expression, literal}
 use Rattle.vortex_model_table.specs.Typing.{expression_type}
 use Rattle.vortex_model_table.specs.Command.{expression_fault}
 use Rattle.vortex_table_schema.specs.Error.{Explains}
@@ -52,3 +53,8 @@ abbrev pub like_of : Leaf → Leaf → Bool → Result Leaf TableError
 like_of leaf.Utf8 leaf.Utf8 true = Ok leaf.Bool
 like_of leaf.Utf8 leaf.Utf8 false = Err error.UnsupportedLike
 like_of a b supported = Err error.UnequalTypes
+
+-- the text, where it is a literal one
+abbrev pub literal_text : Expression → Option (List ℕ)
+literal_text (literal k (text form)) = Some form
+literal_text e = None

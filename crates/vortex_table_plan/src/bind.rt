@@ -1,34 +1,36 @@
-//! Predicates of scans: their faults over the rows of a table, and their columns as positions.
+//! Predicates of scans: their faults over the rows of a table, which are more than those of binding
+//! and come in an order of their own, and how they are bound.
 //!
 //! `bind` is called once for a scan, so that no name is looked up while rows are tested.
-ghost use Rattle.std.specs.Prelude.{◌≡◌, IfOk, IfErr, OnOk, None};
+ghost use Rattle.std.specs.Prelude.{◌≡◌, IfOk, IfErr, OnOk, None, false, option_copied};
 ghost use Rattle.vortex_model.specs.LogicalType.{LogicalType};
 ghost use Rattle.vortex_model.specs.Content.{Content};
 ghost use Rattle.vortex_model_table.specs.Expression.{literal, column, HasFormedLiterals};
 ghost use Rattle.vortex_model_table.specs.Truth.{value_at};
-ghost use Rattle.vortex_model.specs.Valid.{IsContent};
-ghost use Rattle.vortex_model_table.specs.Command.{predicate_fault, is_supported_like};
+ghost use Rattle.vortex_model_table.specs.Command.{expression_fault, predicate_fault, is_supported_like};
 ghost use Rattle.vortex_dtype_core.specs.View.{type_of};
-ghost use Rattle.vortex_scalar_core.specs.Scalar.{scalar_type, scalar_content};
+ghost use Rattle.vortex_scalar_core.specs.Scalar.{scalar_type};
+ghost use Rattle.vortex_stats_bind.specs.Bindings.{IsBound};
 ghost use Rattle.vortex_stats_bind.specs.Bound.{bound_value};
 ghost use Rattle.vortex_table_schema.specs.Error.{Explains};
-ghost use Rattle.vortex_table_plan.specs.Faults.{IsChecked, AreChecked, IsSameOf, IsRangeOf, truth_of, truths_of, like_of};
+ghost use Rattle.vortex_table_plan.specs.Rules.{IsRuleError};
+ghost use Rattle.vortex_table_plan.specs.Faults.{IsChecked, AreChecked, IsSameOf, IsRangeOf, truth_of, truths_of, like_of, literal_text};
 
+use crate::rules::rule_error;
 use std::alloc::Global;
+use vortex_dtype_core::BufferString;
 use vortex_dtype_core::dtype::DType;
 use vortex_dtype_ptype::field_names::FieldNames;
 use vortex_scalar_core::scalar::Scalar;
-use vortex_stats_bind::bind::bind_proof;
-use vortex_stats_bind::bound::BoundTree;
+use vortex_stats_bind::bind::bind as bind_expression;
+use vortex_stats_bind::bound::BoundExpression;
 use vortex_stats_expr::expression::{Expression, Node};
 use vortex_stats_expr::options::LikeOptions;
 use vortex_stats_expr::types::{Leaf, TypeClass, class_of, column_class};
 use vortex_stats_match::like::has_backslash;
-use vortex_stats_rewrite::literal::literal_text;
 use vortex_table_schema::error::TableError;
 
-/// Resolves the columns of a predicate over rows of this type. The predicate is copied, in time
-/// linear in its size.
+/// Binds a predicate to rows of this type. It is copied, in time linear in its size.
 ///
 /// The first fault decides the refusal: children before their parent, left before right, and last
 /// whether the whole is of truth type. `Placeholder`; `UnknownColumn`; `NotALeaf` of a column that
@@ -36,27 +38,41 @@ use vortex_table_schema::error::TableError;
 /// a test for NaN and the number of rows; `UnequalTypes` of the sides of a comparison, of BETWEEN
 /// and of LIKE; `NotBoolean`; `UnsupportedLike`.
 #[tactic(auto, using(crate::proofs::Checks::binding))]
-pub fn bind(alloc: Global, e: &Expression, dtype: &DType) -> Result<BoundTree, TableError>
+pub fn bind(alloc: Global, e: &Expression, dtype: &DType) -> Result<BoundExpression, TableError>
     ensures faultless { OnOk result (predicate_fault (type_of dtype.now) e.now ≡ None) }
     ensures refused { IfErr result
         (λ error. Explains ⊥ (predicate_fault (type_of dtype.now) e.now) error) }
+    ensures bound { IfOk result (λ bound. IsBound (type_of dtype.now) e.now bound) }
     ensures value { IfOk result (λ bound. (row : Content) → bound_value bound row
         ≡ value_at (type_of dtype.now) e.now row) }
     ensures formed { OnOk result (HasFormedLiterals e.now) }
 {
     match check(dtype, e)? {
-        Leaf::Bool => Ok(bind_proof(alloc, e, dtype)?),
+        Leaf::Bool => bind_checked(alloc, e, dtype),
         Leaf::Primitive(_) => Err(TableError::NotBoolean),
         Leaf::Utf8 => Err(TableError::NotBoolean),
         Leaf::Binary => Err(TableError::NotBoolean),
     }
 }
 
+// What has no fault is bound, unless for want of memory.
+#[tactic(auto, using(crate::proofs::Checks::checked))]
+fn bind_checked(alloc: Global, e: &Expression, dtype: &DType) -> Result<BoundExpression, TableError>
+    requires { expression_fault (type_of dtype.now) e.now ≡ None }
+    ensures bound { IfOk result (λ bound. IsBound (type_of dtype.now) e.now bound) }
+    ensures formed { OnOk result (HasFormedLiterals e.now) }
+    ensures refused { IfErr result (IsRuleError false) }
+{
+    match bind_expression(alloc, e, dtype) {
+        Ok(bound) => Ok(bound),
+        Err(error) => Err(rule_error(error)),
+    }
+}
+
 // The type of an expression, nullability aside, or its first fault.
 #[cycle(check)]
 fn check(dtype: &DType, e: &Expression) -> Result<Leaf, TableError>
-    ensures checked { IsChecked (type_of dtype.now) e.now result }
-    ensures formed { OnOk result (HasFormedLiterals e.now) }
+    ensures { IsChecked (type_of dtype.now) e.now result }
 {
     match &e.node {
         Node::Literal(value) => check_literal(value),
@@ -113,9 +129,7 @@ fn check_both(
     left: &Expression,
     right: &Expression,
 ) -> Result<(Leaf, Leaf), TableError>
-    ensures checked { AreChecked (type_of dtype.now) left.now right.now result }
-    ensures formed { OnOk result (HasFormedLiterals left.now) }
-    ensures formed_right { OnOk result (HasFormedLiterals right.now) }
+    ensures { AreChecked (type_of dtype.now) left.now right.now result }
 {
     let first = check(dtype, left)?;
     let second = check(dtype, right)?;
@@ -125,9 +139,8 @@ fn check_both(
 // A literal is refused unless its type is one that predicates compare.
 #[tactic(auto, using(crate::proofs::Checks::of_literals))]
 fn check_literal(value: &Scalar) -> Result<Leaf, TableError>
-    ensures checked { (k : LogicalType) (c : Content)
+    ensures { (k : LogicalType) (c : Content)
         → IsChecked k (literal (scalar_type value.now) c) result }
-    ensures formed { IsContent (scalar_type value.now) (scalar_content value.now) }
 {
     match class_of(value.dtype()) {
         TypeClass::Leaf(leaf) => Ok(leaf),
@@ -199,6 +212,27 @@ fn check_like(
         (Leaf::Utf8, Leaf::Bool | Leaf::Primitive(_) | Leaf::Binary) => {
             Err(TableError::UnequalTypes)
         }
+    }
+}
+
+// The text, where it is a literal one.
+fn literal_text(e: &Expression) -> Option<&BufferString>
+    ensures { option_copied result ≡ literal_text e.now }
+{
+    match &e.node {
+        Node::Literal(value) => value.value()?.as_utf8(),
+        Node::Column(_) => None,
+        Node::Compare(_, _, _) => None,
+        Node::And(_, _) => None,
+        Node::Or(_, _) => None,
+        Node::Not(_) => None,
+        Node::IsNull(_) => None,
+        Node::IsNotNull(_) => None,
+        Node::IsNan(_) => None,
+        Node::Between(_, _, _, _) => None,
+        Node::Like(_, _, _) => None,
+        Node::RowCount => None,
+        Node::Stat(_, _) => None,
     }
 }
 

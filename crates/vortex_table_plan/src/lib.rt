@@ -7,8 +7,6 @@
 
 pub mod bind;
 pub mod describe;
-mod falsifier;
 pub mod make;
 pub mod plan;
-pub mod rules;
-mod sides;
+mod rules;

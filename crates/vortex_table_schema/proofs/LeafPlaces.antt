@@ -1,85 +1,28 @@
 -- The leaf columns that paths lead to.
-use Rattle.std.proofs.Common.{◌≡◌, refl, sym, ap, ◌∙◌, subst, ℕ, List, [], ◌∷◌, true, false, Option, Some, None, option_map, option_and_then, if◌then◌else◌, ◌<◌, length, arith}
+use Rattle.std.proofs.Common.{◌≡◌, refl, sym, ap, ◌∙◌, ℕ, List, [], ◌∷◌, true, false, Option, Some, None, option_map, option_and_then, if◌then◌else◌, ◌<◌, length, arith}
 use Rattle.std.specs.Prelude.{is_some}
-use Rattle.vortex_model.specs.LogicalType.{LogicalType, boolean_type, integer_type, float, decimal, utf8, binary}
-use Rattle.vortex_model_table.specs.Typing.{has_bounds}
+use Rattle.vortex_model.specs.LogicalType.{LogicalType}
 use Rattle.vortex_model.specs.Kept.{is_leaf, is_leaf_at}
 use Rattle.vortex_model.specs.Path.{Names, Positions, Step, name, element, positions, position_in, part_at, type_at, type_of_column}
 use Rattle.vortex_model.specs.Refusal.{Refusal, not_a_leaf, unknown_path, or_else}
 use Rattle.vortex_model_table.specs.Command.{names_of, positions_of, part_named, path_fault, leaf_fault}
-use Rattle.vortex_stats_expr.specs.Types.{IsOfLeaf, IsOfClass, IsClass}
-use Rattle.vortex_stats_expr.specs.declared.types.Leaf.{Leaf}
-use Rattle.vortex_stats_expr.specs.declared.types.Leaf.TheVariants as leaf
-use Rattle.vortex_stats_expr.specs.declared.types.TypeClass.TheVariants as class
 use Rattle.vortex_table_schema.specs.LeafPlace.{IsLeafPlace}
 
--- ---- by the class of the column's type
+-- ---- by the type of the column
 
-of_leaf : (l : Leaf) (k : LogicalType) → IsOfLeaf l k → is_leaf k ≡ true
-of_leaf leaf.Bool (boolean_type n) h = refl
-of_leaf (leaf.Primitive p) (integer_type i n) h = refl
-of_leaf leaf.Utf8 (utf8 n) h = refl
-of_leaf leaf.Binary (binary n) h = refl
-of_leaf l k h = absurd h
+leaf_type : (k : LogicalType) (xs : Names) (is : Positions) (t : LogicalType) → positions k xs ≡ Some is → type_of_column k xs ≡ Some t → is_leaf_at k is ≡ is_leaf t
+leaf_type k xs is t e h = ap (λ o. elim o [ None ↦ false | Some part ↦ is_leaf part ]) (ap (option_and_then (type_at k)) (sym e) ∙ h)
 
-leaf_type : (l : Leaf) (o : Option LogicalType) → IsClass (Some (class.Leaf l)) o → elim o [ None ↦ false | Some k ↦ is_leaf k ] ≡ true
-leaf_type l (Some k) h = of_leaf l k h
-leaf_type l None h = absurd h
+pub at_leaf : (k : LogicalType) (xs : Names) (is : Positions) (t : LogicalType) → positions k xs ≡ Some is → type_of_column k xs ≡ Some t → is_leaf t ≡ true → IsLeafPlace k xs is
+at_leaf k xs is t e h l = record { place = e; leaf = leaf_type k xs is t e h ∙ l }
 
-leaf_place : (k : LogicalType) (l : Leaf) (o found : Option Positions) → IsClass (Some (class.Leaf l)) (option_and_then (type_at k) o) → found ≡ o → (is : Positions) → found ≡ Some is → is_leaf_at k is ≡ true
-leaf_place k l o found h e is s = leaf_type l (type_at k is) (subst (λ p. IsClass (Some (class.Leaf l)) (option_and_then (type_at k) p)) (sym e ∙ s) h)
+pub at_none : (k : LogicalType) (xs : Names) (is js : Positions) (t : LogicalType) → positions k xs ≡ Some js → type_of_column k xs ≡ Some t → is_leaf t ≡ false → positions k xs ≡ Some is → is_leaf_at k is ≡ false
+at_none k xs is js t f h l e = leaf_type k xs is t e h ∙ l
 
-pub at_leaf : (k : LogicalType) (xs : Names) (l : Leaf) (is : Positions) → IsClass (Some (class.Leaf l)) (type_of_column k xs) → Some is ≡ positions k xs → IsLeafPlace k xs is
-at_leaf k xs l is h e = record { place = sym e; leaf = leaf_place k l (positions k xs) (Some is) h e is refl }
+pub leads_nowhere : (k : LogicalType) (xs : Names) (is : Positions) → positions k xs ≡ None → positions k xs ≡ Some is → is_leaf_at k is ≡ false
+leads_nowhere k xs is n e = absurd (cc (n, e))
 
--- the column of a leaf's class is there
-pub there : (k : LogicalType) (xs : Names) (l : Leaf) (is : Positions) → IsClass (Some (class.Leaf l)) (type_of_column k xs) → None ≡ positions k xs → positions k xs ≡ Some is → is_leaf_at k is ≡ false
-there k xs l is h e s = absurd (cc (e, s))
-
-no_leaf : (k : LogicalType) → has_bounds k ≡ false → is_leaf k ≡ false
-no_leaf (boolean_type n) h = absurd (cc (h))
-no_leaf (integer_type i n) h = absurd (cc (h))
-no_leaf (utf8 n) h = absurd (cc (h))
-no_leaf (binary n) h = absurd (cc (h))
-no_leaf k h = refl
-
-float_type : (k : LogicalType) → IsOfClass class.Float k → is_leaf k ≡ false
-float_type (float f n) h = refl
-float_type k h = absurd h
-
-decimal_type : (k : LogicalType) → IsOfClass class.Decimal k → is_leaf k ≡ false
-decimal_type (decimal p s n) h = refl
-decimal_type k h = absurd h
-
-pub at_float : (k : LogicalType) (xs : Names) (is : Positions) → IsClass (Some class.Float) (type_of_column k xs) → positions k xs ≡ Some is → is_leaf_at k is ≡ false
-at_float k xs is h e = by_type (type_at k is) (subst (λ o. IsClass (Some class.Float) (option_and_then (type_at k) o)) e h)
-  where
-    by_type : (o : Option LogicalType) → IsClass (Some class.Float) o → elim o [ None ↦ false | Some k ↦ is_leaf k ] ≡ false
-    by_type (Some k) h = float_type k h
-    by_type None h = refl
-
-pub at_decimal : (k : LogicalType) (xs : Names) (is : Positions) → IsClass (Some class.Decimal) (type_of_column k xs) → positions k xs ≡ Some is → is_leaf_at k is ≡ false
-at_decimal k xs is h e = by_type (type_at k is) (subst (λ o. IsClass (Some class.Decimal) (option_and_then (type_at k) o)) e h)
-  where
-    by_type : (o : Option LogicalType) → IsClass (Some class.Decimal) o → elim o [ None ↦ false | Some k ↦ is_leaf k ] ≡ false
-    by_type (Some k) h = decimal_type k h
-    by_type None h = refl
-
-pub at_other : (k : LogicalType) (xs : Names) (is : Positions) → IsClass (Some class.Other) (type_of_column k xs) → positions k xs ≡ Some is → is_leaf_at k is ≡ false
-at_other k xs is h e = by_type (type_at k is) (subst (λ o. IsClass (Some class.Other) (option_and_then (type_at k) o)) e h)
-  where
-    by_type : (o : Option LogicalType) → IsClass (Some class.Other) o → elim o [ None ↦ false | Some k ↦ is_leaf k ] ≡ false
-    by_type (Some k) h = no_leaf k h
-    by_type None h = refl
-
-pub at_none : (k : LogicalType) (xs : Names) (is : Positions) → IsClass None (type_of_column k xs) → positions k xs ≡ Some is → is_leaf_at k is ≡ false
-at_none k xs is h e = by_type (type_at k is) (subst (λ o. IsClass None (option_and_then (type_at k) o)) e h)
-  where
-    by_type : (o : Option LogicalType) → IsClass None o → elim o [ None ↦ false | Some k ↦ is_leaf k ] ≡ false
-    by_type None h = refl
-    by_type (Some k) h = absurd h
-
-pub ruleset by_class = (at_leaf, there, at_float, at_decimal, at_other, at_none)
+pub ruleset by_type = (at_leaf, at_none, leads_nowhere)
 
 -- ---- the part at a leaf's place
 

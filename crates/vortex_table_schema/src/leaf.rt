@@ -16,8 +16,7 @@ use vortex_dtype_core::dtype::DType;
 use vortex_dtype_path::field::Field;
 use vortex_dtype_path::path::FieldPath;
 use vortex_dtype_ptype::field_names::FieldNames;
-use vortex_stats_bind::bind::column_positions;
-use vortex_stats_expr::types::{TypeClass, column_class};
+use vortex_stats_bind::bind::resolve;
 
 // The names among the steps.
 fn names_of(alloc: Global, path: &FieldPath) -> Result<FieldNames, AllocError>
@@ -33,7 +32,7 @@ fn names_of(alloc: Global, path: &FieldPath) -> Result<FieldNames, AllocError>
 }
 
 // The positions of the column, where it is a leaf.
-#[tactic(auto, using(crate::proofs::LeafPlaces::by_class))]
+#[tactic(auto, using(crate::proofs::LeafPlaces::by_type))]
 fn leaf_place(
     alloc: Global,
     dtype: &DType,
@@ -45,15 +44,13 @@ fn leaf_place(
         → positions (type_of dtype.now) names.now ≡ Some is
         → is_leaf_at (type_of dtype.now) is ≡ false)) }
 {
-    match column_class(dtype, names) {
-        Some(TypeClass::Leaf(_)) => {
-            let place = column_positions(alloc, dtype, names)?;
-            Ok(place)
-        }
-        Some(TypeClass::Float) => Ok(None),
-        Some(TypeClass::Decimal) => Ok(None),
-        Some(TypeClass::Other) => Ok(None),
-        None => Ok(None),
+    let Some(column) = resolve(alloc, names, dtype)? else {
+        return Ok(None);
+    };
+    if column.dtype.is_leaf() {
+        Ok(Some(column.positions))
+    } else {
+        Ok(None)
     }
 }
 

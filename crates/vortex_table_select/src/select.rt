@@ -10,7 +10,7 @@ ghost use Rattle.vortex_table_select.specs.Selected.{is_selected, selected_rows,
 use crate::selection::Selection;
 use std::alloc::{AllocError, Global};
 use vortex_arrays_core::array::ArrayRef;
-use vortex_stats_bind::bound::BoundTree;
+use vortex_stats_bind::bound::BoundExpression;
 use vortex_stats_select::columns::Columns;
 use vortex_stats_select::select::select;
 use vortex_table_layout::rows::record_at;
@@ -34,7 +34,7 @@ pub fn take_rows(
 #[tactic(auto, using(crate::proofs::Taken::masked))]
 pub fn select_rows<S: Columns>(
     alloc: Global,
-    predicate: &BoundTree,
+    predicate: &BoundExpression,
     array: &ArrayRef,
     columns: &S,
     found: &mut Vec<Selection>,
@@ -75,7 +75,7 @@ fn push_selection(
 #[tactic(auto, using(crate::proofs::Taken::whole))]
 fn mask_of<S: Columns>(
     alloc: Global,
-    predicate: &BoundTree,
+    predicate: &BoundExpression,
     array: &ArrayRef,
     columns: &S,
 ) -> Result<Vec<bool>, AllocError>
@@ -94,7 +94,7 @@ fn mask_of<S: Columns>(
 #[tactic(auto, using(crate::proofs::Taken::tested))]
 fn test_rows(
     alloc: Global,
-    predicate: &BoundTree,
+    predicate: &BoundExpression,
     array: &ArrayRef,
 ) -> Result<Vec<bool>, AllocError>
     requires required { valid (array_type_of array.now) raw_null ≡ false }

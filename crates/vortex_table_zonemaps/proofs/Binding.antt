@@ -1,21 +1,36 @@
--- Proofs bound to zone maps, and zones as rows.
-use Rattle.std.proofs.Common.{◌≡◌, refl, sym, ap, ◌∙◌, ℕ, zero, suc, pos, ◌==◌, Bool, true, false, cond, List, [], ◌∷◌, map, Option, Some, None, eqb-true, arith}
-use Rattle.std.specs.Prelude.{slice_get, nat_lt}
+-- Zones as rows, and proofs bound to zone maps.
+use Rattle.std.proofs.Common.{◌≡◌, refl, sym, ap, ◌∙◌, ℕ, zero, suc, pos, ◌==◌, Bool, true, false, not, cond, List, [], ◌∷◌, length, map, Option, Some, None, eqb-true, eqb-false, arith}
+use Rattle.std.specs.Prelude.{slice_get, nat_lt, if◌then◌else◌}
+use Rattle.std.specs.List.{position, position_or_len}
+use Rattle.std.specs.Option.{unwrap_or}
+use Rattle.std.specs.Coded.{Coded-set, coded_list, coded_bool}
+use Rattle.std.proofs.Math.Logic.{∥∥₁_elim}
+use Rattle.std.proofs.lemmas.Simd.{map-map}
 use Rattle.std.specs.Ordering.{is_eq}
 use Rattle.std.specs.declared.cmp.Ordering.TheVariants.{Less, Equal, Greater}
-use Rattle.std.proofs.lemmas.Bool.{ltb-true}
+use Rattle.std.proofs.lemmas.Bool.{ltb-true, ltb-false}
 use Rattle.vortex_model.specs.Content.{null, boolean, integer, contents_from, nth}
-use Rattle.vortex_model.specs.Path.{Positions, at}
+use Rattle.vortex_model.specs.LogicalType.{LogicalType}
+use Rattle.vortex_model.specs.Path.{Positions, eq_positions, at}
 use Rattle.vortex_model_table.specs.Expression.{Aggregate, min, max, null_count, all_null, all_non_null, equal}
-use Rattle.vortex_model_table.specs.Truth.{compared}
-use Rattle.vortex_stats_bind.specs.Bound.{Bound, place, place_of, in_row}
-use Rattle.vortex_table_chunk.specs.BoundStat.{stat_value_or_null, zone_stat}
+use Rattle.vortex_model_table.specs.Truth.{compared, is_true}
+use Rattle.vortex_model_table.specs.ZoneMap.{values_at}
+use Rattle.vortex_stats_bind.specs.Bound.{Bound, Provided, place, place_of, value_type, in_row, evaluate_bound, bound_value}
+use Rattle.vortex_stats_bind.specs.Replaced.{answered, typed_null}
+use Rattle.vortex_stats_bind.proofs.ReplacedValues.{replacing_keeps_values}
+use Rattle.vortex_stats_mask.specs.Wanted.{is_wanted}
+use Rattle.vortex_stats_mask.proofs.Truths.{wanted_true}
+use Rattle.vortex_stats_select.specs.Wants.{wanted_rows}
+use Rattle.vortex_table_chunk.specs.BoundStat.{bounds_at, stat_value_or_null, zone_stat, zone_provided}
 use Rattle.vortex_table_chunk.specs.zones.StatValue.{stat_value}
 use Rattle.vortex_table_chunk.specs.declared.zones.bounds.ColumnBounds.{ColumnBounds}
+use Rattle.vortex_table_zonemaps.specs.Answers.{row_counts, leaf_answer, answer_of, zone_answers, bound_to}
+use Rattle.vortex_table_zonemaps.specs.Proved.{proved_at}
 use Rattle.vortex_table_zonemaps.specs.Stats.{Zone, leaf_stat, rows_stat}
 use Rattle.vortex_table_zonemaps.specs.Zone.{stat_in, stat_of, positions_of, leaf_row, zone_row, columns_of, Tells}
 use Rattle.vortex_table_zonemaps.specs.declared.place.ZoneStat.{ZoneStat}
 use Rattle.vortex_table_zonemaps.specs.declared.place.ZoneStat.TheVariants as stat
+use Rattle.vortex_table_zonemaps.specs.declared.predicate.ZonePredicate.{ZonePredicate}
 
 -- ---- a zone as a row
 
@@ -48,36 +63,62 @@ columns_tell zone (stat.High j) = refl
 columns_tell zone (stat.NullCount j) = refl
 columns_tell zone stat.Rows = refl
 
+-- ---- columns by where they stand
+
+same : {A : Type 0} (x y : A) → Some x ≡ Some y → x ≡ y
+same x y e = ap (λ o. unwrap_or o x) e
+
 -- what stands at positions at which there is a column
-pub column_at : (is : Positions) (s : ZoneStat) → stat_of is ≡ Some s → is ≡ positions_of s
-column_at (zero ∷ j ∷ zero ∷ []) s h = ap positions_of (told h)
-  where
-    told : {t : ZoneStat} → Some t ≡ Some s → t ≡ s
-    told e = cc e
+column_at : (is : Positions) (s : ZoneStat) → stat_of is ≡ Some s → is ≡ positions_of s
+column_at (zero ∷ j ∷ zero ∷ []) s h = ap positions_of (same (stat.Low j) s h)
+column_at (zero ∷ j ∷ suc zero ∷ []) s h = ap positions_of (same (stat.High j) s h)
+column_at (zero ∷ j ∷ suc (suc zero) ∷ []) s h = ap positions_of (same (stat.NullCount j) s h)
+column_at (suc zero ∷ []) s h = ap positions_of (same stat.Rows s h)
 column_at is s h = absurd (cc h)
+
+-- zones have in a column what their rows have there
+pub stats_at : (is : Positions) (s : ZoneStat) → stat_of is ≡ Some s → (zones : List Zone) → map (stat_in s) zones ≡ values_at is (map zone_row zones)
+stats_at is s h zones =
+    (λ i. map (λ zone. sym (row_tells zone s) i) zones) ∙ sym (map-map (λ row. at row (positions_of s)) zone_row zones)
+    ∙ ap (λ js. values_at js (map zone_row zones)) (sym (column_at is s h))
+
+-- and rows that are selected are zones of which the predicate is true
+pub zones_selected : (proof : ZonePredicate) (zones : List Zone) → wanted_rows true proof.bound (map zone_row zones) ≡ map (proved_at (Some proof)) zones
+zones_selected proof zones =
+    map-map (λ row. is_wanted true (bound_value proof.bound row)) zone_row zones
+    ∙ ∥∥₁_elim proof.reads (Coded-set (coded_list coded_bool) _ _) (λ reads i. map (λ zone. (sym (wanted_true (bound_value proof.bound (zone_row zone))) ∙ ap is_true (reads zone)) i) zones)
 
 -- ---- statistics
 
-eq_of : (l e : Bool) → (l ≡ true → e ≡ false) → is_eq (cond l Less (cond e Equal Greater)) ≡ e
-eq_of true e h = sym (h refl)
-eq_of false true h = refl
-eq_of false false h = refl
+eq_of : (l g e : Bool) → (l ≡ true → e ≡ false) → (g ≡ true → e ≡ false) → (l ≡ false → g ≡ false → e ≡ true) → is_eq (cond l Less (cond g Greater Equal)) ≡ e
+eq_of true g e h k m = sym (h refl)
+eq_of false true e h k m = sym (k refl)
+eq_of false false e h k m = sym (m refl refl)
 
-not_both : (a b : ℕ) (e : Bool) → (a == b) ≡ e → nat_lt a b ≡ true → e ≡ false
-not_both a b true h l = let less = ltb-true a b l in let same = eqb-true a b h in absurd (omega (arith, less, same))
-not_both a b false h l = refl
+module _ (a b : ℕ) where
+  below : (e : Bool) → (a == b) ≡ e → nat_lt a b ≡ true → e ≡ false
+  below true h l = let less = ltb-true a b l in let same = eqb-true a b h in absurd (omega (arith, less, same))
+  below false h l = refl
 
-counts_equal : (a b : ℕ) → compared equal (integer (pos a)) (integer (pos b)) ≡ boolean (a == b)
-counts_equal a b = ap boolean (eq_of (nat_lt a b) (a == b) (not_both a b (a == b) refl))
+  above : (e : Bool) → (a == b) ≡ e → nat_lt b a ≡ true → e ≡ false
+  above true h l = let less = ltb-true b a l in let same = eqb-true a b h in absurd (omega (arith, less, same))
+  above false h l = refl
 
-pub all_null_told : (j : ℕ) (zone : Zone) → compared equal (leaf_stat j null_count zone) (rows_stat zone) ≡ leaf_stat j all_null zone
+  neither : (e : Bool) → (a == b) ≡ e → nat_lt a b ≡ false → nat_lt b a ≡ false → e ≡ true
+  neither true h l g = refl
+  neither false h l g = let other = eqb-false a b h in let least = ltb-false a b l in let most = ltb-false b a g in absurd (other (omega (arith, least, most)))
+
+  counts_equal : compared equal (integer (pos a)) (integer (pos b)) ≡ boolean (a == b)
+  counts_equal = ap boolean (eq_of (nat_lt a b) (nat_lt b a) (a == b) (below (a == b) refl) (above (a == b) refl) (neither (a == b) refl))
+
+all_null_told : (j : ℕ) (zone : Zone) → compared equal (leaf_stat j null_count zone) (rows_stat zone) ≡ leaf_stat j all_null zone
 all_null_told j zone = at_leaf (slice_get zone.0 j)
   where
     at_leaf : (o : Option ColumnBounds) → compared equal (stat_value_or_null o zone.1 null_count) (rows_stat zone) ≡ stat_value_or_null o zone.1 all_null
     at_leaf None = refl
     at_leaf (Some b) = counts_equal b.null_count zone.1
 
-pub none_null_told : (j : ℕ) (zone : Zone) → compared equal (leaf_stat j null_count zone) (integer (pos 0)) ≡ leaf_stat j all_non_null zone
+none_null_told : (j : ℕ) (zone : Zone) → compared equal (leaf_stat j null_count zone) (integer (pos 0)) ≡ leaf_stat j all_non_null zone
 none_null_told j zone = at_leaf (slice_get zone.0 j)
   where
     at_leaf : (o : Option ColumnBounds) → compared equal (stat_value_or_null o zone.1 null_count) (integer (pos 0)) ≡ stat_value_or_null o zone.1 all_non_null
@@ -85,14 +126,71 @@ none_null_told j zone = at_leaf (slice_get zone.0 j)
     at_leaf (Some b) = counts_equal b.null_count 0
 
 -- nothing is known of the other statistics
-pub none_told : (a : Aggregate) → ((b : ColumnBounds) (n : ℕ) → stat_value b n a ≡ null) → (j : ℕ) (zone : Zone) → null ≡ leaf_stat j a zone
+none_told : (a : Aggregate) → ((b : ColumnBounds) (n : ℕ) → stat_value b n a ≡ null) → (j : ℕ) (zone : Zone) → null ≡ leaf_stat j a zone
 none_told a h j zone = at_leaf (slice_get zone.0 j)
   where
     at_leaf : (o : Option ColumnBounds) → null ≡ stat_value_or_null o zone.1 a
     at_leaf None = refl
     at_leaf (Some b) = sym (h b zone.1)
 
--- what is no column has no statistic
-pub not_a_column : (leaves : List Positions) (bounds : List ColumnBounds) (rows : ℕ) (x : Bound) (a : Aggregate) → place_of x ≡ None → null ≡ zone_stat leaves bounds rows x a
-not_a_column leaves bounds rows (place is) a h = absurd (cc h)
-not_a_column leaves bounds rows x a h = refl
+-- ---- the bounds at positions are those of the first leaf there
+
+abbrev bounds_of_leaf : List ColumnBounds → Option ℕ → Option ColumnBounds
+bounds_of_leaf bounds None = None
+bounds_of_leaf bounds (Some i) = slice_get bounds i
+
+no_bounds : (o : Option ℕ) → bounds_of_leaf [] o ≡ None
+no_bounds None = refl
+no_bounds (Some i) = refl
+
+next_leaf : (l : Bool) (n : ℕ) (b : ColumnBounds) (bounds : List ColumnBounds) → bounds_of_leaf (b ∷ bounds) (cond l (Some (suc n)) None) ≡ bounds_of_leaf bounds (cond l (Some n) None)
+next_leaf true n b bounds = refl
+next_leaf false n b bounds = refl
+
+bounds_found : (leaves : List Positions) (bounds : List ColumnBounds) (is : Positions) → bounds_of_leaf bounds (position (λ leaf. eq_positions leaf is) leaves) ≡ bounds_at leaves bounds is
+bounds_found [] bounds is = refl
+bounds_found (js ∷ leaves) [] is = no_bounds (position (λ leaf. eq_positions leaf is) (js ∷ leaves))
+bounds_found (js ∷ leaves) (b ∷ bounds) is = here (bounds_found leaves bounds is) (eq_positions js is)
+  where
+    n : ℕ
+    n = position_or_len (λ leaf. eq_positions leaf is) leaves
+
+    here : bounds_of_leaf bounds (cond (nat_lt n (length leaves)) (Some n) None) ≡ bounds_at leaves bounds is → (t : Bool) → bounds_of_leaf (b ∷ bounds) (cond (nat_lt (cond (not t) (suc n) 0) (suc (length leaves))) (Some (cond (not t) (suc n) 0)) None) ≡ (if t then Some b else bounds_at leaves bounds is)
+    here rest true = refl
+    here rest false = next_leaf (nat_lt n (length leaves)) n b bounds ∙ rest
+
+-- ---- answers
+
+pub at_a_column : (leaves : List Positions) (x : Bound) (is : Positions) (a : Aggregate) → place_of x ≡ Some is → answer_of (position (λ leaf. eq_positions leaf is) leaves) (value_type x) a ≡ zone_answers leaves x a
+at_a_column leaves (place xs js k) is a h = λ i. answer_of (position (λ leaf. eq_positions leaf (sym (same js is h) i)) leaves) k a
+at_a_column leaves x is a h = absurd (cc h)
+
+pub not_a_column : (leaves : List Positions) (x : Bound) (a : Aggregate) → place_of x ≡ None → None ≡ zone_answers leaves x a
+not_a_column leaves (place xs is k) a h = absurd (cc h)
+not_a_column leaves x a h = refl
+
+module _ (p : Provided) (zone : Zone) (told : Tells p zone) where
+  leaf_says : (j : ℕ) (k l : LogicalType) (a : Aggregate) → evaluate_bound p (unwrap_or (leaf_answer j k a) (typed_null l)) ≡ leaf_stat j a zone
+  leaf_says j k l min = told (stat.Low j)
+  leaf_says j k l max = told (stat.High j)
+  leaf_says j k l null_count = told (stat.NullCount j)
+  leaf_says j k l all_null = (λ i. compared equal (told (stat.NullCount j) i) (told stat.Rows i)) ∙ all_null_told j zone
+  leaf_says j k l all_non_null = (λ i. compared equal (told (stat.NullCount j) i) (integer (pos 0))) ∙ none_null_told j zone
+  leaf_says j k l a = none_told a (λ b n. refl) j zone
+
+  answers_say : (leaves : List Positions) (x : Bound) (a : Aggregate) (l : LogicalType) → evaluate_bound p (unwrap_or (zone_answers leaves x a) (typed_null l)) ≡ zone_stat leaves zone.0 zone.1 x a
+  answers_say leaves (place xs is k) a l = of (position (λ leaf. eq_positions leaf is) leaves) (bounds_found leaves zone.0 is)
+    where
+      of : (o : Option ℕ) → bounds_of_leaf zone.0 o ≡ bounds_at leaves zone.0 is → evaluate_bound p (unwrap_or (answer_of o k a) (typed_null l)) ≡ stat_value_or_null (bounds_at leaves zone.0 is) zone.1 a
+      of None h = ap (λ b. stat_value_or_null b zone.1 a) h
+      of (Some j) h = leaf_says j k l a ∙ ap (λ b. stat_value_or_null b zone.1 a) h
+  answers_say leaves x a l = refl
+
+  -- what is bound says of the columns what the proof does of the statistics
+  pub bound_says : (leaves : List Positions) (proof : Bound) → evaluate_bound p (bound_to leaves proof) ≡ evaluate_bound (zone_provided leaves zone.0 zone.1) proof
+  bound_says leaves proof =
+      replacing_keeps_values p (zone_provided leaves zone.0 zone.1) (answered (Some row_counts) (zone_answers leaves) typed_null) proof (record {
+        statistics = λ x a l. answers_say leaves x a l;
+        columns = λ xs is k. refl;
+        rows = told stat.Rows;
+      })

@@ -1,10 +1,13 @@
 -- What is held of zones, with one zone more, and parts of it.
-use Rattle.std.proofs.Common.{◌≡◌, refl, sym, ap, subst, ◌∙◌, ℕ, zero, suc, ◌+◌, ◌<◌, ◌≤◌, Bool, ℤ, List, [], ◌∷◌, ◌++◌, length, map, take, drop, get_or, set, inl, inr, arith}
+use Rattle.std.proofs.Common.{◌≡◌, refl, sym, ap, subst, ◌∙◌, ℕ, ◌+◌, ◌<◌, ◌≤◌, List, [], ◌∷◌, ◌++◌, length, map, take, drop, get_or, set, inl, inr, arith}
 use Rattle.std.specs.Prelude.{Option, Some, None, slice_get, option_map, IfSome, MatchOption}
 use Rattle.std.specs.Borrow.{Bor}
 use Rattle.std.proofs.lemmas.Bool.{cases_eq}
+use Rattle.std.proofs.lemmas.Option.{slice_get_past, slice_get_read}
+use Rattle.std.proofs.lemmas.List.Elements.{All-nil}
 use Rattle.std.proofs.lemmas.List.{length-map, length-take, length-drop, map-append, take-map, drop-map, get_or_default, get_or-set_same, get_or-set_other, length-set}
 use Rattle.vortex_model.specs.Content.{Content}
+use Rattle.vortex_arrays_view.specs.Views.{HasValue}
 use Rattle.vortex_model_table.specs.Expression.{Aggregate}
 use Rattle.vortex_table_chunk.specs.BoundStat.{stat_value_or_null}
 use Rattle.vortex_table_chunk.specs.declared.zones.bounds.ColumnBounds.{ColumnBounds}
@@ -116,44 +119,25 @@ module _ (f : Zone → Content) (chunks : List Chunk) (first count : ℕ) (withi
 
 -- ---- of no zones anything is held
 
-nothing : (held : ZoneColumn) → IsColumnOf held []
-nothing (column.Bools flags known) = refl
-nothing (column.Integers numbers known) = refl
-nothing (column.Texts views known) = (∣ tt ∣₁, refl)
-nothing (column.Binaries views known) = (∣ tt ∣₁, refl)
+pub nothing : (held : ZoneColumn) → IsColumnOf held []
+nothing (column.Unknown known) = (refl, refl)
+nothing (column.Bools known) = refl
+nothing (column.Integers known) = refl
+nothing (column.Strings s) = (∣ All-nil (λ v. HasValue v s.buffers.items) ∣₁, refl)
 nothing column.Other = tt
 
-pub no_leaves : (leaves : List LeafZones) → AreLeaves leaves []
-no_leaves leaves = λ j leaf l.
-    let held = get_or leaves j leaf in record {
-      lows = nothing held.lows;
-      highs = nothing held.highs;
-      null_counts = nothing held.null_counts;
-    }
+pub no_zones : (j : ℕ) (leaf : LeafZones) → IsLeaf j leaf []
+no_zones j leaf = record { lows = nothing leaf.lows; highs = nothing leaf.highs; null_counts = nothing leaf.null_counts }
 
 -- ---- values
 
 pub as_told : (c : Content) (j : ℕ) (zone : Zone) (bounds : Option ColumnBounds) (rows : ℕ) (a : Aggregate) → slice_get zone.0 j ≡ bounds → zone.1 ≡ rows → c ≡ stat_value_or_null bounds rows a → c ≡ leaf_stat j a zone
 as_told c j zone bounds rows a at many says = says ∙ (λ i. stat_value_or_null (sym at i) (sym many i) a)
 
-pub some_weaker : {A : Type 0} {P Q : A → Type 0} (o : Option A) → ((a : A) → P a → Q a) → IfSome o P → IfSome o Q
-some_weaker None f h = tt
-some_weaker (Some a) f h = f a h
-
-none_at : {X : Type 0} (xs : List X) (i : ℕ) → length xs ≤ i → slice_get xs i ≡ None
-none_at [] i h = refl
-none_at (x ∷ xs) zero h = absurd (omega (arith, h))
-none_at (x ∷ xs) (suc i) h = none_at xs i (omega (arith, h))
-
-some_at : {X : Type 0} (xs : List X) (i : ℕ) (x : X) → i < length xs → x ≡ get_or xs i x → slice_get xs i ≡ Some x
-some_at [] i x h e = absurd (omega (arith, h))
-some_at (y ∷ xs) zero x h e = ap Some (sym e)
-some_at (y ∷ xs) (suc i) x h e = some_at xs i x (omega (arith, h)) e
-
 pub found_at : {X : Type 0} (Q : Bor X → Type 0) (xs : List X) (i : ℕ) (o : Option (Bor X)) → MatchOption o (length xs ≤ i) (λ x. (i < length xs) × Q x) → IfSome o (λ x. x.now ≡ get_or xs i x.now) →
     slice_get xs i ≡ option_map (λ x. x.now) o
-found_at Q xs i None m f = none_at xs i m
-found_at Q xs i (Some x) m f = some_at xs i x.now m.0 f
+found_at Q xs i None m f = slice_get_past xs i m
+found_at Q xs i (Some x) m f = slice_get_read xs (length xs) i x.now refl m.0 f
 
 pub counted : (chunks : List Chunk) (first count : ℕ) → first + count ≤ length chunks → length (zones_in chunks first count) ≡ count
 counted chunks first count within =

@@ -2,5 +2,4 @@ mod Binding
 mod Columns
 mod Held
 mod Paths
-mod Places
 mod ViewLemmas

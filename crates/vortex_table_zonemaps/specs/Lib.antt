@@ -1,5 +1,6 @@
+pub mod Answers
 pub mod Column
-pub mod Held
+pub mod Known
 pub mod Proved
 pub mod Stats
 pub mod Stretch

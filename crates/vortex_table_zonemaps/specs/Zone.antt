@@ -1,11 +1,10 @@
 -- Zones as rows, and what predicates over them say.
-use Rattle.std.specs.Prelude.{◌≡◌, ℕ, zero, suc, pos, List, [], ◌∷◌, map, Option, Some, None, Bool, slice_get}
+use Rattle.std.specs.Prelude.{◌≡◌, ℕ, zero, suc, [], ◌∷◌, map, Option, Some, None, Bool}
 use Rattle.vortex_model.specs.Content.{Content, null, tuple, contents_from}
 use Rattle.vortex_model.specs.Path.{Positions}
-use Rattle.vortex_model_table.specs.Expression.{Aggregate, min, max, null_count}
+use Rattle.vortex_model_table.specs.Expression.{min, max, null_count}
 use Rattle.vortex_model_table.specs.Truth.{is_true}
 use Rattle.vortex_stats_bind.specs.Bound.{Bound, Provided, evaluate_bound, bound_value}
-use Rattle.vortex_table_chunk.specs.BoundStat.{zone_provided}
 use Rattle.vortex_table_chunk.specs.zones.StatValue.{stat_value}
 use Rattle.vortex_table_chunk.specs.declared.zones.bounds.ColumnBounds.{ColumnBounds}
 use Rattle.vortex_table_zonemaps.specs.Stats.{Zone, leaf_stat, rows_stat}
@@ -69,22 +68,6 @@ abbrev pub Tells : Provided → Zone → Type 0
 Tells p zone = (s : ZoneStat) → p.columns (positions_of s) ≡ stat_in s zone
 
 -- ---- predicates over zones
-
--- whatever is told of a zone, the bound expression says of its columns what the proof says of the
--- statistics of these leaves
-abbrev pub IsBoundTo : List Positions → Bound → Bound → Type 0
-IsBoundTo leaves proof bound = (p : Provided) (zone : Zone) → Tells p zone →
-    evaluate_bound p bound ≡ evaluate_bound (zone_provided leaves zone.0 zone.1) proof
-
--- the same of a statistic of the leaf at an index
-abbrev pub IsStatOf : ℕ → Aggregate → Bound → Type 0
-IsStatOf j a bound = (p : Provided) (zone : Zone) → Tells p zone →
-    evaluate_bound p bound ≡ leaf_stat j a zone
-
--- the bounds of the leaf at an index
-abbrev pub bounds_of_leaf : List ColumnBounds → Option ℕ → Option ColumnBounds
-bounds_of_leaf bounds None = None
-bounds_of_leaf bounds (Some i) = slice_get bounds i
 
 -- it says the same of a zone as a row and of its columns alone
 abbrev pub ReadsZones : Bound → Type 0

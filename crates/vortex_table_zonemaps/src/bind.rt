@@ -1,26 +1,30 @@
 //! Proofs bound to zone maps: their placeholders as columns of them.
-ghost use Rattle.std.specs.Prelude.{◌≡◌, pos, List, IfOk};
-ghost use Rattle.vortex_model.specs.Content.{null, integer};
-ghost use Rattle.vortex_stats_bind.specs.Bound.{fixed, place, range_test, placeholder};
-ghost use Rattle.vortex_stats_bind.specs.BoundTree.{bound_tree};
+ghost use Rattle.std.specs.Prelude.{◌≡◌, IfOk};
+ghost use Rattle.std.specs.List.{position};
+ghost use Rattle.vortex_model.specs.LogicalType.{nullable, with_nullability};
+ghost use Rattle.vortex_model.specs.Path.{eq_positions};
+ghost use Rattle.vortex_model_table.specs.Expression.{equal};
+ghost use Rattle.vortex_dtype_core.specs.View.{type_of};
+ghost use Rattle.vortex_stats_bind.specs.Bound.{test};
 ghost use Rattle.vortex_stats_expr.specs.Aggregate.{aggregate_of};
-ghost use Rattle.vortex_stats_expr.specs.Tree.{is_strict};
-ghost use Rattle.vortex_table_chunk.specs.BoundStat.{bounds_at};
-ghost use Rattle.vortex_table_chunk.specs.declared.zones.bounds.ColumnBounds.{ColumnBounds};
+ghost use Rattle.vortex_table_zonemaps.specs.Answers.{zone_column, null_counts, row_counts, no_rows, leaf_answer};
 ghost use Rattle.vortex_table_zonemaps.specs.Proved.{zone_proved, IsResolved};
-ghost use Rattle.vortex_table_zonemaps.specs.Zone.{IsBoundTo, IsStatOf, bounds_of_leaf, positions_of};
 
 use crate::operands::ZoneRow;
 use crate::place::{ZoneStat, positions_of};
 use crate::predicate::ZonePredicate;
 use std::alloc::{AllocError, Global};
-use vortex_scalar_value::clone::clone_value;
-use vortex_scalar_value::pvalue::PValue;
-use vortex_scalar_value::scalar_value::ScalarValue;
-use vortex_stats_bind::bound::{BoundNode, BoundTree};
+use vortex_dtype_core::dtype::DType;
+use vortex_dtype_ptype::field_names::FieldNames;
+use vortex_dtype_ptype::nullability::Nullability;
+use vortex_scalar_core::scalar::Scalar;
+use vortex_stats_bind::bound::{
+    BoundColumn, BoundExpression, BoundNode, bound_compare, bound_literal,
+};
+use vortex_stats_bind::stats::{StatBinder, bind_stats_in_zones, null_of};
 use vortex_stats_expr::aggregate::AggregateFn;
 use vortex_stats_expr::operator::Comparison;
-use vortex_stats_expr::options::BetweenOptions;
+use vortex_stats_expr::stat::count_dtype;
 use vortex_table_schema::leaves::LeafPath;
 
 /// Whether the statistics of a zone make the proof true. No proof is never true.
@@ -33,173 +37,142 @@ pub fn is_proved(proof: &Option<ZonePredicate>, zone: &ZoneRow) -> bool
     }
 }
 
-// The index of the leaf at these positions.
-fn index_of(leaves: &[LeafPath], path: &[usize]) -> Option<usize>
-    ensures { (bounds : List ColumnBounds) → bounds_of_leaf bounds result
-        ≡ bounds_at leaves.now bounds path.now }
+// A column of zone maps, of this type. It has no name, since nothing asks for one.
+fn zone_column(
+    alloc: Global,
+    stat: ZoneStat,
+    dtype: DType,
+) -> Result<Box<BoundExpression>, AllocError>
+    ensures { IfOk result (λ bound. bound.value ≡ zone_column (type_of dtype) stat) }
 {
-    for (index, leaf) in leaves.iter().enumerate() {
-        if leaf.equals(path) {
-            return Some(index);
-        }
-    }
-    None
+    let column = BoundColumn {
+        names: FieldNames::empty(alloc),
+        positions: positions_of(alloc, stat)?,
+        dtype,
+    };
+    let node = BoundNode::Column(column);
+    Ok(Box::new(alloc, BoundExpression { node })?)
 }
 
-fn boxed(alloc: Global, node: BoundNode) -> Result<Box<BoundTree>, AllocError>
-    ensures { IfOk result (λ bound. bound.value ≡ bound_tree node) }
+fn bound_column(
+    alloc: Global,
+    stat: ZoneStat,
+    dtype: &DType,
+) -> Result<Box<BoundExpression>, AllocError>
+    ensures { IfOk result (λ bound. bound.value
+        ≡ zone_column (with_nullability nullable (type_of dtype.now)) stat) }
 {
-    Ok(Box::new(alloc, BoundTree { node })?)
+    let dtype = dtype.with_nullability(Nullability::Nullable)?;
+    zone_column(alloc, stat, dtype)
 }
 
-fn column(alloc: Global, stat: ZoneStat) -> Result<Box<BoundTree>, AllocError>
-    ensures { IfOk result (λ bound. bound.value ≡ place (positions_of stat)) }
+fn null_counts(alloc: Global, leaf: usize) -> Result<Box<BoundExpression>, AllocError>
+    ensures { IfOk result (λ bound. bound.value ≡ null_counts leaf) }
 {
-    let path = positions_of(alloc, stat)?;
-    boxed(alloc, BoundNode::Column(path))
+    zone_column(alloc, ZoneStat::NullCount(leaf), count_dtype())
 }
 
-fn null(alloc: Global) -> Result<Box<BoundTree>, AllocError>
-    ensures { IfOk result (λ bound. bound.value ≡ fixed null) }
+fn row_counts(alloc: Global) -> Result<Box<BoundExpression>, AllocError>
+    ensures { IfOk result (λ bound. bound.value ≡ row_counts) }
 {
-    boxed(alloc, BoundNode::Literal(None))
+    zone_column(alloc, ZoneStat::Rows, count_dtype())
 }
 
-#[tactic(auto, using(vortex_scalar_value::proofs::Views::one_level))]
-fn zero(alloc: Global) -> Result<Box<BoundTree>, AllocError>
-    ensures { IfOk result (λ bound. bound.value ≡ fixed (integer (pos 0))) }
+// Whether as many rows of the leaf are null as a zone has.
+fn all_null(alloc: Global, leaf: usize) -> Result<Box<BoundExpression>, AllocError>
+    ensures { IfOk result (λ bound. bound.value ≡ test equal (null_counts leaf) row_counts) }
 {
-    let zero = ScalarValue::Primitive(PValue::U64(0));
-    boxed(alloc, BoundNode::Literal(Some(zero)))
+    let nulls = null_counts(alloc, leaf)?;
+    let all = row_counts(alloc)?;
+    bound_compare(alloc, Comparison::Eq, nulls, all)
 }
 
-// A statistic of the leaf at an index, by the columns of zone maps.
-fn leaf_statistic(
+fn none_null(alloc: Global, leaf: usize) -> Result<Box<BoundExpression>, AllocError>
+    ensures { IfOk result (λ bound. bound.value ≡ test equal (null_counts leaf) no_rows) }
+{
+    let nulls = null_counts(alloc, leaf)?;
+    let none = bound_literal(alloc, Scalar::from(0u64))?;
+    bound_compare(alloc, Comparison::Eq, nulls, none)
+}
+
+// What zone maps have for a statistic of the values, of this type, of the leaf at an index.
+fn leaf_answer(
     alloc: Global,
     leaf: usize,
+    dtype: &DType,
     aggregate: AggregateFn,
-) -> Result<Box<BoundTree>, AllocError>
-    ensures { IfOk result (λ bound. IsStatOf leaf (aggregate_of aggregate) bound.value) }
+) -> Result<Option<BoundExpression>, AllocError>
+    ensures { IfOk result
+        (λ found. found ≡ leaf_answer leaf (type_of dtype.now) (aggregate_of aggregate)) }
 {
     match aggregate {
-        AggregateFn::Min => column(alloc, ZoneStat::Low(leaf)),
-        AggregateFn::Max => column(alloc, ZoneStat::High(leaf)),
-        AggregateFn::NullCount => column(alloc, ZoneStat::NullCount(leaf)),
+        AggregateFn::Min => {
+            let low = bound_column(alloc, ZoneStat::Low(leaf), dtype)?;
+            Ok(Some(Box::into_inner(low)))
+        }
+        AggregateFn::Max => {
+            let high = bound_column(alloc, ZoneStat::High(leaf), dtype)?;
+            Ok(Some(Box::into_inner(high)))
+        }
+        AggregateFn::NullCount => {
+            let nulls = null_counts(alloc, leaf)?;
+            Ok(Some(Box::into_inner(nulls)))
+        }
         AggregateFn::AllNull => {
-            let nulls = column(alloc, ZoneStat::NullCount(leaf))?;
-            let rows = column(alloc, ZoneStat::Rows)?;
-            boxed(alloc, BoundNode::Compare(Comparison::Eq, nulls, rows))
+            let all = all_null(alloc, leaf)?;
+            Ok(Some(Box::into_inner(all)))
         }
         AggregateFn::AllNonNull => {
-            let nulls = column(alloc, ZoneStat::NullCount(leaf))?;
-            let none = zero(alloc)?;
-            boxed(alloc, BoundNode::Compare(Comparison::Eq, nulls, none))
+            let none = none_null(alloc, leaf)?;
+            Ok(Some(Box::into_inner(none)))
         }
-        AggregateFn::Sum => null(alloc),
-        AggregateFn::NanCount => null(alloc),
-        AggregateFn::UncompressedSizeInBytes => null(alloc),
-        AggregateFn::MinMax => null(alloc),
-        AggregateFn::AllNan => null(alloc),
-        AggregateFn::AllNonNan => null(alloc),
+        AggregateFn::Sum => Ok(None),
+        AggregateFn::NanCount => Ok(None),
+        AggregateFn::UncompressedSizeInBytes => Ok(None),
+        AggregateFn::MinMax => Ok(None),
+        AggregateFn::AllNan => Ok(None),
+        AggregateFn::AllNonNan => Ok(None),
     }
 }
 
-fn statistic(
-    alloc: Global,
-    leaves: &[LeafPath],
-    input: &BoundTree,
-    aggregate: AggregateFn,
-) -> Result<Box<BoundTree>, AllocError>
-    ensures { IfOk result (λ bound.
-        IsBoundTo leaves.now (placeholder input.now (aggregate_of aggregate)) bound.value) }
+// The index of the leaf at these positions.
+fn index_of(leaves: &[LeafPath], path: &[usize]) -> Option<usize>
+    ensures { result ≡ position (λ leaf. eq_positions leaf path.now) leaves.now }
 {
-    let Some(path) = input.as_column() else {
-        return null(alloc);
-    };
-    match index_of(leaves, path) {
-        Some(leaf) => leaf_statistic(alloc, leaf, aggregate),
-        None => null(alloc),
+    leaves.iter().position(|leaf| leaf.equals(path))
+}
+
+/// The zone maps of leaf columns as a source of statistics, which answers columns of them.
+#[derive(Clone, Copy)]
+pub struct ZoneBinder<'a> {
+    pub leaves: &'a [LeafPath],
+}
+
+impl StatBinder for ZoneBinder<'_> {
+    ghost use Rattle.vortex_table_zonemaps.specs.Answers.{zone_answers};
+
+    ghost answers = { λ binder. zone_answers binder.leaves.now };
+
+    fn bind_aggregate(
+        &self,
+        alloc: Global,
+        input: &BoundExpression,
+        aggregate: AggregateFn,
+        _stat_dtype: &DType,
+    ) -> Result<Option<BoundExpression>, AllocError> {
+        let Some(path) = input.as_column() else {
+            return Ok(None);
+        };
+        let Some(leaf) = index_of(self.leaves, path) else {
+            return Ok(None);
+        };
+        let dtype = input.dtype()?;
+        leaf_answer(alloc, leaf, &dtype, aggregate)
     }
-}
 
-// The proof with its placeholders, and the number of rows, as columns of zone maps. A proof has no
-// other columns.
-#[cycle(bind)]
-fn bind(alloc: Global, leaves: &[LeafPath], e: &BoundTree) -> Result<Box<BoundTree>, AllocError>
-    ensures { IfOk result (λ bound. IsBoundTo leaves.now e.now bound.value) }
-{
-    match &e.node {
-        BoundNode::Literal(value) => {
-            let value = clone_value(value.as_ref())?;
-            boxed(alloc, BoundNode::Literal(value))
-        }
-        BoundNode::Column(_) => null(alloc),
-        BoundNode::Compare(comparison, x, y) => {
-            let (left, right) = bind_both(alloc, leaves, x, y)?;
-            boxed(alloc, BoundNode::Compare(*comparison, left, right))
-        }
-        BoundNode::And(x, y) => {
-            let (left, right) = bind_both(alloc, leaves, x, y)?;
-            boxed(alloc, BoundNode::And(left, right))
-        }
-        BoundNode::Or(x, y) => {
-            let (left, right) = bind_both(alloc, leaves, x, y)?;
-            boxed(alloc, BoundNode::Or(left, right))
-        }
-        BoundNode::Not(x) => {
-            let input = bind(alloc, leaves, x)?;
-            boxed(alloc, BoundNode::Not(input))
-        }
-        BoundNode::IsNull(x) => {
-            let input = bind(alloc, leaves, x)?;
-            boxed(alloc, BoundNode::IsNull(input))
-        }
-        BoundNode::IsNotNull(x) => {
-            let input = bind(alloc, leaves, x)?;
-            boxed(alloc, BoundNode::IsNotNull(input))
-        }
-        BoundNode::Between(x, lower, upper, options) => {
-            bind_range(alloc, leaves, x, lower, upper, *options)
-        }
-        BoundNode::Like(x, pattern, negated) => {
-            let (value, pattern) = bind_both(alloc, leaves, x, pattern)?;
-            boxed(alloc, BoundNode::Like(value, pattern, *negated))
-        }
-        BoundNode::RowCount => column(alloc, ZoneStat::Rows),
-        BoundNode::Stat(aggregate, input) => statistic(alloc, leaves, input, *aggregate),
+    fn missing_stat(&self, alloc: Global, dtype: &DType) -> Result<BoundExpression, AllocError> {
+        null_of(alloc, dtype)
     }
-}
-
-#[cycle(bind)]
-fn bind_both(
-    alloc: Global,
-    leaves: &[LeafPath],
-    x: &BoundTree,
-    y: &BoundTree,
-) -> Result<(Box<BoundTree>, Box<BoundTree>), AllocError>
-    ensures left { IfOk result (λ both. IsBoundTo leaves.now x.now both.0.value) }
-    ensures right { IfOk result (λ both. IsBoundTo leaves.now y.now both.1.value) }
-{
-    let left = bind(alloc, leaves, x)?;
-    let right = bind(alloc, leaves, y)?;
-    Ok((left, right))
-}
-
-#[cycle(bind)]
-fn bind_range(
-    alloc: Global,
-    leaves: &[LeafPath],
-    x: &BoundTree,
-    lower: &BoundTree,
-    upper: &BoundTree,
-    options: BetweenOptions,
-) -> Result<Box<BoundTree>, AllocError>
-    ensures { IfOk result (λ bound. IsBoundTo leaves.now (range_test x.now lower.now upper.now
-        (is_strict options.lower_strict) (is_strict options.upper_strict)) bound.value) }
-{
-    let (lower, upper) = bind_both(alloc, leaves, lower, upper)?;
-    let value = bind(alloc, leaves, x)?;
-    boxed(alloc, BoundNode::Between(value, lower, upper, options))
 }
 
 /// The proof as a predicate over zone maps of these leaf columns, in time linear in the proof and
@@ -207,17 +180,14 @@ fn bind_range(
 pub fn resolve(
     alloc: Global,
     leaves: &[LeafPath],
-    proof: &Option<BoundTree>,
+    proof: &Option<BoundExpression>,
 ) -> Result<Option<ZonePredicate>, AllocError>
     ensures { IfOk result (λ resolved. IsResolved leaves.now proof.now resolved) }
 {
-    match proof {
-        Some(proof) => {
-            let bound = bind(alloc, leaves, proof)?;
-            Ok(Some(ZonePredicate {
-                bound: Box::into_inner(bound),
-            }))
-        }
-        None => Ok(None),
-    }
+    let Some(proof) = proof else {
+        return Ok(None);
+    };
+    let rows = row_counts(alloc)?;
+    let bound = bind_stats_in_zones(alloc, proof, &ZoneBinder { leaves }, &rows)?;
+    Ok(Some(ZonePredicate { bound }))
 }

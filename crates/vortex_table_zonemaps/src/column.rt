@@ -1,251 +1,224 @@
 //! What a statistic is in each zone, as a column that grows.
-ghost use Rattle.std.specs.Prelude.{◌≡◌, ◌≤◌, ◌∷◌, ◌++◌, [], length, take, OnOk};
-ghost use Rattle.std.specs.List.{list_any};
+ghost use Rattle.std.specs.Prelude.{◌≡◌, ◌+◌, ◌≤◌, Bool, List, Option, length, map, replicate, take, drop, IfOk, IfSome};
+ghost use Rattle.vortex_model.specs.Content.{Content, content_of, boolean, integer, null};
+ghost use Rattle.vortex_arrays_model.specs.Layout.{string_content};
+ghost use Rattle.vortex_arrays_core.specs.LayoutOf.{strings_of};
+ghost use Rattle.vortex_scalar_value.specs.View.{raw_of};
+ghost use Rattle.vortex_stats_bind.specs.OperandValue.{operand_value};
+ghost use Rattle.vortex_stats_mask.specs.Columns.{column_of, contents_of, values_of};
+ghost use Rattle.vortex_stats_mask.specs.Headed.{AreHeaded, HaveHeads};
+ghost use Rattle.vortex_table_zonemaps.specs.Column.{IsColumnOf, IsEntryOf};
+ghost use Rattle.vortex_table_zonemaps.specs.Known.{AreKnown};
+ghost use Rattle.vortex_table_zonemaps.specs.Views.{AreStrings};
 
+use crate::known::Known;
 use crate::views::Views;
 use bytes::Bytes;
 use std::alloc::{AllocError, Global};
+use vortex_arrays_core::array::StringKind;
 use vortex_scalar_value::scalar_value::ScalarValue;
 use vortex_stats_bind::value::Value;
-use vortex_stats_mask::column::{Column, Items, Numbers, ValidRows};
+use vortex_stats_mask::column::{Column, Items, Numbers, Strings, ValidRows};
 
-/// What a statistic is in each zone, in order, and for each zone whether it is known. One that isn't
-/// has any value.
+/// What a statistic is in each zone, in order.
 #[derive(Drop)]
 pub enum ZoneColumn {
-    Bools(Vec<bool>, Vec<bool>),
-    /// A column of which nothing is known yet is one of integers.
-    Integers(Vec<i64>, Vec<bool>),
-    Texts(Views, Vec<bool>),
-    Binaries(Views, Vec<bool>),
+    /// It isn't known yet in any zone. Each has some integer, so that the column can be lent.
+    Unknown(Known<i64>),
+    Bools(Known<bool>),
+    Integers(Known<i64>),
+    Strings(Views),
     /// Not held here, since the values are of several kinds, or of none of these.
     Other,
 }
 
-// Puts the item behind so many, into the place of all that stand there.
-pub(crate) fn put_behind<T: Copy + Drop>(
-    items: &mut Vec<T>,
-    count: usize,
-    item: T,
-) -> Result<(), AllocError>
-    ensures kept { count ≤ length items.old.items
-        → take count items.new.items ≡ take count items.old.items }
-    ensures put { OnOk result (items.new.items ≡ take count items.old.items ++ item ∷ []) }
-{
-    items.truncate(count);
-    items.push(item)?;
-    Ok(())
+// What a statistic is in one zone.
+#[derive(Clone, Copy)]
+pub(crate) enum Entry<'a> {
+    // It isn't known.
+    Absent,
+    Bool(bool),
+    Integer(i64),
+    String(StringKind, &'a Bytes),
+    // It is of another kind, or no integer of 64 bits with a sign.
+    Other,
 }
 
-// Whether any of the first so many is known.
-fn is_any_known(known: &[bool], count: usize) -> bool
-    ensures { result ≡ list_any (λ b. b) (take count known.now) }
+fn integer_entry<'a>(number: i128) -> Entry<'a>
+    ensures { IsEntryOf result (integer number) }
 {
-    known[..count.min(known.len())].iter().any(|flag| *flag)
+    match i64::try_from(number) {
+        Ok(number) => Entry::Integer(number),
+        Err(_) => Entry::Other,
+    }
+}
+
+#[tactic(auto, using(vortex_scalar_value::proofs::Views::one_level))]
+fn stored_entry<'a>(value: &'a ScalarValue) -> Entry<'a>
+    ensures { IsEntryOf result (content_of (raw_of value.now)) }
+{
+    match value {
+        ScalarValue::Bool(flag) => Entry::Bool(*flag),
+        ScalarValue::Primitive(number) => integer_entry(number.get()),
+        ScalarValue::Utf8(text) => Entry::String(StringKind::Utf8, text.as_bytes()),
+        ScalarValue::Binary(bytes) => Entry::String(StringKind::Binary, bytes),
+        ScalarValue::Tuple(_) => Entry::Other,
+        ScalarValue::Union(_) => Entry::Other,
+        ScalarValue::Variant(_) => Entry::Other,
+    }
+}
+
+fn entry_of<'a>(value: Value<'a>) -> Entry<'a>
+    ensures { IsEntryOf result (operand_value value.entry) }
+{
+    match value {
+        Value::Null => Entry::Absent,
+        Value::Truth(flag) => Entry::Bool(flag),
+        Value::Count(number) => integer_entry(i128::from(number)),
+        Value::Stored(value) => stored_entry(value),
+    }
+}
+
+// A column of the entry's kind of which nothing is known in so many zones, if there is one.
+fn begun(alloc: Global, count: usize, entry: Entry) -> Result<Option<ZoneColumn>, AllocError>
+    ensures { IfOk result (λ found. IfSome found
+        (λ column. IsColumnOf column (replicate count null))) }
+{
+    match entry {
+        Entry::Bool(_) => {
+            let values = vec![in alloc; false; count]?;
+            let known = Known::none_of(values)?;
+            Ok(Some(ZoneColumn::Bools(known)))
+        }
+        Entry::Integer(_) => {
+            let values = vec![in alloc; 0; count]?;
+            let known = Known::none_of(values)?;
+            Ok(Some(ZoneColumn::Integers(known)))
+        }
+        Entry::String(kind, _) => {
+            let views = Views::none_of(alloc, kind, count)?;
+            Ok(Some(ZoneColumn::Strings(views)))
+        }
+        Entry::Absent => Ok(None),
+        Entry::Other => Ok(None),
+    }
 }
 
 impl ZoneColumn {
-    ghost use Rattle.std.specs.Prelude.{◌≡◌, ◌∷◌, ◌++◌, [], List, length, IfOk, OnOk};
-    ghost use Rattle.vortex_model.specs.Content.{Content, content_of, null, boolean, integer, text, byte_string};
-    ghost use Rattle.vortex_scalar_value.specs.View.{raw_of};
+    ghost use Rattle.std.specs.Prelude.{◌≡◌, ◌∷◌, ◌++◌, [], List, length, OnOk};
+    ghost use Rattle.vortex_model.specs.Content.{Content};
     ghost use Rattle.vortex_stats_bind.specs.OperandValue.{operand_value};
-    ghost use Rattle.vortex_table_zonemaps.specs.Column.{IsColumnOf};
+    ghost use Rattle.vortex_table_zonemaps.specs.Column.{IsColumnOf, IsEntryOf};
 
-    /// A column of no zones, with room for so many.
-    pub fn with_capacity(alloc: Global, zones: usize) -> Result<ZoneColumn, AllocError>
-        ensures { IfOk result (λ column. IsColumnOf column []) }
-    {
-        let numbers = Vec::with_capacity(alloc, zones)?;
-        let known = Vec::with_capacity(alloc, zones)?;
-        Ok(ZoneColumn::Integers(numbers, known))
+    /// A column of no zones.
+    pub fn new(alloc: Global) -> ZoneColumn {
+        ZoneColumn::Unknown(Known::new(alloc))
     }
 
-    /// Puts a value behind those of so many zones. What stood there, which an earlier call left
-    /// that was refused memory, is given up.
+    // One of which nothing is known becomes one of the entry's kind.
+    fn begin(&mut self, count: usize, entry: Entry) -> Result<(), AllocError>
+        ensures { (cs : List Content) → length cs ≡ count
+            → IsColumnOf self.old cs → IsColumnOf self.new cs }
+    {
+        if let ZoneColumn::Unknown(known) = self {
+            let alloc = *known.flags.allocator();
+            if let Some(column) = begun(alloc, count, entry)? {
+                *self = column;
+            }
+        }
+        Ok(())
+    }
+
+    fn put_entry(&mut self, count: usize, entry: Entry) -> Result<(), AllocError>
+        ensures kept { (cs : List Content) → length cs ≡ count
+            → IsColumnOf self.old cs → IsColumnOf self.new cs }
+        ensures put { OnOk result ((cs : List Content) (c : Content) → length cs ≡ count
+            → IsEntryOf entry.entry c → IsColumnOf self.old cs → IsColumnOf self.new (cs ++ c ∷ [])) }
+    {
+        match (&mut *self, entry) {
+            (ZoneColumn::Unknown(known), Entry::Absent) => known.put(count, 0, false),
+            (ZoneColumn::Bools(known), Entry::Absent) => known.put(count, false, false),
+            (ZoneColumn::Bools(known), Entry::Bool(flag)) => known.put(count, flag, true),
+            (ZoneColumn::Integers(known), Entry::Absent) => known.put(count, 0, false),
+            (ZoneColumn::Integers(known), Entry::Integer(number)) => {
+                known.put(count, number, true)
+            }
+            (ZoneColumn::Strings(views), Entry::Absent) => views.put_null(count),
+            (ZoneColumn::Strings(views), Entry::String(kind, value)) => {
+                let is_held = views.put(count, kind, value)?;
+                if !is_held {
+                    *self = ZoneColumn::Other;
+                }
+                Ok(())
+            }
+            _ => {
+                *self = ZoneColumn::Other;
+                Ok(())
+            }
+        }
+    }
+
+    /// Puts a value behind those of so many zones, which stay as they are, whether it is refused or
+    /// not. What stood there, which an earlier call left that was refused memory, is given up.
     pub fn put(&mut self, count: usize, value: Value) -> Result<(), AllocError>
         ensures kept { (cs : List Content) → length cs ≡ count
             → IsColumnOf self.old cs → IsColumnOf self.new cs }
         ensures put { OnOk result ((cs : List Content) → length cs ≡ count → IsColumnOf self.old cs
             → IsColumnOf self.new (cs ++ operand_value value.entry ∷ [])) }
     {
-        match value {
-            Value::Null => self.put_null(count),
-            Value::Truth(flag) => self.put_flag(count, flag),
-            Value::Count(number) => self.put_number(count, i128::from(number)),
-            Value::Stored(value) => self.put_stored(count, value),
-        }
+        let entry = entry_of(value);
+        self.begin(count, entry)?;
+        self.put_entry(count, entry)
     }
+}
 
-    fn put_stored(&mut self, count: usize, value: &ScalarValue) -> Result<(), AllocError>
-        ensures kept { (cs : List Content) → length cs ≡ count
-            → IsColumnOf self.old cs → IsColumnOf self.new cs }
-        ensures put { OnOk result ((cs : List Content) → length cs ≡ count → IsColumnOf self.old cs
-            → IsColumnOf self.new (cs ++ content_of (raw_of value.now) ∷ [])) }
-    {
-        if let Some(number) = value.as_primitive() {
-            return self.put_number(count, number.get());
-        }
-        if let Some(flag) = value.as_bool() {
-            return self.put_flag(count, flag);
-        }
-        if let Some(text) = value.as_utf8() {
-            return self.put_text(count, text.as_bytes());
-        }
-        if let Some(bytes) = value.as_binary() {
-            return self.put_bytes(count, bytes);
-        }
-        *self = ZoneColumn::Other;
-        Ok(())
+// Integers of so many neighbouring zones.
+fn integers_in<'a>(known: &'a Known<i64>, first: usize, count: usize) -> Column<'a>
+    requires { (cs : List Content) × AreKnown integer known.now cs × (first + count ≤ length cs) }
+    ensures { (cs : List Content) → AreKnown integer known.now cs → first + count ≤ length cs
+        → column_of result ≡ take count (drop first cs) }
+{
+    Column {
+        items: Items::Numbers(Numbers::I64(known.values_in(first, count))),
+        validity: ValidRows::Flags(known.flags_in(first, count)),
     }
+}
 
-    fn put_null(&mut self, count: usize) -> Result<(), AllocError>
-        ensures kept { (cs : List Content) → length cs ≡ count
-            → IsColumnOf self.old cs → IsColumnOf self.new cs }
-        ensures put { OnOk result ((cs : List Content) → length cs ≡ count → IsColumnOf self.old cs
-            → IsColumnOf self.new (cs ++ null ∷ [])) }
-    {
-        match self {
-            ZoneColumn::Bools(flags, known) => {
-                put_behind(flags, count, false)?;
-                put_behind(known, count, false)?;
-                Ok(())
-            }
-            ZoneColumn::Integers(numbers, known) => {
-                put_behind(numbers, count, 0)?;
-                put_behind(known, count, false)?;
-                Ok(())
-            }
-            ZoneColumn::Texts(views, known) => views.put_null(known, count),
-            ZoneColumn::Binaries(views, known) => views.put_null(known, count),
-            ZoneColumn::Other => Ok(()),
-        }
+fn bools_in<'a>(known: &'a Known<bool>, first: usize, count: usize) -> Column<'a>
+    requires { (cs : List Content) × AreKnown boolean known.now cs × (first + count ≤ length cs) }
+    ensures { (cs : List Content) → AreKnown boolean known.now cs → first + count ≤ length cs
+        → column_of result ≡ take count (drop first cs) }
+{
+    Column {
+        items: Items::Bools(known.values_in(first, count)),
+        validity: ValidRows::Flags(known.flags_in(first, count)),
     }
+}
 
-    fn put_number(&mut self, count: usize, number: i128) -> Result<(), AllocError>
-        ensures kept { (cs : List Content) → length cs ≡ count
-            → IsColumnOf self.old cs → IsColumnOf self.new cs }
-        ensures put { OnOk result ((cs : List Content) → length cs ≡ count → IsColumnOf self.old cs
-            → IsColumnOf self.new (cs ++ integer number ∷ [])) }
-    {
-        match (&mut *self, i64::try_from(number)) {
-            (ZoneColumn::Integers(numbers, known), Ok(number)) => {
-                put_behind(numbers, count, number)?;
-                put_behind(known, count, true)?;
-                Ok(())
-            }
-            _ => {
-                *self = ZoneColumn::Other;
-                Ok(())
-            }
-        }
+fn string_items<'a>(kind: StringKind, strings: &Strings<'a>) -> Items<'a>
+    ensures values { contents_of result
+        ≡ map (string_content (strings_of kind)) (values_of strings.now) }
+    ensures headed { (valid : Option (List Bool)) → HaveHeads valid strings.now
+        → AreHeaded result valid }
+{
+    match kind {
+        StringKind::Utf8 => Items::Texts(*strings),
+        StringKind::Binary => Items::Binaries(*strings),
     }
+}
 
-    // A column of which nothing is known, as one of truth values.
-    fn begin_flags(&mut self, count: usize) -> Result<(), AllocError>
-        ensures { (cs : List Content) → length cs ≡ count
-            → IsColumnOf self.old cs → IsColumnOf self.new cs }
-    {
-        let ZoneColumn::Integers(_, known) = self else {
-            return Ok(());
-        };
-        if is_any_known(known, count) {
-            return Ok(());
-        }
-        let alloc = *known.allocator();
-        let flags = vec![in alloc; false; count]?;
-        let known = vec![in alloc; false; count]?;
-        *self = ZoneColumn::Bools(flags, known);
-        Ok(())
-    }
-
-    fn put_flag(&mut self, count: usize, flag: bool) -> Result<(), AllocError>
-        ensures kept { (cs : List Content) → length cs ≡ count
-            → IsColumnOf self.old cs → IsColumnOf self.new cs }
-        ensures put { OnOk result ((cs : List Content) → length cs ≡ count → IsColumnOf self.old cs
-            → IsColumnOf self.new (cs ++ boolean flag ∷ [])) }
-    {
-        self.begin_flags(count)?;
-        match self {
-            ZoneColumn::Bools(flags, known) => {
-                put_behind(flags, count, flag)?;
-                put_behind(known, count, true)?;
-                Ok(())
-            }
-            _ => {
-                *self = ZoneColumn::Other;
-                Ok(())
-            }
-        }
-    }
-
-    // A column of which nothing is known, as one of texts.
-    fn begin_texts(&mut self, count: usize) -> Result<(), AllocError>
-        ensures { (cs : List Content) → length cs ≡ count
-            → IsColumnOf self.old cs → IsColumnOf self.new cs }
-    {
-        let ZoneColumn::Integers(_, known) = self else {
-            return Ok(());
-        };
-        if is_any_known(known, count) {
-            return Ok(());
-        }
-        let alloc = *known.allocator();
-        let views = Views::empty(alloc, count)?;
-        let known = vec![in alloc; false; count]?;
-        *self = ZoneColumn::Texts(views, known);
-        Ok(())
-    }
-
-    fn put_text(&mut self, count: usize, value: &Bytes) -> Result<(), AllocError>
-        ensures kept { (cs : List Content) → length cs ≡ count
-            → IsColumnOf self.old cs → IsColumnOf self.new cs }
-        ensures put { OnOk result ((cs : List Content) → length cs ≡ count → IsColumnOf self.old cs
-            → IsColumnOf self.new (cs ++ text value.now ∷ [])) }
-    {
-        self.begin_texts(count)?;
-        let is_held = match self {
-            ZoneColumn::Texts(views, known) => views.put(known, count, value)?,
-            _ => false,
-        };
-        if !is_held {
-            *self = ZoneColumn::Other;
-        }
-        Ok(())
-    }
-
-    // A column of which nothing is known, as one of bytes.
-    fn begin_bytes(&mut self, count: usize) -> Result<(), AllocError>
-        ensures { (cs : List Content) → length cs ≡ count
-            → IsColumnOf self.old cs → IsColumnOf self.new cs }
-    {
-        let ZoneColumn::Integers(_, known) = self else {
-            return Ok(());
-        };
-        if is_any_known(known, count) {
-            return Ok(());
-        }
-        let alloc = *known.allocator();
-        let views = Views::empty(alloc, count)?;
-        let known = vec![in alloc; false; count]?;
-        *self = ZoneColumn::Binaries(views, known);
-        Ok(())
-    }
-
-    fn put_bytes(&mut self, count: usize, value: &Bytes) -> Result<(), AllocError>
-        ensures kept { (cs : List Content) → length cs ≡ count
-            → IsColumnOf self.old cs → IsColumnOf self.new cs }
-        ensures put { OnOk result ((cs : List Content) → length cs ≡ count → IsColumnOf self.old cs
-            → IsColumnOf self.new (cs ++ byte_string value.now ∷ [])) }
-    {
-        self.begin_bytes(count)?;
-        let is_held = match self {
-            ZoneColumn::Binaries(views, known) => views.put(known, count, value)?,
-            _ => false,
-        };
-        if !is_held {
-            *self = ZoneColumn::Other;
-        }
-        Ok(())
+fn strings_in<'a>(s: &'a Views, first: usize, count: usize) -> Column<'a>
+    requires { (cs : List Content) × AreStrings s.now cs × (first + count ≤ length cs) }
+    ensures { (cs : List Content) → AreStrings s.now cs → first + count ≤ length cs
+        → column_of result ≡ take count (drop first cs) }
+{
+    let strings = Strings {
+        views: s.views.values_in(first, count),
+        buffers: s.buffers.as_slice(),
+    };
+    Column {
+        items: string_items(s.kind, &strings),
+        validity: ValidRows::Flags(s.views.flags_in(first, count)),
     }
 }
 
@@ -262,22 +235,10 @@ impl ZoneColumn {
             → IfSome result (λ column. column_of column ≡ take count (drop first cs)) }
     {
         match self {
-            ZoneColumn::Bools(flags, known) => Some(Column {
-                items: Items::Bools(&flags.as_slice()[first..first + count]),
-                validity: ValidRows::Flags(&known.as_slice()[first..first + count]),
-            }),
-            ZoneColumn::Integers(numbers, known) => Some(Column {
-                items: Items::Numbers(Numbers::I64(&numbers.as_slice()[first..first + count])),
-                validity: ValidRows::Flags(&known.as_slice()[first..first + count]),
-            }),
-            ZoneColumn::Texts(views, known) => Some(Column {
-                items: Items::Texts(views.slice(first, count)),
-                validity: ValidRows::Flags(&known.as_slice()[first..first + count]),
-            }),
-            ZoneColumn::Binaries(views, known) => Some(Column {
-                items: Items::Binaries(views.slice(first, count)),
-                validity: ValidRows::Flags(&known.as_slice()[first..first + count]),
-            }),
+            ZoneColumn::Unknown(known) => Some(integers_in(known, first, count)),
+            ZoneColumn::Bools(known) => Some(bools_in(known, first, count)),
+            ZoneColumn::Integers(known) => Some(integers_in(known, first, count)),
+            ZoneColumn::Strings(views) => Some(strings_in(views, first, count)),
             ZoneColumn::Other => None,
         }
     }

@@ -15,22 +15,19 @@ pub struct LeafZones {
 }
 
 impl LeafZones {
-    ghost use Rattle.std.specs.Prelude.{◌≡◌, ◌∷◌, ◌++◌, [], ℕ, List, length, slice_get, option_map, IfOk, OnOk};
+    ghost use Rattle.std.specs.Prelude.{◌≡◌, ◌∷◌, ◌++◌, [], ℕ, List, length, slice_get, option_map, OnOk};
     ghost use Rattle.vortex_table_zonemaps.specs.Stats.{Zone};
     ghost use Rattle.vortex_table_zonemaps.specs.Zones.{IsLeaf};
 
-    /// Nothing, of no zones, with room for so many.
-    pub fn with_capacity(alloc: Global, zones: usize) -> Result<LeafZones, AllocError>
-        ensures { IfOk result (λ leaf. (j : ℕ) → IsLeaf j leaf []) }
+    /// Nothing, of no zones.
+    pub fn new(alloc: Global) -> LeafZones
+        ensures { (j : ℕ) → IsLeaf j result [] }
     {
-        let lows = ZoneColumn::with_capacity(alloc, zones)?;
-        let highs = ZoneColumn::with_capacity(alloc, zones)?;
-        let null_counts = ZoneColumn::with_capacity(alloc, zones)?;
-        Ok(LeafZones {
-            lows,
-            highs,
-            null_counts,
-        })
+        LeafZones {
+            lows: ZoneColumn::new(alloc),
+            highs: ZoneColumn::new(alloc),
+            null_counts: ZoneColumn::new(alloc),
+        }
     }
 
     // Puts the statistics of a zone of so many rows behind those of `count` zones.

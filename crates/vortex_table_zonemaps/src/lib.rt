@@ -4,6 +4,7 @@
 
 pub mod bind;
 pub mod column;
+pub mod known;
 pub mod leaf;
 pub mod operands;
 pub mod place;

@@ -8,7 +8,7 @@ ghost use Rattle.vortex_table_chunk.specs.zones.Bounds.{bound_in};
 ghost use Rattle.vortex_table_chunk.specs.zones.StatValue.{stat_value};
 
 use crate::place::{ZoneStat, stat_at};
-use vortex_stats_bind::bound::{BoundTree, Operands};
+use vortex_stats_bind::bound::{BoundExpression, Operands};
 use vortex_stats_bind::value::Value;
 use vortex_stats_expr::aggregate::AggregateFn;
 use vortex_table_chunk::zones::bounds::{Bound, ColumnBounds};
@@ -94,7 +94,7 @@ impl Operands for ZoneRow<'_> {
         }
     }
 
-    fn statistic<'a>(&'a self, _input: &BoundTree, _aggregate: AggregateFn) -> Value<'a> {
+    fn statistic<'a>(&'a self, _input: &BoundExpression, _aggregate: AggregateFn) -> Value<'a> {
         Value::Null
     }
 

@@ -3,12 +3,12 @@ ghost use Rattle.std.proofs.Math.Logic.{∥∥₁_prop};
 ghost use Rattle.vortex_table_zonemaps.specs.Zone.{ReadsZones};
 
 use crate::operands::ZoneRow;
-use vortex_stats_bind::bound::BoundTree;
+use vortex_stats_bind::bound::BoundExpression;
 
 /// A predicate over the columns of zone maps.
 #[derive(Drop)]
 pub struct ZonePredicate {
-    pub bound: BoundTree,
+    pub bound: BoundExpression,
     // It reads columns of zone maps alone.
     pub ghost reads: { ∥ ReadsZones bound ∥₁ } by { ∥∥₁_prop },
 }

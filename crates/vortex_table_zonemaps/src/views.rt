@@ -1,18 +1,19 @@
-//! Columns of views that grow.
+//! Views of zones, and the buffers that long ones lie in.
 ghost use Rattle.std.specs.Prelude.{◌≡◌, length, take, IfOk, IfSome};
 ghost use Rattle.vortex_table_zonemaps.specs.Views.{IsViewIn};
 
-use crate::column::put_behind;
+use crate::known::Known;
 use bytes::Bytes;
 use std::alloc::{AllocError, Global};
+use vortex_arrays_core::array::StringKind;
 use vortex_arrays_view::view::{BinaryView, MAX_INLINED_SIZE};
-use vortex_stats_mask::column::Strings;
 
-/// Views of texts or of bytes, and the buffers that long ones lie in, each in one of its own, which
-/// is shared.
+/// Views of texts, or of bytes, and the buffers that long ones lie in, each in one of its own,
+/// which is shared.
 #[derive(Drop)]
 pub struct Views {
-    pub views: Vec<BinaryView>,
+    pub kind: StringKind,
+    pub views: Known<BinaryView>,
     pub buffers: Vec<Bytes>,
 }
 
@@ -37,68 +38,62 @@ fn view_in(buffers: &mut Vec<Bytes>, value: &Bytes) -> Result<Option<BinaryView>
 }
 
 impl Views {
-    ghost use Rattle.std.specs.Prelude.{◌≡◌, ◌≤◌, ◌+◌, ◌∷◌, ◌++◌, [], ℕ, List, length, replicate, take, drop, true, IfOk, OnOk};
-    ghost use Rattle.vortex_arrays_view.specs.Made.{short_view};
+    ghost use Rattle.std.specs.Prelude.{◌≡◌, ◌∷◌, ◌++◌, [], ℕ, List, length, replicate, true, IfOk, OnOk};
     ghost use Rattle.vortex_model.specs.Content.{Content, null};
-    ghost use Rattle.vortex_table_zonemaps.specs.Views.{AreViewsHeld};
+    ghost use Rattle.vortex_table_zonemaps.specs.Views.{AreViewsKnown};
 
-    /// So many views of no bytes.
-    pub(crate) fn empty(alloc: Global, count: usize) -> Result<Views, AllocError>
-        ensures views { IfOk result (λ made. made.views.items ≡ replicate count (short_view [])) }
+    // So many, none of which is known.
+    pub(crate) fn none_of(
+        alloc: Global,
+        kind: StringKind,
+        count: usize,
+    ) -> Result<Views, AllocError>
+        ensures { IfOk result
+            (λ made. (f : List ℕ → Content) → AreViewsKnown f made (replicate count null)) }
     {
         let views = vec![in alloc; BinaryView::empty_view(); count]?;
+        let views = Known::none_of(views)?;
         Ok(Views {
+            kind,
             views,
             buffers: Vec::new(alloc),
         })
     }
 
-    // Puts a value that is known behind those of so many zones. Tells whether it can be held.
+    // Puts a value that is known behind those of so many zones. Tells whether it can be held: it is
+    // of their kind, and counts are of 32 bits.
     pub(crate) fn put(
         &mut self,
-        known: &mut Vec<bool>,
         count: usize,
+        kind: StringKind,
         value: &Bytes,
     ) -> Result<bool, AllocError>
+        ensures kind { self.new.kind ≡ self.old.kind }
+        ensures alike { IfOk result (λ is_held. is_held ≡ true → self.old.kind ≡ kind) }
         ensures kept { (f : List ℕ → Content) (cs : List Content) → length cs ≡ count
-            → AreViewsHeld f self.old known.old.items cs
-            → AreViewsHeld f self.new known.new.items cs }
+            → AreViewsKnown f self.old cs → AreViewsKnown f self.new cs }
         ensures put { IfOk result (λ is_held. is_held ≡ true
             → (f : List ℕ → Content) (cs : List Content) → length cs ≡ count
-            → AreViewsHeld f self.old known.old.items cs
-            → AreViewsHeld f self.new known.new.items (cs ++ f value.now ∷ [])) }
+            → AreViewsKnown f self.old cs → AreViewsKnown f self.new (cs ++ f value.now ∷ [])) }
     {
+        if self.kind != kind {
+            return Ok(false);
+        }
         let Some(view) = view_in(&mut self.buffers, value)? else {
             return Ok(false);
         };
-        put_behind(&mut self.views, count, view)?;
-        put_behind(known, count, true)?;
+        self.views.put(count, view, true)?;
         Ok(true)
     }
 
-    // So many neighbouring views.
-    pub(crate) fn slice(&self, first: usize, count: usize) -> Strings<'_>
-        requires { first + count ≤ length self.now.views.items }
-        ensures views { result.views.now ≡ take count (drop first self.now.views.items) }
-        ensures buffers { result.buffers.now ≡ self.now.buffers.items }
-    {
-        Strings {
-            views: &self.views.as_slice()[first..first + count],
-            buffers: self.buffers.as_slice(),
-        }
-    }
-
     // Puts one that isn't known.
-    pub(crate) fn put_null(&mut self, known: &mut Vec<bool>, count: usize) -> Result<(), AllocError>
+    pub(crate) fn put_null(&mut self, count: usize) -> Result<(), AllocError>
+        ensures kind { self.new.kind ≡ self.old.kind }
         ensures kept { (f : List ℕ → Content) (cs : List Content) → length cs ≡ count
-            → AreViewsHeld f self.old known.old.items cs
-            → AreViewsHeld f self.new known.new.items cs }
+            → AreViewsKnown f self.old cs → AreViewsKnown f self.new cs }
         ensures put { OnOk result ((f : List ℕ → Content) (cs : List Content) → length cs ≡ count
-            → AreViewsHeld f self.old known.old.items cs
-            → AreViewsHeld f self.new known.new.items (cs ++ null ∷ [])) }
+            → AreViewsKnown f self.old cs → AreViewsKnown f self.new (cs ++ null ∷ [])) }
     {
-        put_behind(&mut self.views, count, BinaryView::empty_view())?;
-        put_behind(known, count, false)?;
-        Ok(())
+        self.views.put(count, BinaryView::empty_view(), false)
     }
 }

@@ -71,20 +71,14 @@ impl ZoneMaps {
     pub fn new(alloc: Global, leaves: usize) -> Result<ZoneMaps, AllocError>
         ensures { IfOk result (λ maps. AreZoneMaps maps []) }
     {
-        ZoneMaps::with_capacity(alloc, leaves, 0)
-    }
-
-    // Of no zones, with room for so many.
-    fn with_capacity(alloc: Global, leaves: usize, zones: usize) -> Result<ZoneMaps, AllocError>
-        ensures { IfOk result (λ maps. AreZoneMaps maps []) }
-    {
         let mut held = Vec::with_capacity(alloc, leaves)?;
         for _ in 0..leaves {
-            let leaf = LeafZones::with_capacity(alloc, zones)?;
-            held.push(leaf)?;
+            held.push(LeafZones::new(alloc))?;
         }
-        let rows = ZoneColumn::with_capacity(alloc, zones)?;
-        Ok(ZoneMaps { leaves: held, rows })
+        Ok(ZoneMaps {
+            leaves: held,
+            rows: ZoneColumn::new(alloc),
+        })
     }
 
     /// Puts a zone behind `count` zones, which stay as they are, whether it is refused or not. Its
@@ -111,7 +105,7 @@ impl ZoneMaps {
     pub fn of_chunks(alloc: Global, leaves: usize, chunks: &[Chunk]) -> Result<ZoneMaps, AllocError>
         ensures { IfOk result (λ maps. AreZoneMaps maps (map zone_of chunks.now)) }
     {
-        let mut maps = ZoneMaps::with_capacity(alloc, leaves, chunks.len())?;
+        let mut maps = ZoneMaps::new(alloc, leaves)?;
         for (index, chunk) in chunks.iter().enumerate() {
             maps.put(index, &chunk.bounds, chunk.array.len())?;
         }

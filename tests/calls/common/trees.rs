@@ -6,7 +6,9 @@ use vortex_dtype::{
     BufferString, DType, FieldName, FieldNames, Nullability, PType, StructField, StructFields,
 };
 use vortex_scalar::{Scalar, ScalarError, ScalarValue};
-use vortex_stats::{AggregateFn, Comparison, Expression, Node, StatsError, col, lit};
+use vortex_stats::{
+    AggregateFn, BoundExpression, BoundNode, Comparison, Expression, StatsError, col, lit,
+};
 
 pub const WITH: Nullability = Nullability::Nullable;
 
@@ -70,7 +72,7 @@ pub fn text(value: &'static str) -> Result<Expression, StatsError> {
 /// Whether the proof is told so, where nothing is told of none.
 pub fn is_told(
     alloc: Global,
-    proof: &Option<Expression>,
+    proof: &Option<BoundExpression>,
     wanted: &str,
 ) -> Result<bool, StatsError> {
     let mut told = String::new(alloc);
@@ -80,29 +82,29 @@ pub fn is_told(
     Ok(told.as_str() == wanted)
 }
 
-fn tell(out: &mut String, e: &Expression) -> Result<(), AllocError> {
+fn tell(out: &mut String, e: &BoundExpression) -> Result<(), AllocError> {
     match &e.node {
-        Node::Literal(value) => tell_value(out, value.value()),
-        Node::Column(path) => tell_path(out, path),
-        Node::Compare(comparison, x, y) => tell_both(out, sign_of(*comparison), x, y),
-        Node::And(x, y) => tell_both(out, "AND", x, y),
-        Node::Or(x, y) => tell_both(out, "OR", x, y),
-        Node::Not(x) => tell_one(out, "not", x),
-        Node::IsNull(x) => tell_one(out, "is_null", x),
-        Node::IsNotNull(x) => tell_one(out, "is_not_null", x),
-        Node::IsNan(x) => tell_one(out, "is_nan", x),
-        Node::Between(_, _, _, _) => out.push_str("a BETWEEN"),
-        Node::Like(_, _, _) => out.push_str("a LIKE"),
-        Node::RowCount => out.push_str("rows"),
-        Node::Stat(aggregate, x) => tell_one(out, name_of(*aggregate), x),
+        BoundNode::Literal(value) => tell_value(out, value.value()),
+        BoundNode::Column(column) => tell_path(out, &column.names),
+        BoundNode::Compare(comparison, x, y) => tell_both(out, sign_of(*comparison), x, y),
+        BoundNode::And(x, y) => tell_both(out, "AND", x, y),
+        BoundNode::Or(x, y) => tell_both(out, "OR", x, y),
+        BoundNode::Not(x) => tell_one(out, "not", x),
+        BoundNode::IsNull(x) => tell_one(out, "is_null", x),
+        BoundNode::IsNotNull(x) => tell_one(out, "is_not_null", x),
+        BoundNode::IsNan(x) => tell_one(out, "is_nan", x),
+        BoundNode::Between(_, _, _, _) => out.push_str("a BETWEEN"),
+        BoundNode::Like(_, _, _) => out.push_str("a LIKE"),
+        BoundNode::RowCount => out.push_str("rows"),
+        BoundNode::Stat(aggregate, x, _) => tell_one(out, name_of(*aggregate), x),
     }
 }
 
 fn tell_both(
     out: &mut String,
     operator: &str,
-    x: &Expression,
-    y: &Expression,
+    x: &BoundExpression,
+    y: &BoundExpression,
 ) -> Result<(), AllocError> {
     out.push_str("(")?;
     tell(out, x)?;
@@ -111,7 +113,7 @@ fn tell_both(
     out.push_str(")")
 }
 
-fn tell_one(out: &mut String, function: &str, x: &Expression) -> Result<(), AllocError> {
+fn tell_one(out: &mut String, function: &str, x: &BoundExpression) -> Result<(), AllocError> {
     write!(out, "{function} ")?;
     tell(out, x)
 }

@@ -6,7 +6,7 @@ use std::alloc::Global;
 use vortex_dtype::DType;
 use vortex_scalar::Scalar;
 use vortex_stats::{
-    Expression, LikeOptions, Meter, StatsError, falsify, gt, is_nan, is_not_null, is_null, like,
+    Expression, LikeOptions, Meter, StatsError, bind, falsify, gt, is_nan, is_not_null, is_null, like,
     lit, not, not_eq, satisfy,
 };
 
@@ -69,7 +69,8 @@ fn falsified(
     predicate: &Expression,
     wanted: &str,
 ) -> Done {
-    let proof = falsify(alloc, dtype, predicate, &[], &mut Meter::new())?;
+    let predicate = bind(alloc, predicate, dtype)?;
+    let proof = falsify(alloc, &predicate, &[], &mut Meter::new())?;
     checks.holds(wanted, is_told(alloc, &proof, wanted)?);
     Ok(())
 }
@@ -152,10 +153,12 @@ fn of_literals(alloc: Global, checks: &mut Checks<'_>, dtype: &DType) -> Done {
     falsified(alloc, checks, dtype, &null(DType::Bool(WITH))?, "")?;
     falsified(alloc, checks, dtype, &not(alloc, truth(true))?, "")?;
     for (value, wanted) in &[(true, "true"), (false, "false")] {
-        let proof = satisfy(alloc, dtype, &truth(*value), &[], &mut Meter::new())?;
+        let predicate = bind(alloc, &truth(*value), dtype)?;
+        let proof = satisfy(alloc, &predicate, &[], &mut Meter::new())?;
         checks.holds(wanted, is_told(alloc, &proof, wanted)?);
     }
-    let proof = satisfy(alloc, dtype, &null(DType::Bool(WITH))?, &[], &mut Meter::new())?;
+    let predicate = bind(alloc, &null(DType::Bool(WITH))?, dtype)?;
+    let proof = satisfy(alloc, &predicate, &[], &mut Meter::new())?;
     checks.holds("a null literal", proof.is_none());
     Ok(())
 }

@@ -2,12 +2,13 @@
 //! two values a comparison holds of.
 
 use crate::checks::Checks;
-use crate::trees::{column, int, is_told, text, truth};
+use crate::trees::{WITHOUT, column, int, integers, is_told, record, text, truth};
 use std::alloc::Global;
 use std::cmp::Ordering;
+use vortex_dtype::DType;
 use vortex_stats::{
     AggregateFn, BetweenOptions, Comparison, LikeOptions, Operator, ScalarFnId, StatsError,
-    StrictComparison, and, between, binary, eq, is_nan, is_not_null, is_null, like, not, or,
+    StrictComparison, and, between, binary, bind, eq, is_nan, is_not_null, is_null, like, not, or,
     row_count, stat,
 };
 
@@ -18,7 +19,7 @@ pub fn run(alloc: Global, checks: &mut Checks<'_>) -> Result<(), StatsError> {
     Ok(())
 }
 
-/// What each operator makes of the column a and the number 1.
+/// What each operator makes: of the column a and the number 1, or of the column b and true.
 const OPERATORS: [(Operator, &str); 8] = [
     (Operator::Eq, "(a = 1i32)"),
     (Operator::NotEq, "(a != 1i32)"),
@@ -26,15 +27,23 @@ const OPERATORS: [(Operator, &str); 8] = [
     (Operator::Gte, "(a >= 1i32)"),
     (Operator::Lt, "(a < 1i32)"),
     (Operator::Lte, "(a <= 1i32)"),
-    (Operator::And, "(a AND 1i32)"),
-    (Operator::Or, "(a OR 1i32)"),
+    (Operator::And, "(b AND true)"),
+    (Operator::Or, "(b OR true)"),
 ];
 
 fn operators(alloc: Global, checks: &mut Checks<'_>) -> Result<(), StatsError> {
+    let dtype = record(alloc, ["a", "b"], [integers(), DType::Bool(WITHOUT)])?;
     for (i, (operator, wanted)) in OPERATORS.into_iter().enumerate() {
-        let made = binary(alloc, operator, column(alloc, &["a"])?, int(1))?;
+        let made = match operator {
+            Operator::And | Operator::Or => {
+                binary(alloc, operator, column(alloc, &["b"])?, truth(true))?
+            }
+            _ => binary(alloc, operator, column(alloc, &["a"])?, int(1))?,
+        };
         checks.holds_at("scalar_fn_id of operator", i, made.scalar_fn_id() == ScalarFnId::Binary);
-        let is_made = is_told(alloc, &Some(made), wanted)?;
+        let bound = bind(alloc, &made, &dtype)?;
+        checks.holds_at("the same, bound", i, bound.scalar_fn_id() == ScalarFnId::Binary);
+        let is_made = is_told(alloc, &Some(bound), wanted)?;
         checks.holds_at("binary by operator", i, is_made);
     }
     Ok(())

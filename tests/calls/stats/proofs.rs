@@ -7,10 +7,10 @@ use vortex_dtype::{BufferString, DType, FieldName, FieldNames, StructField, Stru
 use vortex_scalar::{Scalar, ScalarError, ScalarValue};
 use vortex_stats::Value as Operand;
 use vortex_stats::{
-    AggregateFn, BetweenOptions, BoundExpression, BoundTree, Expression, LikeOptions, Meter,
-    Operands, StatBinder, StatsError, StrictComparison, between, bind, bind_proof, bind_stats,
-    bound_literal, col, eq, falsify, gt, is_nan, is_not_null, is_null, like, lit, lt, not,
-    row_count, satisfy, stat,
+    AggregateFn, BetweenOptions, BoundExpression, BoundNode, Expression, LikeOptions, Meter,
+    Operands, StatBinder, StatsError, StrictComparison, and, between, bind, bind_stats, bound, col,
+    eq, falsify, gt, is_nan, is_not_null, is_null, like, lit, lt, not, null_of, row_count, satisfy,
+    stat,
 };
 
 /// What is known of four rows of one column, the first.
@@ -22,15 +22,16 @@ struct Known {
 
 // Nothing here is proved, so the ghost members say nothing.
 impl Operands for Known {
-    ghost use Rattle.vortex_stats_bind.specs.Stats.{of_rows_alone};
+    ghost use Rattle.vortex_model.specs.Content.{null};
+    ghost use Rattle.vortex_stats_bind.specs.Bound.{in_row};
 
-    ghost provided = { λ _. of_rows_alone 4 };
+    ghost provided = { λ _. in_row null };
 
     fn column<'a>(&'a self, _path: &[usize]) -> Operand<'a> {
         Operand::Null
     }
 
-    fn statistic<'a>(&'a self, input: &BoundTree, aggregate: AggregateFn) -> Operand<'a> {
+    fn statistic<'a>(&'a self, input: &BoundExpression, aggregate: AggregateFn) -> Operand<'a> {
         if input.as_column() != Some(&[0]) {
             return Operand::Null;
         }
@@ -47,26 +48,31 @@ impl Operands for Known {
 }
 
 impl StatBinder for Known {
-    ghost use Rattle.vortex_model.specs.Content.{null};
+    ghost use Rattle.std.specs.Prelude.{None};
 
-    ghost meaning = { λ _ _ _. null };
-
-    ghost missing = { λ _. null };
-
-    fn missing_stat(&self, _alloc: Global) -> Result<BoundTree, AllocError> {
-        Ok(bound_literal(None))
-    }
+    ghost answers = { λ _ _ _. None };
 
     fn bind_aggregate(
         &self,
-        _alloc: Global,
-        input: &BoundTree,
+        alloc: Global,
+        input: &BoundExpression,
         aggregate: AggregateFn,
-    ) -> Result<Option<BoundTree>, AllocError> {
+        stat_dtype: &DType,
+    ) -> Result<Option<BoundExpression>, AllocError> {
         match self.statistic(input, aggregate) {
-            Operand::Stored(value) => Ok(Some(bound_literal(Some(value.clone()?)))),
+            Operand::Stored(value) => {
+                let value = Scalar::new_unchecked(stat_dtype.clone()?, Some(value.clone()?));
+                match bound::lit(alloc, value) {
+                    Ok(literal) => Ok(Some(Box::into_inner(literal))),
+                    Err(_) => Err(AllocError),
+                }
+            }
             _ => Ok(None),
         }
+    }
+
+    fn missing_stat(&self, alloc: Global, dtype: &DType) -> Result<BoundExpression, AllocError> {
+        null_of(alloc, dtype)
     }
 }
 
@@ -97,10 +103,10 @@ fn constant(value: i16) -> Result<Expression, ScalarError> {
     Ok(lit(Scalar::try_new(numbers(WITHOUT), number(value))?))
 }
 
-/// The proof, or the error as one of values.
-fn made(proof: Result<Option<Expression>, StatsError>) -> Result<Option<Expression>, ScalarError> {
-    match proof {
-        Ok(proof) => Ok(proof),
+/// The answer, or the error as one of values.
+fn settled<T: Drop>(answer: Result<T, StatsError>) -> Result<T, ScalarError> {
+    match answer {
+        Ok(answer) => Ok(answer),
         Err(StatsError::Memory) => Err(ScalarError::Memory),
         Err(_) => Err(ScalarError::Invalid),
     }
@@ -110,28 +116,29 @@ fn is_no_truth(error: StatsError) -> bool {
     error == StatsError::NotBoolean
 }
 
-/// The proof that no row has more than 5 in the column of this name.
-fn none_above(alloc: Global, dtype: &DType, name: &str) -> Result<Expression, ScalarError> {
-    let predicate = gt(alloc, column(alloc, name)?, constant(5)?)?;
-    match made(falsify(alloc, dtype, &predicate, &[], &mut Meter::new()))? {
+/// The proof that no row has more than 5 in the column a.
+fn none_above(alloc: Global, dtype: &DType) -> Result<BoundExpression, ScalarError> {
+    let predicate = gt(alloc, column(alloc, "a")?, constant(5)?)?;
+    let predicate = settled(bind(alloc, &predicate, dtype))?;
+    match settled(falsify(alloc, &predicate, &[], &mut Meter::new()))? {
         Some(proof) => Ok(proof),
-        None => Ok(lit(Scalar::null(DType::Bool(WITH)))),
+        None => Err(ScalarError::Invalid),
     }
 }
 
 pub fn run(alloc: Global, checks: &mut Checks<'_>) -> Done {
     let dtype = one_column(alloc)?;
-    let expression = none_above(alloc, &dtype, "a")?;
-    let proof = bind_proof(alloc, &expression, &dtype)?;
+    let proof = none_above(alloc, &dtype)?;
     let counted = null_test(alloc, &dtype)?;
     checks.holds("a bound that proves", proof.holds(&known(Some(5), 0)));
     checks.holds("one that doesn't", !proof.holds(&known(Some(6), 0)));
     checks.holds("an unknown bound", !proof.holds(&known(None, 0)));
     checks.holds("a count", counted.holds(&known(None, 3)));
     checks.holds("a greater count", !counted.holds(&known(None, 4)));
-    let unknown = bind_proof(alloc, &none_above(alloc, &dtype, "b")?, &dtype)?;
-    checks.holds("no such column", !unknown.holds(&known(Some(5), 0)));
-    let row = two_steps(alloc, checks, &dtype, &expression)?;
+    let unknown = bind(alloc, &column(alloc, "b")?, &dtype);
+    checks.holds("no such column", fault(unknown) == Some(StatsError::UnknownColumn));
+    let row = two_steps(alloc, checks, &dtype, &proof)?;
+    inside_trees(alloc, checks, &dtype)?;
     only_nulls(alloc, checks, &dtype)?;
     each_form(alloc, checks, &dtype, &row)?;
     checks.holds("statistics at a row", !proof.holds(&row) && !proof.selects(&row));
@@ -142,10 +149,10 @@ pub fn run(alloc: Global, checks: &mut Checks<'_>) -> Done {
 }
 
 /// Whether fewer than 4 rows are null.
-fn null_test(alloc: Global, dtype: &DType) -> Result<BoundTree, ScalarError> {
+fn null_test(alloc: Global, dtype: &DType) -> Result<BoundExpression, ScalarError> {
     let count = stat(alloc, AggregateFn::NullCount, column(alloc, "a")?)?;
-    let test = lt(alloc, count, constant(4)?)?;
-    Ok(bind_proof(alloc, &test, dtype)?)
+    let test = lt(alloc, count, lit(Scalar::from(4u64)))?;
+    settled(bind(alloc, &test, dtype))
 }
 
 /// Binds statistics and evaluates what is left, of which nothing more is known. A row of the type
@@ -154,20 +161,20 @@ fn two_steps(
     alloc: Global,
     checks: &mut Checks<'_>,
     dtype: &DType,
-    proof: &Expression,
+    proof: &BoundExpression,
 ) -> Result<ScalarValue, ScalarError> {
-    let proof = settled(bind(alloc, proof, dtype))?;
     let nothing = known(None, 0);
-    let bound = bind_stats(alloc, &proof, &known(Some(5), 0))?;
-    checks.holds("bound and proved", bound.tree.holds(&nothing) && bound.has_truth);
-    let bound = bind_stats(alloc, &proof, &known(Some(6), 0))?;
-    checks.holds("bound and false", !bound.tree.holds(&nothing));
-    let bound = bind_stats(alloc, &proof, &nothing)?;
-    checks.holds("bound to null", !bound.tree.holds(&known(Some(5), 0)));
-    checks.holds("of truth type", bound.dtype.is_boolean());
+    let bound = bind_stats(alloc, proof, &known(Some(5), 0))?;
+    checks.holds("bound and proved", bound.holds(&nothing) && bound.has_truth());
+    let bound = bind_stats(alloc, proof, &known(Some(6), 0))?;
+    checks.holds("bound and false", !bound.holds(&nothing));
+    let bound = bind_stats(alloc, proof, &nothing)?;
+    checks.holds("bound to null", !bound.holds(&known(Some(5), 0)));
+    checks.holds("of truth type", bound.is_boolean());
     let read = gt(alloc, column(alloc, "a")?, constant(5)?)?;
-    let read = bind_proof(alloc, &read, dtype)?;
-    let refused = satisfy(alloc, dtype, &constant(5)?, &[], &mut Meter::new());
+    let read = settled(bind(alloc, &read, dtype))?;
+    let five = settled(bind(alloc, &constant(5)?, dtype))?;
+    let refused = satisfy(alloc, &five, &[], &mut Meter::new());
     checks.holds("a number is no truth", refused.is_err_and(is_no_truth));
     let mut cells = Vec::new(alloc);
     cells.push(number(9))?;
@@ -176,13 +183,51 @@ fn two_steps(
     Ok(row)
 }
 
+/// Placeholders under AND, NOT and IS NULL: what is known of them is a literal of the statistic's
+/// type, and else null of it.
+fn inside_trees(alloc: Global, checks: &mut Checks<'_>, dtype: &DType) -> Done {
+    let greatest = || stat(alloc, AggregateFn::Max, column(alloc, "a")?);
+    let above = not(alloc, gt(alloc, greatest()?, constant(5)?)?)?;
+    let e = and(alloc, above, is_null(alloc, greatest()?)?)?;
+    let e = settled(bind(alloc, &e, dtype))?;
+    let bound = bind_stats(alloc, &e, &known(Some(7), 0))?;
+    checks.holds("a known statistic in a tree", are_both(&bound, Some(7)));
+    let bound = bind_stats(alloc, &e, &known(None, 0))?;
+    checks.holds("a missing one in a tree", are_both(&bound, None));
+    Ok(())
+}
+
+/// Whether both placeholders became this literal, of the nullable type of the column.
+fn are_both(bound: &BoundExpression, wanted: Option<i16>) -> bool {
+    let BoundNode::And(left, right) = &bound.node else {
+        return false;
+    };
+    let (BoundNode::Not(left), BoundNode::IsNull(right)) = (&left.node, &right.node) else {
+        return false;
+    };
+    match &left.node {
+        BoundNode::Compare(_, left, _) => is_literal(left, wanted) && is_literal(right, wanted),
+        _ => false,
+    }
+}
+
+fn is_literal(e: &BoundExpression, wanted: Option<i16>) -> bool {
+    match e.as_literal() {
+        Some(found) => {
+            let wanted = wanted.and_then(number);
+            *found.dtype() == numbers(WITH) && found.value() == wanted.as_ref()
+        }
+        None => false,
+    }
+}
+
 /// The count of nulls against the number of rows, which is four.
 fn only_nulls(alloc: Global, checks: &mut Checks<'_>, dtype: &DType) -> Done {
     let count = stat(alloc, AggregateFn::NullCount, column(alloc, "a")?)?;
-    let proof = bind_proof(alloc, &eq(alloc, count, row_count())?, dtype)?;
+    let proof = settled(bind(alloc, &eq(alloc, count, row_count())?, dtype))?;
     checks.holds("as many nulls as rows", proof.holds(&known(None, 4)));
     checks.holds("fewer nulls than rows", !proof.holds(&known(None, 3)));
-    let rows = bind_proof(alloc, &eq(alloc, row_count(), row_count())?, dtype)?;
+    let rows = settled(bind(alloc, &eq(alloc, row_count(), row_count())?, dtype))?;
     checks.holds("a number of rows", rows.holds(&known(None, 0)));
     Ok(())
 }
@@ -225,19 +270,10 @@ fn is_true(
     let node = predicate.node.clone()?;
     let bound = settled(bind(alloc, &Expression { node }, dtype))?;
     let copy = bound.clone()?;
-    if copy.tree.selects(row) != bound.tree.selects(row) {
+    if copy.selects(row) != bound.selects(row) {
         return Err(ScalarError::Invalid);
     }
-    Ok(copy.tree.selects(row))
-}
-
-/// The bound expression, or the error as one of values.
-fn settled(bound: Result<BoundExpression, StatsError>) -> Result<BoundExpression, ScalarError> {
-    match bound {
-        Ok(bound) => Ok(bound),
-        Err(StatsError::Memory) => Err(ScalarError::Memory),
-        Err(_) => Err(ScalarError::Invalid),
-    }
+    Ok(copy.selects(row))
 }
 
 fn fault(answer: Result<BoundExpression, StatsError>) -> Option<StatsError> {

@@ -5,14 +5,12 @@ use crate::values::{Done, WITHOUT, number, numbers, record, text};
 use std::alloc::{AllocError, Global};
 use vortex_dtype::{DType, FieldName, FieldNames, Nullability};
 use vortex_scalar::{Scalar, ScalarError, ScalarValue};
+use vortex_stats::bound as make;
 use vortex_stats::{
-    Expression, LikeOptions, Meter, Never, NotLiteral, ScalarFnId, StatsError, StatsRewriteRule,
-    StatsRewriteRuleRef, and, between, col, falsify, gt, lit, not, or, satisfy,
-    BetweenOptions, StrictComparison,
+    BetweenOptions, BoundExpression, BoundNode, Expression, LikeOptions, Meter, Never, NotLiteral,
+    ScalarFnId, StatsError, StatsRewriteRule, StatsRewriteRuleRef, StrictComparison, and, between,
+    bind, col, falsify, gt, lit, not, or, satisfy,
 };
-use vortex_stats_bind::bind::bind;
-use vortex_stats_bind::bound::{BoundExpression, BoundNode};
-use vortex_stats_bind::make;
 
 type Answer = Result<Option<BoundExpression>, StatsError>;
 

@@ -7,7 +7,8 @@ use vortex_arrays::{ArrayRef, StructArray, Validity};
 use vortex_dtype::{BufferString, DTypeError, FieldName, FieldNames};
 use vortex_scalar::Scalar;
 use vortex_stats::{
-    Expression, LikeOptions, Meter, Scope, StatsError, bind, col, evaluate, like, lit, prove,
+    BoundExpression, Expression, LikeOptions, Meter, Scope, StatsError, bind, col, evaluate, like,
+    lit, prove,
 };
 
 /// The truth of each row.
@@ -101,10 +102,20 @@ pub fn truths(
 /// The truth of a proof about the scope's rows.
 pub fn proven(
     alloc: Global,
-    e: &Expression,
+    proof: &BoundExpression,
     scope: &Scope,
     meter: &mut Meter,
 ) -> Result<Option<bool>, DTypeError> {
-    let bound = told(bind(alloc, e, scope.array.dtype()))?;
-    told(prove(alloc, &bound, scope, meter))
+    told(prove(alloc, proof, scope, meter))
+}
+
+/// The same of one that isn't bound yet.
+pub fn bound_and_proven(
+    alloc: Global,
+    proof: &Expression,
+    scope: &Scope,
+    meter: &mut Meter,
+) -> Result<Option<bool>, DTypeError> {
+    let proof = told(bind(alloc, proof, scope.array.dtype()))?;
+    proven(alloc, &proof, scope, meter)
 }

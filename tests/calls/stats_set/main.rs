@@ -21,6 +21,7 @@ mod stats;
 mod typed_sets;
 mod types;
 mod values;
+mod zones;
 
 use crate::checks::Checks;
 use std::alloc::Global;
@@ -60,6 +61,8 @@ fn run_truths(alloc: Global, checks: &mut Checks<'_>) -> Result<(), DTypeError> 
     checks.end_part("truths by statistics");
     placeholders::run(alloc, checks)?;
     checks.end_part("placeholders over bound inputs");
+    zones::run(alloc, checks)?;
+    checks.end_part("proofs at the zones of a reader");
     refusals::run(alloc, checks)?;
     checks.end_part("refusals, in their order");
     Ok(())

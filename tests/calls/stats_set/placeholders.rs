@@ -52,15 +52,16 @@ fn f(alloc: Global) -> Result<Expression, DTypeError> {
     Ok(col(path(alloc, &["x", "f"])?))
 }
 
-fn bound_of(alloc: Global, e: &Expression) -> Result<BoundExpression, DTypeError> {
-    told(bind(alloc, e, two_rows(alloc)?.dtype()))
+fn bound_of(alloc: Global, e: &Expression) -> Result<Box<BoundExpression>, DTypeError> {
+    let bound = told(bind(alloc, e, two_rows(alloc)?.dtype()))?;
+    Ok(Box::new(alloc, bound)?)
 }
 
-fn bound_a(alloc: Global) -> Result<BoundExpression, DTypeError> {
+fn bound_a(alloc: Global) -> Result<Box<BoundExpression>, DTypeError> {
     bound_of(alloc, &a(alloc)?)
 }
 
-fn bound_f(alloc: Global) -> Result<BoundExpression, DTypeError> {
+fn bound_f(alloc: Global) -> Result<Box<BoundExpression>, DTypeError> {
     bound_of(alloc, &f(alloc)?)
 }
 
@@ -77,8 +78,8 @@ fn is_as_bound(
     placeholder: &Expression,
 ) -> Result<bool, DTypeError> {
     let wanted = bound_of(alloc, placeholder)?;
-    let is_alike = made.dtype == wanted.dtype && made.has_truth == wanted.has_truth;
-    Ok(is_alike && !made.reads_columns && !wanted.reads_columns)
+    let is_alike = made.dtype()? == wanted.dtype()? && made.has_truth() == wanted.has_truth();
+    Ok(is_alike && !made.reads_columns() && !wanted.reads_columns())
 }
 
 /// Checks what was made, and its truth.
@@ -86,7 +87,7 @@ fn check_truth(
     alloc: Global,
     checks: &mut Checks<'_>,
     name: &str,
-    made: Result<BoundExpression, StatsError>,
+    made: Result<Box<BoundExpression>, StatsError>,
     placeholder: &Expression,
     wanted: Option<bool>,
 ) -> Result<(), DTypeError> {
@@ -102,7 +103,7 @@ fn check_value(
     alloc: Global,
     checks: &mut Checks<'_>,
     name: &str,
-    made: Result<BoundExpression, StatsError>,
+    made: Result<Box<BoundExpression>, StatsError>,
     placeholder: &Expression,
 ) -> Result<(), DTypeError> {
     let made = told(made)?;
@@ -144,7 +145,7 @@ fn values(alloc: Global, checks: &mut Checks<'_>) -> Result<(), DTypeError> {
     check_value(alloc, checks, "nan_count", made, &nan_count(alloc, f(alloc)?)?)?;
     let found = told(bound::sum(alloc, bound_a(alloc)?))?;
     let wanted = DType::Primitive(PType::I64, Nullability::Nullable);
-    checks.holds("the sum of i32 is an i64", found.dtype == wanted);
+    checks.holds("the sum of i32 is an i64", found.dtype()? == wanted);
     Ok(())
 }
 

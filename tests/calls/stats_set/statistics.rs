@@ -1,15 +1,17 @@
 //! Placeholders: statistics by path, proofs over them, and what a meter counts.
 
 use crate::checks::Checks;
-use crate::expressions::{column, number, pairs, path, proven, rows_alone, told, truths};
+use crate::expressions::{
+    bound_and_proven, column, number, pairs, path, proven, rows_alone, told, truths,
+};
 use crate::make_arrays::numbers;
 use std::alloc::Global;
 use vortex_arrays::{ArrayRef, Validity};
 use vortex_dtype::DTypeError;
 use vortex_scalar::{PValue, Scalar, ScalarValue};
 use vortex_stats::{
-    AggregateFn, Expression, Meter, Precision, Scope, Stat, StatsSet, all_null, bind, bind_stats,
-    col, eq, falsify, gt, is_null, lit, lt, null_count, row_count, satisfy, stat, stat_scalar,
+    AggregateFn, BoundExpression, Expression, Meter, Precision, Scope, Stat, StatsSet, all_null,
+    bind, bind_stats, col, eq, falsify, gt, is_null, lit, lt, null_count, row_count, satisfy, stat, stat_scalar,
 };
 
 /// Two rows of the columns a and b.
@@ -48,8 +50,13 @@ fn above(alloc: Global, name: &str, least: i32) -> Result<Expression, DTypeError
     Ok(gt(alloc, column(alloc, name)?, number(least))?)
 }
 
-fn falsifier(alloc: Global, e: &Expression, scope: &Scope) -> Result<Expression, DTypeError> {
-    match told(falsify(alloc, scope.array.dtype(), e, &[], &mut Meter::new()))? {
+fn falsifier(
+    alloc: Global,
+    e: &Expression,
+    scope: &Scope,
+) -> Result<BoundExpression, DTypeError> {
+    let bound = told(bind(alloc, e, scope.array.dtype()))?;
+    match told(falsify(alloc, &bound, &[], &mut Meter::new()))? {
         Some(proof) => Ok(proof),
         None => Err(DTypeError::Malformed),
     }
@@ -80,7 +87,8 @@ fn proofs(alloc: Global, checks: &mut Checks<'_>) -> Result<(), DTypeError> {
     let proof = falsifier(alloc, &nulls, &scope)?;
     let found = proven(alloc, &proof, &scope, &mut meter)?;
     checks.holds("no row is null", found == Some(true));
-    match told(satisfy(alloc, scope.array.dtype(), &nulls, &[], &mut Meter::new()))? {
+    let nulls = told(bind(alloc, &nulls, scope.array.dtype()))?;
+    match told(satisfy(alloc, &nulls, &[], &mut Meter::new()))? {
         Some(proof) => {
             let found = proven(alloc, &proof, &scope, &mut meter)?;
             checks.holds("not each row is null", found == Some(false));
@@ -88,7 +96,7 @@ fn proofs(alloc: Global, checks: &mut Checks<'_>) -> Result<(), DTypeError> {
         None => checks.holds("a satisfier", false),
     }
     let e = eq(alloc, row_count(), lit(Scalar::from(100u64)))?;
-    let found = proven(alloc, &e, &scope, &mut meter)?;
+    let found = bound_and_proven(alloc, &e, &scope, &mut meter)?;
     checks.holds("the scope's number of rows", found == Some(true));
     checks.holds("six proofs", meter.proofs == 6 && meter.rows_tested == 0);
     Ok(())
@@ -142,7 +150,7 @@ fn at_rows(alloc: Global, checks: &mut Checks<'_>) -> Result<(), DTypeError> {
         visits: 3,
     };
     truths(alloc, &e, &scope, &mut full)?;
-    proven(alloc, &e, &scope, &mut full)?;
+    bound_and_proven(alloc, &e, &scope, &mut full)?;
     let stays = full.rows_tested == u64::MAX && full.proofs == u64::MAX && full.visits == 3;
     checks.holds("counts stay at the greatest", stays);
     Ok(())
@@ -154,11 +162,10 @@ fn bound_by_hand(alloc: Global, checks: &mut Checks<'_>) -> Result<(), DTypeErro
     let bare = rows_alone(alloc, &scope.array)?;
     let mut meter = Meter::new();
     let proof = falsifier(alloc, &above(alloc, "a", 4)?, &scope)?;
-    let bound = told(bind(alloc, &proof, scope.array.dtype()))?;
-    let found = told(vortex_stats::prove(alloc, &bound, &bare, &mut meter))?;
+    let found = proven(alloc, &proof, &bare, &mut meter)?;
     checks.holds("a placeholder that is left", found == None);
-    let bound = bind_stats(alloc, &bound, &scope)?;
-    let found = told(vortex_stats::prove(alloc, &bound, &bare, &mut meter))?;
+    let bound = bind_stats(alloc, &proof, &scope)?;
+    let found = proven(alloc, &bound, &bare, &mut meter)?;
     checks.holds("a placeholder that was bound", found == Some(true));
     Ok(())
 }
@@ -167,12 +174,11 @@ fn bound_by_hand(alloc: Global, checks: &mut Checks<'_>) -> Result<(), DTypeErro
 fn cloned(alloc: Global, checks: &mut Checks<'_>) -> Result<(), DTypeError> {
     let scope = known(alloc, 100)?;
     let proof = falsifier(alloc, &above(alloc, "a", 4)?, &scope)?;
-    let bound = told(bind(alloc, &proof, scope.array.dtype()))?;
     let copy = scope.clone()?;
-    let twin = bound.clone()?;
+    let twin = proof.clone()?;
     drop(scope);
-    drop(bound);
-    let found = told(vortex_stats::prove(alloc, &twin, &copy, &mut Meter::new()))?;
+    drop(proof);
+    let found = proven(alloc, &twin, &copy, &mut Meter::new())?;
     checks.holds("a proof by clones", found == Some(true) && copy.rows == 100);
     Ok(())
 }
@@ -195,7 +201,7 @@ fn counts(alloc: Global, checks: &mut Checks<'_>) -> Result<(), DTypeError> {
         let mut scope = Scope::new(alloc, rows.clone()?, 3);
         told(scope.add_stats(alloc, path(alloc, &["a"])?, set))?;
         let none = eq(alloc, null_count(alloc, column(alloc, "a")?)?, lit(Scalar::from(0u64)))?;
-        let found = proven(alloc, &none, &scope, &mut Meter::new())?;
+        let found = bound_and_proven(alloc, &none, &scope, &mut Meter::new())?;
         let wanted = if *known == 0 { Some(true) } else { None };
         checks.holds_at("a count in a proof", i, found == wanted);
     }

@@ -8,14 +8,12 @@ use vortex_dtype::{
 };
 use vortex_scalar::ScalarValue;
 use vortex_stats::{
-    Never, NotLiteral, NullComparison, PushNot, ScalarFnId, StatsError, StatsRewriteRule,
-    StatsRewriteRuleRef,
+    BoundExpression, Never, NotLiteral, NullComparison, PushNot, ScalarFnId, StatsError,
+    StatsRewriteRule, StatsRewriteRuleRef, bind,
 };
 use vortex_table::expr::{
     BetweenOptions, Expression, LikeOptions, StrictComparison, and, between, eq, gt, like, not,
 };
-use vortex_stats_bind::bind::bind;
-use vortex_stats_bind::bound::BoundExpression;
 use vortex_table::table::{ScanAnswer, Table, TableError};
 
 /// What a rule for NOT answers.

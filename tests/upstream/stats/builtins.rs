@@ -9,7 +9,7 @@ use vortex_dtype::DType;
 use vortex_scalar::{Scalar, ScalarValue};
 use vortex_stats::{
     BetweenOptions, Expression, LikeOptions, Meter, StatsError, StrictComparison, and, between,
-    eq, falsify, gt, is_nan, is_not_null, is_null, like, lit, lt, lt_eq, or, satisfy,
+    bind, eq, falsify, gt, is_nan, is_not_null, is_null, like, lit, lt, lt_eq, or, satisfy,
 };
 
 /// What a test calls: where expressions are allocated, the type of the rows that they are about, and
@@ -28,7 +28,8 @@ impl<'a, 'b> Tests<'a, 'b> {
 
     /// The falsifier is told so.
     fn falsified(&mut self, name: &str, expr: Expression, wanted: &str) -> Done {
-        let proof = falsify(self.alloc, &self.dtype, &expr, &[], &mut Meter::new())?;
+        let expr = bind(self.alloc, &expr, &self.dtype)?;
+        let proof = falsify(self.alloc, &expr, &[], &mut Meter::new())?;
         let holds = is_told(self.alloc, &proof, wanted)?;
         self.checks.holds(name, holds);
         Ok(())
@@ -36,7 +37,8 @@ impl<'a, 'b> Tests<'a, 'b> {
 
     /// The satisfier is told so.
     fn satisfied(&mut self, name: &str, expr: Expression, wanted: &str) -> Done {
-        let proof = satisfy(self.alloc, &self.dtype, &expr, &[], &mut Meter::new())?;
+        let expr = bind(self.alloc, &expr, &self.dtype)?;
+        let proof = satisfy(self.alloc, &expr, &[], &mut Meter::new())?;
         let holds = is_told(self.alloc, &proof, wanted)?;
         self.checks.holds(name, holds);
         Ok(())
@@ -98,7 +100,8 @@ fn or_chain_falsify_visits_each_node_once(tests: &mut Tests<'_, '_>) -> Done {
         expr = or(tests.alloc, expr, test)?;
     }
     let mut meter = Meter::new();
-    let proof = falsify(tests.alloc, &tests.dtype, &expr, &[], &mut meter)?;
+    let expr = bind(tests.alloc, &expr, &tests.dtype)?;
+    let proof = falsify(tests.alloc, &expr, &[], &mut meter)?;
     tests.checks.holds_at(name, 0, proof.is_some());
     tests.checks.holds_at(name, 1, meter.visits == 31);
     Ok(())

@@ -11,9 +11,9 @@ use vortex_scalar::{PValue, ScalarValue};
 use vortex_stats::AggregateFn::{AllNan, AllNonNan, AllNonNull, AllNull, Max, Min, NullCount, Sum};
 use vortex_stats::Precision::{Exact, Inexact};
 use vortex_stats::{
-    AggregateFn, Precision, Stat, StatsError, StatsSet, all_nan, bind, bound, root, stat_scalar,
+    AggregateFn, BoundNode, Precision, Stat, StatsError, StatsSet, all_nan, bind, bound, root,
+    stat_scalar,
 };
-use vortex_stats::BoundNode;
 
 pub fn run(alloc: Global, checks: &mut Checks<'_>) -> Done {
     bound_stats_constructor_preserves_child_and_dtype(alloc, checks)?;
@@ -44,14 +44,14 @@ fn bound_stats_constructor_preserves_child_and_dtype(
     checks: &mut Checks<'_>,
 ) -> Done {
     let name = "bound_stats_constructor_preserves_child_and_dtype";
-    let child = bind(alloc, &root(alloc), &integers())?;
+    let child = Box::new(alloc, bind(alloc, &root(alloc), &integers())?)?;
     let bound = bound::sum(alloc, child)?;
-    let holds = match &bound.tree.node {
-        BoundNode::Stat(Sum, input) => input.as_column() == Some(&[]),
+    let holds = match &bound.node {
+        BoundNode::Stat(Sum, input, _) => input.as_column() == Some(&[]),
         _ => false,
     };
     checks.holds_at(name, 0, holds);
-    checks.holds_at(name, 1, bound.dtype == of_kind(PType::I64));
+    checks.holds_at(name, 1, bound.dtype()? == of_kind(PType::I64));
     Ok(())
 }
 

@@ -5,7 +5,7 @@ use Rattle.vortex_stats_evaluate.proofs.rows.test_rows.Goals as goal
 
 pub loop-i-preserved : goal.loop-i-preserved
 loop-i-preserved c =
-    tested_more c.args.rows c.args.tree.now c.args.array.now c.loop-i.i c.loop-i.truths.items
+    tested_more c.args.rows c.args.e.now c.args.array.now c.loop-i.i c.loop-i.truths.items
     c.push.new.self.items (content_in c.in_ok-value.value) c.truth_at.result c.loop-i.invariant
     (subst (λ n. c.loop-i.i < n) c.len-len.ensures.count c.loop-i-test.true)
     c.in_ok-value.ensures.content c.truth_at.ensures c.in_ok-push.ensures.items
@@ -13,5 +13,5 @@ loop-i-preserved c =
 pub returns : goal.returns
 returns c =
     let n = c.len-len.ensures.count in
-    tested_all c.args.rows c.args.tree.now c.args.array.now c.loop-i.i c.loop-i.truths.items
+    tested_all c.args.rows c.args.e.now c.args.array.now c.loop-i.i c.loop-i.truths.items
     c.loop-i.invariant (omega (arith, c.loop-i-test.false, n))

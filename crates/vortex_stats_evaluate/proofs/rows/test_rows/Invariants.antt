@@ -7,5 +7,5 @@ use Rattle.vortex_stats_evaluate.proofs.rows.test_rows.Given as goal
 
 abbrev pub invariant-loop-i : goal.invariant-loop-i
 invariant-loop-i l =
-    l.truths.items ≡ map (λ row. boolean_in (evaluate_bound (row_of l.rows row) l.tree))
+    l.truths.items ≡ map (λ row. boolean_in (evaluate_bound (row_of l.rows row) l.e))
     (take l.i (rows_of l.array))

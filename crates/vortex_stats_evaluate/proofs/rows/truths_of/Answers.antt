@@ -8,7 +8,7 @@ use Rattle.vortex_stats_evaluate.proofs.rows.truths_of.Goals as goal
 
 pub returns-in-Some-2 : goal.returns-in-Some-2
 returns-in-Some-2 c =
-    let b = c.args.tree.now in
+    let b = c.args.e.now in
     let rows = rows_of c.args.array.now in
     let ys : c.deref.result.now ≡ wanted_rows true b rows = c.deref.ensures.value
     ∙ subst (λ o. IfSome o (λ m. m.items ≡ wanted_rows true b rows)) c.in-Some.is

@@ -1,18 +1,24 @@
-use Rattle.std.proofs.Common.{sym, ap, subst, ◌∙◌}
+use Rattle.std.proofs.Common.{◌≡◌, sym, ap, ◌∙◌, Some}
 use Rattle.vortex_model_table.specs.Truth.{is_true}
-use Rattle.vortex_table_zonemaps.specs.Zone.{IsBoundTo, ReadsZones, columns_of, zone_row}
-use Rattle.vortex_table_zonemaps.proofs.Binding.{row_tells, columns_tell}
-use Rattle.vortex_stats_bind.specs.Bound.{in_row}
+use Rattle.vortex_stats_bind.specs.Bound.{in_row, evaluate_bound}
+use Rattle.vortex_stats_bind.specs.Replaced.{answered, replaced, typed_null}
+use Rattle.vortex_table_zonemaps.specs.Answers.{zone_answers, bound_to}
+use Rattle.vortex_table_zonemaps.specs.Stats.{Zone}
+use Rattle.vortex_table_zonemaps.specs.Zone.{columns_of, zone_row}
+use Rattle.vortex_table_zonemaps.proofs.Binding.{row_tells, columns_tell, bound_says}
 use Rattle.vortex_table_zonemaps.proofs.bind.resolve.Goals as goal
 
 pub invariant_of-result : goal.invariant_of-result
 invariant_of-result c =
-    let told = subst (IsBoundTo c.args.leaves.now c.in-Some.proof) (sym c.into_inner.ensures) c.in_ok-bound.ensures in
+    let leaves = c.args.leaves.now in let proof = c.in-Some.proof in
+    let same : c.in_ok-bound.bound ≡ bound_to leaves proof = c.in_ok-bound.ensures ∙ (λ i. replaced (answered (Some (c.in_ok-rows.ensures i)) (zone_answers leaves) typed_null) proof) in
     record {
-      reads = ∣ (λ zone. told (in_row (zone_row zone)) zone (row_tells zone) ∙ sym (told (columns_of zone) zone (columns_tell zone))) ∣₁;
+      reads = ∣ (λ zone. ap (evaluate_bound (in_row (zone_row zone))) same ∙ bound_says (in_row (zone_row zone)) zone (row_tells zone) leaves proof
+          ∙ sym (ap (evaluate_bound (columns_of zone)) same ∙ bound_says (columns_of zone) zone (columns_tell zone) leaves proof)) ∣₁;
     }
 
-pub returns-in_ok-bound-in-Some : goal.returns-in_ok-bound-in-Some
-returns-in_ok-bound-in-Some c =
-    let told = subst (IsBoundTo c.args.leaves.now c.in-Some.proof) (sym c.into_inner.ensures) c.in_ok-bound.ensures in
-    λ bounds rows. ap is_true (told (columns_of (bounds, rows)) (bounds, rows) (columns_tell (bounds, rows)))
+pub returns : goal.returns
+returns c = λ bounds rows.
+    let leaves = c.args.leaves.now in let proof = c.in-Some.proof in let zone : Zone = (bounds, rows) in
+    let same : c.in_ok-bound.bound ≡ bound_to leaves proof = c.in_ok-bound.ensures ∙ (λ i. replaced (answered (Some (c.in_ok-rows.ensures i)) (zone_answers leaves) typed_null) proof) in
+    ap is_true (ap (evaluate_bound (columns_of zone)) same ∙ bound_says (columns_of zone) zone (columns_tell zone) leaves proof)

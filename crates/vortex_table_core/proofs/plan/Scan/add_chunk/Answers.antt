@@ -2,11 +2,11 @@ use Rattle.std.proofs.Common.{◌≡◌, ◌∙◌, ◌+◌, ◌++◌, ap, refl}
 use Rattle.vortex_model_table.specs.Scan.{Outcome, is_skipped, is_whole, saturated}
 use Rattle.vortex_table_select.specs.Selected.{rows_in, cut_rows}
 use Rattle.vortex_table_chunk.specs.Chunk.{chunk_rows}
-use Rattle.vortex_table_chunk.proofs.ProvenAlike.{is_there}
+use Rattle.vortex_stats_bind.specs.Bound.{expression_of}
 use Rattle.vortex_table_core.specs.Outcome.{outcome_of}
 use Rattle.vortex_table_core.specs.Plan.{question_in, answer_by}
 use Rattle.vortex_table_core.specs.Progress.{outcome_to, found_rows, push_if, tested_rows, proofs_at}
-use Rattle.vortex_table_core.proofs.Added.{added, stopped}
+use Rattle.vortex_table_core.proofs.Added.{added, as_there, stopped}
 use Rattle.vortex_table_core.proofs.plan.Scan.add_chunk.Goals as goal
 
 pub returns-clause-found : goal.returns-clause-found
@@ -24,4 +24,4 @@ returns-clause-found c =
     (c.in_ok-push_if-2.ensures ∙ ap (λ t. push_if t c.args.number old.whole.items) (c.is_whole.ensures ∙ ap is_whole out))
     (c.saturating_add-answer.ensures ∙ stopped (old.rows_tested + c.tested_rows.result) ∙ ap (λ n. saturated (old.rows_tested + n)) (c.tested_rows.ensures ∙ ap (λ p. tested_rows p rows) out))
     (c.saturating_add-answer-2.ensures ∙ stopped (old.proofs + c.proofs_at.result)
-    ∙ ap (λ n. saturated (old.proofs + n)) (c.proofs_at.ensures ∙ (λ j. proofs_at (is_there _ _ _ c.requires.plan.prepared.falsifier j) (is_there _ _ _ c.requires.plan.prepared.satisfier j) (out j))))
+    ∙ ap (λ n. saturated (old.proofs + n)) (c.proofs_at.ensures ∙ (λ j. proofs_at (as_there expression_of plan.prepared.now.falsifier j) (as_there expression_of plan.prepared.now.satisfier j) (out j))))

@@ -1,30 +1,26 @@
-use Rattle.std.proofs.Common.{◌≡◌, refl, sym, ap, ◌∙◌, ◌+◌, ◌*◌, map, Option, Some, None}
-use Rattle.std.specs.Prelude.{is_some, option_map}
+use Rattle.std.proofs.Common.{◌≡◌, refl, sym, ap, ◌∙◌, ◌+◌, ◌*◌, map}
+use Rattle.std.specs.Prelude.{is_some}
 use Rattle.vortex_model_table.specs.Table.{bound_length}
 use Rattle.vortex_model_table.specs.Scan.{saturated, one_if, is_many}
 use Rattle.vortex_table_chunk.specs.Chunk.{chunk_rows}
-use Rattle.vortex_table_chunk.proofs.ProvenAlike.{is_there}
+use Rattle.vortex_stats_bind.specs.Bound.{expression_of}
 use Rattle.vortex_table_core.specs.Group.{chunks_of}
 use Rattle.vortex_table_core.specs.Plan.{table_in, question_in, answer_by}
 use Rattle.vortex_table_core.specs.Progress.{group_proofs}
 use Rattle.vortex_table_core.proofs.Progress.{saturated_once}
 use Rattle.vortex_table_chunk.specs.Formed.{is_formed}
-use Rattle.vortex_table_core.proofs.Added.{stopped}
+use Rattle.vortex_table_core.proofs.Added.{as_there, stopped}
 use Rattle.vortex_table_core.proofs.Groups.{formed_in, group_skipped, group_entered}
 use Rattle.vortex_table_core.proofs.Proven.{many_if}
 use Rattle.vortex_table_core.proofs.plan.Scan.add_group.Goals as goal
-
-as_there : {X Y : Type 0} (f : X → Y) (o : Option X) → is_some o ≡ is_some (option_map f o)
-as_there f None = refl
-as_there f (Some x) = refl
 
 pub returns-then-skipped-clause-found : goal.returns-then-skipped-clause-found
 returns-then-skipped-clause-found c =
     let plan = c.args.self.now in let g = c.args.group.now in let all = plan.table.now.chunks.items in
     let t = table_in plan in let own = chunks_of all g in let old = c.args.answer.now in
     let formed = formed_in (is_formed (bound_length t) t.kind) g all plan.table.now.formed in
-    let tried : one_if (is_some plan.prepared.now.proofs.falsifier) * one_if (is_some g.joined) ≡ group_proofs (question_in plan) (is_many (map chunk_rows own)) =
-    (λ i. one_if (is_there _ _ _ c.requires.plan.prepared.falsifier i) * one_if ((as_there (λ v. v.items) g.joined ∙ many_if plan c.requires.plan g own formed c.requires.group _ c.requires.group.statistics) i)) in
+    let tried : one_if (is_some plan.prepared.now.falsifier) * one_if (is_some g.joined) ≡ group_proofs (question_in plan) (is_many (map chunk_rows own)) =
+    (λ i. one_if (as_there expression_of plan.prepared.now.falsifier i) * one_if ((as_there (λ v. v.items) g.joined ∙ many_if plan c.requires.plan g own formed c.requires.group _ c.requires.group.statistics) i)) in
     group_skipped plan c.requires.plan g own formed c.requires.group (answer_by plan old) _ (sym (c.is_skipped-skipped.ensures own formed c.requires.group) ∙ c.if-skipped.true)
     c.requires.counted.tested refl refl c.in_ok-push_numbers.ensures refl refl
     (c.saturating_add-answer.ensures ∙ stopped (old.proofs + c.proofs_at_group.result) ∙ ap (λ m. saturated (old.proofs + m)) (c.proofs_at_group.ensures ∙ tried))
@@ -34,8 +30,8 @@ returns-clause-found c =
     let plan = c.args.self.now in let g = c.args.group.now in let all = plan.table.now.chunks.items in
     let t = table_in plan in let own = chunks_of all g in let old = c.args.answer.now in
     let formed = formed_in (is_formed (bound_length t) t.kind) g all plan.table.now.formed in
-    let tried : one_if (is_some plan.prepared.now.proofs.falsifier) * one_if (is_some g.joined) ≡ group_proofs (question_in plan) (is_many (map chunk_rows own)) =
-    (λ i. one_if (is_there _ _ _ c.requires.plan.prepared.falsifier i) * one_if ((as_there (λ v. v.items) g.joined ∙ many_if plan c.requires.plan g own formed c.requires.group _ c.requires.group.statistics) i)) in
+    let tried : one_if (is_some plan.prepared.now.falsifier) * one_if (is_some g.joined) ≡ group_proofs (question_in plan) (is_many (map chunk_rows own)) =
+    (λ i. one_if (as_there expression_of plan.prepared.now.falsifier i) * one_if ((as_there (λ v. v.items) g.joined ∙ many_if plan c.requires.plan g own formed c.requires.group _ c.requires.group.statistics) i)) in
     let a = answer_by plan old in
     let proofs : c.saturating_add-answer.result ≡ saturated (old.proofs + group_proofs (question_in plan) (is_many (map chunk_rows own))) =
     c.saturating_add-answer.ensures ∙ stopped (old.proofs + c.proofs_at_group.result) ∙ ap (λ m. saturated (old.proofs + m)) (c.proofs_at_group.ensures ∙ tried) in

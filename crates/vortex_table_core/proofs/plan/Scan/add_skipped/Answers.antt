@@ -1,8 +1,8 @@
 use Rattle.std.proofs.Common.{ap, ◌∙◌, ◌+◌, ◌*◌}
 use Rattle.vortex_model_table.specs.Scan.{one_if, saturated}
-use Rattle.vortex_table_chunk.proofs.ProvenAlike.{is_there}
+use Rattle.vortex_stats_bind.specs.Bound.{expression_of}
 use Rattle.vortex_table_core.specs.Plan.{answer_by}
-use Rattle.vortex_table_core.proofs.Added.{stopped}
+use Rattle.vortex_table_core.proofs.Added.{as_there, stopped}
 use Rattle.vortex_table_core.proofs.plan.Scan.add_skipped.Goals as goal
 
 pub returns-clause-found : goal.returns-clause-found
@@ -15,5 +15,5 @@ returns-clause-found c =
       whole = a.whole;
       rows_tested = a.rows_tested;
       proofs = (c.saturating_add-answer.ensures ∙ stopped (old.proofs + c.proofs_at_skipped.result)
-          ∙ ap (λ n. saturated (old.proofs + n)) (c.proofs_at_skipped.ensures ∙ ap (λ b. c.args.count * one_if b) (is_there _ _ _ c.requires.plan.prepared.falsifier))) j;
+          ∙ ap (λ n. saturated (old.proofs + n)) (c.proofs_at_skipped.ensures ∙ ap (λ b. c.args.count * one_if b) (as_there expression_of c.args.self.now.prepared.now.falsifier))) j;
     }

@@ -1,3 +1,5 @@
+use Rattle.std.specs.Prelude.{option_map}
+use Rattle.vortex_stats_bind.specs.Bound.{expression_of}
 use Rattle.vortex_table_schema.specs.Answer.{answer_of}
 use Rattle.vortex_table_schema.specs.Cut.{paths_of}
 use Rattle.vortex_table_core.specs.TableView.{table_of}
@@ -7,6 +9,6 @@ use Rattle.vortex_table_core.proofs.table.Table.scan.Goals as goal
 
 pub returns-clause-found : goal.returns-clause-found
 returns-clause-found c =
-    let t = c.args.self.now in let made = c.in_ok-prepared.ensures in let trees = c.in_ok-prepared.prepared.trees in
-    found_built_in (table_of t) (paths_of c.args.paths.now) c.args.predicate.now trees.falsifier trees.satisfier (answer_of c.in_ok-answer.answer)
+    let t = c.args.self.now in let made = c.in_ok-prepared.ensures in let plan = c.in_ok-prepared.prepared in
+    found_built_in (table_of t) (paths_of c.args.paths.now) c.args.predicate.now (option_map expression_of plan.falsifier) (option_map expression_of plan.satisfier) (answer_of c.in_ok-answer.answer)
     (record { faultless = made.faultless; formed = made.formed }) (is_table t) made.falsifier made.satisfier c.in_ok-answer.ensures.found

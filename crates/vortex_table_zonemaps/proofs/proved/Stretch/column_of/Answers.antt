@@ -1,7 +1,8 @@
 use Rattle.std.proofs.Common.{◌≡◌, ◌∙◌, map}
+use Rattle.std.proofs.lemmas.Option.{IfSome_then}
 use Rattle.vortex_table_zonemaps.specs.Stats.{zone_of}
 use Rattle.vortex_table_zonemaps.specs.Zone.{stat_in}
-use Rattle.vortex_table_zonemaps.proofs.Held.{long_enough, part, some_weaker}
+use Rattle.vortex_table_zonemaps.proofs.Held.{long_enough, part}
 use Rattle.vortex_table_zonemaps.proofs.proved.Stretch.column_of.Goals as goal
 
 pub slice-requires : goal.slice-requires
@@ -12,5 +13,5 @@ slice-requires c =
 pub returns : goal.returns
 returns c =
     let s = c.args.self.now in let f = stat_in c.args.stat in let zones = map zone_of s.chunks.now in
-    some_weaker c.slice.result (λ column is. is ∙ part f s.chunks.now s.first s.count s.within)
-    (c.slice.ensures (map f zones) (c.in_ok-column.ensures zones s.held) (long_enough f s.chunks.now s.first s.count s.within))
+    IfSome_then c.slice.result (c.slice.ensures (map f zones) (c.in_ok-column.ensures zones s.held) (long_enough f s.chunks.now s.first s.count s.within))
+    (λ column is. is ∙ part f s.chunks.now s.first s.count s.within)

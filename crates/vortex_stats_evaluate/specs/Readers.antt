@@ -1,0 +1,54 @@
+-- What a reader of files may believe of proofs that it binds to its own statistics.
+use Rattle.std.specs.Prelude.{◌≡◌, ◌⊎◌, pos, List, length, map, true, false}
+use Rattle.std.specs.List.{AllByRecursion}
+use Rattle.vortex_model.specs.LogicalType.{LogicalType}
+use Rattle.vortex_model.specs.Content.{Content, null, integer}
+use Rattle.vortex_model.specs.Valid.{IsContent}
+use Rattle.vortex_model_table.specs.Expression.{Expression, Aggregate, HasFormedLiterals}
+use Rattle.vortex_model_table.specs.Statistics.{Statistics, IsHonest, placeholder_value}
+use Rattle.vortex_model_table.specs.Truth.{is_true, selects, HasTruth}
+use Rattle.vortex_model_rules.specs.Rules.{Rule, Answer, proof, fals, sat}
+use Rattle.vortex_stats_bind.specs.Bound.{Bound, Provided, placeholder, expression_of, evaluate_bound, bound_value}
+use Rattle.vortex_stats_bind.specs.Bindings.{IsBoundTo}
+use Rattle.vortex_stats_bind.specs.Replaced.{Answers, replaced}
+
+-- null, or the value of a statistic of these values by honest statistics of them
+abbrev pub IsHonestValue : Aggregate → List Content → Content → Type 0
+IsHonestValue a values c = (c ≡ null) ⊎ ((s : Statistics) × IsHonest s values ×
+    (c ≡ placeholder_value a s (length values)))
+
+-- Rows of a type, and what the answers of an honest binder stand for beside them: their number, and
+-- for each statistic of an expression an honest value of what the expression is at the rows.
+pub record IsZone (k : LogicalType) (answers : Answers) (p : Provided) (rows : List Content)
+    : Type 0 where
+  pub typed : AllByRecursion (IsContent k) rows
+  pub counted : evaluate_bound p answers.rows ≡ integer (pos (length rows))
+  pub honest : (x : Bound) (a : Aggregate) (l : LogicalType) → IsBoundTo k (placeholder x a l) →
+      IsHonestValue a (map (bound_value x) rows) (evaluate_bound p (answers.statistic x a l))
+
+-- a proof that was made, bound to the type
+pub record IsMade (k : LogicalType) (a : Answer) (p : Bound) : Type 0 where
+  pub bound : IsBoundTo k p
+  pub made : a ≡ proof (expression_of p)
+
+-- Where the bound proof is true of a zone, the predicate selects none of its rows, or each.
+abbrev pub SelectsNone : LogicalType → Answers → Expression → Bound → Type 0
+SelectsNone k answers e bound = (p : Provided) (rows : List Content) → IsZone k answers p rows →
+    is_true (evaluate_bound p bound) ≡ true → AllByRecursion (λ row. selects k e row ≡ false) rows
+
+abbrev pub SelectsEach : LogicalType → Answers → Expression → Bound → Type 0
+SelectsEach k answers e bound = (p : Provided) (rows : List Content) → IsZone k answers p rows →
+    is_true (evaluate_bound p bound) ≡ true → AllByRecursion (λ row. selects k e row ≡ true) rows
+
+-- The predicate has a truth, and its literals are of their types, as of what `bind` accepts. A
+-- falsifier made of it with these rules, bound by an honest binder, may be believed.
+abbrev pub FalsifiedZonesHoldNone : List Rule → Type 0
+FalsifiedZonesHoldNone rules = (k : LogicalType) (e : Expression) (falsifier : Bound)
+    (answers : Answers) → HasTruth k e → HasFormedLiterals e →
+    IsMade k (fals k rules e) falsifier → SelectsNone k answers e (replaced answers falsifier)
+
+-- and so may a satisfier
+abbrev pub SatisfiedZonesHoldAll : List Rule → Type 0
+SatisfiedZonesHoldAll rules = (k : LogicalType) (e : Expression) (satisfier : Bound)
+    (answers : Answers) → HasTruth k e → HasFormedLiterals e →
+    IsMade k (sat k rules e) satisfier → SelectsEach k answers e (replaced answers satisfier)

@@ -1,0 +1,13 @@
+use Rattle.std.proofs.Common.{sym, ap, ◌∙◌, map, false}
+use Rattle.std.proofs.lemmas.Result.{IfOk-weaker}
+use Rattle.std.proofs.lemmas.Simd.{splat_is_map}
+use Rattle.vortex_table_zonemaps.specs.Proved.{proved_at}
+use Rattle.vortex_table_zonemaps.specs.Stretch.{zones_in}
+use Rattle.vortex_table_zonemaps.proofs.Held.{counted}
+use Rattle.vortex_table_zonemaps.proofs.proved.proved_zones.Goals as goal
+
+pub returns-in-None : goal.returns-in-None
+returns-in-None c =
+    let s = c.args.stretch.now in let zones = zones_in s.chunks.now s.first s.count in
+    IfOk-weaker c.no_rows.result _ _ (λ mask is. is ∙ splat_is_map zones s.count false (counted s.chunks.now s.first s.count s.within)
+    ∙ ap (λ p. map (proved_at p) zones) (sym c.in-None.is)) c.no_rows.ensures
