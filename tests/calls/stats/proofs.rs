@@ -1,7 +1,7 @@
 //! Proofs with their columns resolved, and what answers their placeholders.
 
 use crate::checks::Checks;
-use crate::values::{Done, WITH, WITHOUT, number, numbers};
+use crate::values::{Done, WITH, WITHOUT, is_of, number, numbers};
 use std::alloc::{AllocError, Global};
 use vortex_dtype::{BufferString, DType, FieldName, FieldNames, StructField, StructFields};
 use vortex_scalar::{Scalar, ScalarError, ScalarValue};
@@ -215,7 +215,7 @@ fn is_literal(e: &BoundExpression, wanted: Option<i16>) -> bool {
     match e.as_literal() {
         Some(found) => {
             let wanted = wanted.and_then(number);
-            *found.dtype() == numbers(WITH) && found.value() == wanted.as_ref()
+            is_of(found, &numbers(WITH), wanted.as_ref())
         }
         None => false,
     }
