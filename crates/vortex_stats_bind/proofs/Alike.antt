@@ -1,12 +1,11 @@
 -- What an expression has in common with what it is bound to.
-use Rattle.std.proofs.Common.{◌≡◌, Option, Some, None, Bool, true, false, not, ◌&&◌, ◌||◌, refl, sym, ap, ◌∙◌, subst}
+use Rattle.std.proofs.Common.{◌≡◌, Option, Some, None, true, false, not, ◌&&◌, ◌||◌, refl, sym, ap, ◌∙◌, subst}
 use Rattle.std.specs.Prelude.{option_and_then, is_some}
 use Rattle.std.specs.Option.{unwrap_or, option_map_or, option_or}
 use Rattle.vortex_model.specs.LogicalType.{LogicalType, null_only}
 use Rattle.vortex_model.specs.Content.{Content, text}
 use Rattle.vortex_model.specs.Path.{Names, Positions, positions, type_at}
 use Rattle.vortex_model_table.specs.Expression.{Expression, literal, column, compare, both, either, negation, is_null, is_not_null, is_nan, between, like, row_count, statistic, Aggregate, reads_columns as expression_reads_columns}
-use Rattle.vortex_model_table.specs.Command.{is_boolean, is_utf8_type}
 use Rattle.vortex_model_table.specs.Typing.{expression_type, type_of_aggregate, is_float, is_of_floats as expression_is_of_floats}
 use Rattle.vortex_model_table.specs.Truth.{has_truth as expression_has_truth, is_free_of_backslash as expression_is_free_of_backslash}
 use Rattle.vortex_model_rules.specs.Faults.{ProofFault, unknown_column, unequal_types, not_boolean, unsupported_aggregate, or_fault, unless, are_alike, is_truth, is_text, binding_fault}

@@ -28,5 +28,3 @@ bound_alike k p (statistic x a) = refl
 -- a bound proof has the value of the proof
 pub proof_says : (k : LogicalType) (e : Expression) (b : Bound) (p : Provided) → b ≡ bound_of k e → evaluate_bound p b ≡ evaluate (by_names k p) e
 proof_says k e b p is = ap (evaluate_bound p) is ∙ bound_alike k p e
-
-pub ruleset resolving = (proof_says)

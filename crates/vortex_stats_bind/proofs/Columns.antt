@@ -4,8 +4,7 @@ use Rattle.std.proofs.lemmas.List.{drop_all}
 use Rattle.std.specs.Prelude.{option_and_then}
 use Rattle.vortex_model.specs.LogicalType.{LogicalType, extension, Nullability, non_nullable, nullable, nullability_of, either_nullable, with_nullability, nullable_inside}
 use Rattle.vortex_model.specs.Path.{Names, Positions, positions, position_in, part_at, type_at, type_of_column}
-use Rattle.vortex_model_table.specs.Command.{part_named}
-use Rattle.vortex_stats_expr.proofs.Classes.{positions-stop, positions-step}
+use Rattle.vortex_stats_expr.proofs.Classes.{positions-step}
 
 -- ---- nullability on the way
 
@@ -93,13 +92,6 @@ at_next k names part next n m r before after i x ds j within at p q own joined g
     subst (λ is. IsAt k names next r is (drop (j + 1) ds)) (sym grown)
     (subst (λ s. IsAt k names next s (before ++ i ∷ []) (drop (j + 1) ds)) (sym (joined ∙ ap (either_nullable n) own))
     (step k names part next n before i x (drop (j + 1) ds) p q (subst (IsAt k names part n before) (first_of ds j x within at) a)))
-
--- no part has the name
-pub leads_nowhere : (k : LogicalType) (names : Names) (part : LogicalType) (n : Nullability) (before : Positions) (x : List ℕ) (ds : Names) (j : ℕ) →
-    j < length ds → x ≡ get_or ds j x → part_named part x ≡ None → IsAt k names part n before (drop j ds) → positions k names ≡ None
-leads_nowhere k names part n before x ds j within at none a =
-    sym a.behind ∙ ap (λ ys. option_map (λ is. before ++ is) (positions part ys)) (first_of ds j x within at)
-    ∙ ap (option_map (λ is. before ++ is)) (positions-stop part x (drop (j + 1) ds) none)
 
 -- the names are over
 pub at_end : (k : LogicalType) (names : Names) (part : LogicalType) (n : Nullability) (before : Positions) (ds : Names) (j : ℕ) (t : LogicalType) →

@@ -1,14 +1,14 @@
 -- What is made of bound expressions is bound, or refused for its fault.
-use Rattle.std.proofs.Common.{◌≡◌, Option, Some, None, Bool, true, false, not, ◌&&◌, refl, sym, ap, ◌∙◌, subst}
+use Rattle.std.proofs.Common.{◌≡◌, Option, Some, None, Bool, true, false, ◌&&◌, refl, sym, ap, ◌∙◌, subst}
 use Rattle.std.specs.Prelude.{option_and_then, is_some}
 use Rattle.std.specs.Option.{unwrap_or}
 use Rattle.vortex_model.specs.LogicalType.{LogicalType, boolean_type, utf8, null_only, equal_ignoring_nullability}
-use Rattle.vortex_model_table.specs.Expression.{Expression, compare, both, either, negation, is_null, is_not_null, is_nan, between, like, statistic, Comparison, Aggregate}
+use Rattle.vortex_model_table.specs.Expression.{Expression, compare, both, either, negation, is_nan, between, like, statistic, Comparison, Aggregate}
 use Rattle.vortex_model_table.specs.Command.{eq_optional_type, is_boolean, is_utf8_type}
 use Rattle.vortex_model_table.specs.Typing.{expression_type, type_of_aggregate, is_of_floats as expression_is_of_floats}
 use Rattle.vortex_model_rules.specs.Faults.{ProofFault, unequal_types, not_boolean, unsupported_aggregate, or_fault, unless, are_alike, is_truth, is_text, binding_fault}
 use Rattle.vortex_dtype_core.specs.Parts.{is_boolean_type, is_utf8_type as is_text_type}
-use Rattle.vortex_stats_bind.specs.Bound.{Bound, test, each, some, opposite, null_test, value_test, nan_test, range_test, match_test, placeholder, value_type, bound_of}
+use Rattle.vortex_stats_bind.specs.Bound.{Bound, test, each, some, opposite, nan_test, range_test, match_test, placeholder, value_type, bound_of}
 use Rattle.vortex_stats_bind.specs.Bindings.{IsBound}
 use Rattle.vortex_stats_bind.specs.Truths.{is_of_floats}
 use Rattle.vortex_stats_bind.proofs.Alike.{typed, floats_bound}
@@ -103,12 +103,6 @@ module _ (k : LogicalType) (x : Expression) (a : Bound) (h : IsBound k x a) wher
   nan_judged =
       judged k (is_nan x) (nan_test a) (is_of_floats a) unequal_types (ap nan_test h.tree)
       (after_one (binding_fault k x) (unless (expression_is_of_floats k x) unequal_types) h.faultless ∙ ap (λ t. unless t unequal_types) (floats_bound k x a h))
-
-  pub null_bound : IsBound k (is_null x) (null_test a)
-  null_bound = record { tree = ap null_test h.tree; faultless = h.faultless }
-
-  pub not_null_bound : IsBound k (is_not_null x) (value_test a)
-  not_null_bound = record { tree = ap value_test h.tree; faultless = h.faultless }
 
   stat_fault : (f : Aggregate) → binding_fault k (statistic x f) ≡ unless (is_some (type_of_aggregate f (value_type a))) unsupported_aggregate
   stat_fault f =

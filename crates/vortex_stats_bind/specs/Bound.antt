@@ -1,6 +1,6 @@
 -- Predicates and proofs whose columns are resolved to positions, with a type at each leaf, and their
 -- values.
-use Rattle.std.specs.Prelude.{ℕ, ◌+◌, Bool, true, false, not, ◌||◌, Option, Some, None, pos, option_and_then}
+use Rattle.std.specs.Prelude.{ℕ, ◌+◌, Bool, true, false, not, Option, Some, None, pos}
 use Rattle.std.specs.Option.{unwrap_or}
 use Rattle.vortex_model.specs.LogicalType.{LogicalType, null_only, boolean_type, integer_type, u64, nullable, non_nullable}
 use Rattle.vortex_model.specs.Content.{Content, null, boolean, integer, is_null as is_null_content}

@@ -9,7 +9,7 @@ use Rattle.vortex_model_table.specs.Truth.{has_truth as truth_of, is_free_of_bac
 use Rattle.vortex_model_table.specs.Typing.{is_float, is_of_floats as floats}
 use Rattle.vortex_stats_expr.specs.declared.error.StatsError.{StatsError}
 use Rattle.vortex_stats_expr.specs.declared.error.StatsError.TheVariants as error
-use Rattle.vortex_stats_bind.specs.Bound.{Bound, fixed, place, test, each, some, opposite, null_test, value_test, nan_test, range_test, match_test, count_of_rows, placeholder, value_type}
+use Rattle.vortex_stats_bind.specs.Bound.{Bound, fixed, place, test, each, some, opposite, null_test, value_test, nan_test, range_test, match_test, placeholder, value_type}
 
 abbrev pub is_of_floats : Bound → Bool
 is_of_floats x = is_float (value_type x)

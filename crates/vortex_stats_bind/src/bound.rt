@@ -9,7 +9,7 @@ ghost use Rattle.vortex_model_table.specs.Truth.{is_true};
 ghost use Rattle.vortex_dtype_core.specs.View.{type_of};
 ghost use Rattle.vortex_scalar_core.specs.Scalar.{scalar_type, scalar_content};
 ghost use Rattle.vortex_scalar_value.specs.View.{raw_of, content_at};
-ghost use Rattle.vortex_stats_bind.specs.Bound.{Provided, fixed, place, test, each, some, opposite, null_test, value_test, nan_test, range_test, match_test, count_of_rows, placeholder, place_of, evaluate_bound, bound_value};
+ghost use Rattle.vortex_stats_bind.specs.Bound.{Provided, fixed, test, each, some, opposite, null_test, value_test, nan_test, range_test, match_test, count_of_rows, placeholder, place_of, evaluate_bound, bound_value};
 ghost use Rattle.vortex_stats_bind.specs.OperandValue.{operand_value};
 ghost use Rattle.vortex_stats_expr.specs.Tree.{comparison_of, is_strict};
 ghost use Rattle.vortex_stats_expr.specs.Aggregate.{aggregate_of};

@@ -80,7 +80,7 @@ fn is_column(bound: &BoundExpression, name: &str, dtype: &DType) -> bool {
             let names = column.names.as_slice();
             names.len() == 1
                 && names[0].as_str() == name
-                && column.positions.as_slice() == &[0]
+                && column.positions.as_slice() == [0].as_slice()
                 && column.dtype == *dtype
         }
         _ => false,

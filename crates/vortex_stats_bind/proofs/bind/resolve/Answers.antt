@@ -8,7 +8,6 @@ loop-name-preserved c =
     c.in-Some.ensures.position c.in-Some.ensures.part c.nullability.ensures c.bitor-around.ensures c.in_ok-push.ensures.items c.loop-name.invariant
 
 pub returns : goal.returns
-returns c = (
-  c.in_ok-clone.ensures.cases,
-  at_end _ _ _ _ _ c.as_slice-name-items.result.now c.loop-name.name-index _ (omega arith) c.in_ok-union_nullability.ensures c.loop-name.invariant,
-)
+returns c =
+    let end = at_end _ _ _ _ _ c.as_slice-name-items.result.now c.loop-name.name-index _ (omega arith) c.in_ok-union_nullability.ensures c.loop-name.invariant in
+    (c.in_ok-clone.ensures.cases, end.0, end.1)
