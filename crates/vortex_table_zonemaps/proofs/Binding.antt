@@ -1,5 +1,5 @@
 -- Zones as rows, and proofs bound to zone maps.
-use Rattle.std.proofs.Common.{◌≡◌, refl, sym, ap, ◌∙◌, ℕ, zero, suc, pos, ◌==◌, Bool, true, false, not, cond, List, [], ◌∷◌, length, map, Option, Some, None, eqb-true, arith}
+use Rattle.std.proofs.Common.{◌≡◌, refl, sym, ap, ◌∙◌, ℕ, zero, suc, pos, ◌==◌, Bool, true, false, not, cond, List, [], ◌∷◌, length, map, Option, Some, None, eqb-true, eqb-false, arith}
 use Rattle.std.specs.Prelude.{slice_get, nat_lt, if◌then◌else◌}
 use Rattle.std.specs.List.{position, position_or_len}
 use Rattle.std.specs.Option.{unwrap_or}
@@ -8,7 +8,7 @@ use Rattle.std.proofs.Math.Logic.{∥∥₁_elim}
 use Rattle.std.proofs.lemmas.Simd.{map-map}
 use Rattle.std.specs.Ordering.{is_eq}
 use Rattle.std.specs.declared.cmp.Ordering.TheVariants.{Less, Equal, Greater}
-use Rattle.std.proofs.lemmas.Bool.{ltb-true}
+use Rattle.std.proofs.lemmas.Bool.{ltb-true, ltb-false}
 use Rattle.vortex_model.specs.Content.{null, boolean, integer, contents_from, nth}
 use Rattle.vortex_model.specs.LogicalType.{LogicalType}
 use Rattle.vortex_model.specs.Path.{Positions, eq_positions, at}
@@ -90,17 +90,26 @@ zones_selected proof zones =
 
 -- ---- statistics
 
-eq_of : (l e : Bool) → (l ≡ true → e ≡ false) → is_eq (cond l Less (cond e Equal Greater)) ≡ e
-eq_of true e h = sym (h refl)
-eq_of false true h = refl
-eq_of false false h = refl
+eq_of : (l g e : Bool) → (l ≡ true → e ≡ false) → (g ≡ true → e ≡ false) → (l ≡ false → g ≡ false → e ≡ true) → is_eq (cond l Less (cond g Greater Equal)) ≡ e
+eq_of true g e h k m = sym (h refl)
+eq_of false true e h k m = sym (k refl)
+eq_of false false e h k m = sym (m refl refl)
 
-not_both : (a b : ℕ) (e : Bool) → (a == b) ≡ e → nat_lt a b ≡ true → e ≡ false
-not_both a b true h l = let less = ltb-true a b l in let same = eqb-true a b h in absurd (omega (arith, less, same))
-not_both a b false h l = refl
+module _ (a b : ℕ) where
+  below : (e : Bool) → (a == b) ≡ e → nat_lt a b ≡ true → e ≡ false
+  below true h l = let less = ltb-true a b l in let same = eqb-true a b h in absurd (omega (arith, less, same))
+  below false h l = refl
 
-counts_equal : (a b : ℕ) → compared equal (integer (pos a)) (integer (pos b)) ≡ boolean (a == b)
-counts_equal a b = ap boolean (eq_of (nat_lt a b) (a == b) (not_both a b (a == b) refl))
+  above : (e : Bool) → (a == b) ≡ e → nat_lt b a ≡ true → e ≡ false
+  above true h l = let less = ltb-true b a l in let same = eqb-true a b h in absurd (omega (arith, less, same))
+  above false h l = refl
+
+  neither : (e : Bool) → (a == b) ≡ e → nat_lt a b ≡ false → nat_lt b a ≡ false → e ≡ true
+  neither true h l g = refl
+  neither false h l g = let other = eqb-false a b h in let least = ltb-false a b l in let most = ltb-false b a g in absurd (other (omega (arith, least, most)))
+
+  counts_equal : compared equal (integer (pos a)) (integer (pos b)) ≡ boolean (a == b)
+  counts_equal = ap boolean (eq_of (nat_lt a b) (nat_lt b a) (a == b) (below (a == b) refl) (above (a == b) refl) (neither (a == b) refl))
 
 all_null_told : (j : ℕ) (zone : Zone) → compared equal (leaf_stat j null_count zone) (rows_stat zone) ≡ leaf_stat j all_null zone
 all_null_told j zone = at_leaf (slice_get zone.0 j)
@@ -141,14 +150,14 @@ next_leaf false n b bounds = refl
 bounds_found : (leaves : List Positions) (bounds : List ColumnBounds) (is : Positions) → bounds_of_leaf bounds (position (λ leaf. eq_positions leaf is) leaves) ≡ bounds_at leaves bounds is
 bounds_found [] bounds is = refl
 bounds_found (js ∷ leaves) [] is = no_bounds (position (λ leaf. eq_positions leaf is) (js ∷ leaves))
-bounds_found (js ∷ leaves) (b ∷ bounds) is = here (eq_positions js is)
+bounds_found (js ∷ leaves) (b ∷ bounds) is = here (bounds_found leaves bounds is) (eq_positions js is)
   where
     n : ℕ
     n = position_or_len (λ leaf. eq_positions leaf is) leaves
 
-    here : (t : Bool) → bounds_of_leaf (b ∷ bounds) (cond (nat_lt (cond (not t) (suc n) 0) (suc (length leaves))) (Some (cond (not t) (suc n) 0)) None) ≡ (if t then Some b else bounds_at leaves bounds is)
-    here true = refl
-    here false = next_leaf (nat_lt n (length leaves)) n b bounds ∙ bounds_found leaves bounds is
+    here : bounds_of_leaf bounds (cond (nat_lt n (length leaves)) (Some n) None) ≡ bounds_at leaves bounds is → (t : Bool) → bounds_of_leaf (b ∷ bounds) (cond (nat_lt (cond (not t) (suc n) 0) (suc (length leaves))) (Some (cond (not t) (suc n) 0)) None) ≡ (if t then Some b else bounds_at leaves bounds is)
+    here rest true = refl
+    here rest false = next_leaf (nat_lt n (length leaves)) n b bounds ∙ rest
 
 -- ---- answers
 

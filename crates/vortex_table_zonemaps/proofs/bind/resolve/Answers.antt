@@ -3,12 +3,13 @@ use Rattle.vortex_model_table.specs.Truth.{is_true}
 use Rattle.vortex_stats_bind.specs.Bound.{in_row, evaluate_bound}
 use Rattle.vortex_stats_bind.specs.Replaced.{answered, replaced, typed_null}
 use Rattle.vortex_table_zonemaps.specs.Answers.{zone_answers, bound_to}
+use Rattle.vortex_table_zonemaps.specs.Stats.{Zone}
 use Rattle.vortex_table_zonemaps.specs.Zone.{columns_of, zone_row}
 use Rattle.vortex_table_zonemaps.proofs.Binding.{row_tells, columns_tell, bound_says}
 use Rattle.vortex_table_zonemaps.proofs.bind.resolve.Goals as goal
 
-pub invariant_of-ZonePredicate : goal.invariant_of-ZonePredicate
-invariant_of-ZonePredicate c =
+pub invariant_of-result : goal.invariant_of-result
+invariant_of-result c =
     let leaves = c.args.leaves.now in let proof = c.in-Some.proof in
     let same : c.in_ok-bound.bound ≡ bound_to leaves proof = c.in_ok-bound.ensures ∙ (λ i. replaced (answered (Some (c.in_ok-rows.ensures i)) (zone_answers leaves) typed_null) proof) in
     record {
@@ -18,6 +19,6 @@ invariant_of-ZonePredicate c =
 
 pub returns : goal.returns
 returns c = λ bounds rows.
-    let leaves = c.args.leaves.now in let proof = c.in-Some.proof in let zone = (bounds, rows) in
+    let leaves = c.args.leaves.now in let proof = c.in-Some.proof in let zone : Zone = (bounds, rows) in
     let same : c.in_ok-bound.bound ≡ bound_to leaves proof = c.in_ok-bound.ensures ∙ (λ i. replaced (answered (Some (c.in_ok-rows.ensures i)) (zone_answers leaves) typed_null) proof) in
     ap is_true (ap (evaluate_bound (columns_of zone)) same ∙ bound_says (columns_of zone) zone (columns_tell zone) leaves proof)

@@ -5,12 +5,12 @@ use Rattle.vortex_table_zonemaps.proofs.column.integers_in.Goals as goal
 
 pub values_in-requires : goal.values_in-requires
 values_in-requires c =
-    let cs = c.requires.0 in let long = (known_long integer c.args.known.now cs (length cs) refl c.requires.1.0).0 in let within = c.requires.1.1 in
+    let cs = c.requires.0 in let long = (known_long integer c.args.known.now cs (length cs) refl c.requires.1).0 in let within = c.requires.2 in
     omega (arith, long, within)
 
 pub flags_in-requires : goal.flags_in-requires
 flags_in-requires c =
-    let cs = c.requires.0 in let long = (known_long integer c.args.known.now cs (length cs) refl c.requires.1.0).1 in let within = c.requires.1.1 in
+    let cs = c.requires.0 in let long = (known_long integer c.args.known.now cs (length cs) refl c.requires.1).1 in let within = c.requires.2 in
     omega (arith, long, within)
 
 pub returns : goal.returns

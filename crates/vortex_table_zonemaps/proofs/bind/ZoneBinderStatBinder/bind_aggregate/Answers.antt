@@ -3,16 +3,8 @@ use Rattle.std.proofs.lemmas.Result.{IfOk-weaker}
 use Rattle.vortex_stats_bind.specs.Bound.{value_type}
 use Rattle.vortex_stats_expr.specs.Aggregate.{aggregate_of}
 use Rattle.vortex_table_zonemaps.specs.Answers.{leaf_answer, answer_of}
-use Rattle.vortex_table_zonemaps.proofs.Binding.{at_a_column, not_a_column}
+use Rattle.vortex_table_zonemaps.proofs.Binding.{at_a_column}
 use Rattle.vortex_table_zonemaps.proofs.bind.ZoneBinderStatBinder.bind_aggregate.Goals as goal
-
-pub returns-in-None : goal.returns-in-None
-returns-in-None c = not_a_column c.args.self.now.leaves.now c.args.input.now (aggregate_of c.args.aggregate) c.in-None.ensures.none
-
-pub returns-in-None-index_of : goal.returns-in-None-index_of
-returns-in-None-index_of c =
-    let leaves = c.args.self.now.leaves.now in let x = c.args.input.now in let a = aggregate_of c.args.aggregate in
-    ap (λ o. answer_of o (value_type x) a) (sym c.in-None-index_of.is ∙ c.index_of.ensures) ∙ at_a_column leaves x c.in-Some.path.now a c.in-Some.ensures.path
 
 pub returns : goal.returns
 returns c =
